@@ -1,0 +1,39 @@
+-- Where the identifier at a place ends, on each way through `identifier_end` and `peek_identifier`. Assumes nothing.
+use mathlib.Core.Path.{_≡_, refl, sym, ap, _∙_}
+use mathlib.Core.Bool.{Bool, true, false, not}
+use mathlib.Core.List.{List, []}
+use Prim.Native.Nat.{ℕ, _+_, _-_, _<_, _≤_}
+use native.Mathlib.Omega.{arith}
+use lib.ListN.{length, getD, take, drop, drop-of-length-le}
+use borrow.Author.Tests.{not-true, not-false}
+use Rattle.source.specs.Bytes.{isStart, isIdentifier}
+use Rattle.source.specs.Identifiers.{RunEnd, IdentifierEnd, identifierLength, identifierAt}
+use Rattle.source.proofs.Words.{drop-one}
+
+module _ (src : List ℕ) (at : ℕ) where
+  pub identifierEnd-past : at ≤ length src → length src ≤ at → IdentifierEnd src at at
+  unfolding identifierLength
+  identifierEnd-past inside past = record { place = rw (drop-of-length-le src past) (omega arith); inside = inside }
+
+  module _ (flag : Bool) (h : at < length src) (f : flag ≡ isStart (getD src at 0)) where
+    pub identifierEnd-none : not flag ≡ true → IdentifierEnd src at at
+    unfolding identifierLength
+    identifierEnd-none t = record { place = rw (drop-one src at h, ← f, not-true flag t) (omega arith); inside = omega arith }
+
+    pub identifierEnd-some : (r : ℕ) → not flag ≡ false → RunEnd isIdentifier src (at + 1) r → IdentifierEnd src at r
+    unfolding identifierLength
+    identifierEnd-some r t e = record { place = e .place ∙ rw (drop-one src at h, ← f, not-false flag t) (omega arith); inside = e .inside }
+
+  pub identifierAt-past : length src < at → [] ≡ identifierAt src at
+  unfolding identifierAt identifierLength
+  identifierAt-past h =
+      let past : length src ≤ at = omega arith in
+      rw (drop-of-length-le src past)
+
+  pub identifierAt-end : (r : ℕ) → IdentifierEnd src at r → take (r - at) (drop at src) ≡ identifierAt src at
+  unfolding identifierAt
+  identifierAt-end r e =
+      let n : r - at ≡ identifierLength (drop at src) = omega (arith, e .place) in
+      rw n
+
+pub ruleset identifiers = (identifierEnd-past, identifierEnd-none, identifierEnd-some, identifierAt-past, identifierAt-end)

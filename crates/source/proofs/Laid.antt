@@ -1,0 +1,56 @@
+-- Laws of `laid`, for every write to a list, a pool or a file. Assumes nothing.
+use Prim.Native.Nat.{ℕ, suc, _+_, _-_, _≤_, _<_}
+use mathlib.Core.Path.{_≡_, refl, sym, ap, _∙_}
+use mathlib.Core.List.{List, [], _∷_, _++_, append-assoc, append-nil}
+use native.Mathlib.Omega.{arith}
+use native.Mathlib.Numerals.{add-one}
+use native.Mathlib.Nat.{add-zero, zero-add}
+use lib.ListN.{length, take, drop, set, getD, length-append, length-drop, take-append-drop}
+use lib.Seq.{sets-eq, length-take-le, take-at, drop-drop, drop-append-add, take-length, take-suc, drop-length}
+use Rattle.source.specs.Laid.{laid}
+
+-- a write of nothing changes nothing
+pub laid-nil : (l : List ℕ) (i : ℕ) → laid l i [] ≡ l
+unfolding laid
+laid-nil l i = simp (add-zero, append-nil, take-append-drop)
+
+pub length-laid : (l : List ℕ) (i : ℕ) (vs : List ℕ) → i + length vs ≤ length l → length (laid l i vs) ≡ length l
+unfolding laid
+length-laid l i vs h =
+    let a : length (take i l) ≡ i = length-take-le i l (omega arith) in
+    simp (length-append, length-drop) (omega arith)
+
+-- one write and another right behind it are one write of both
+pub laid-append : (l : List ℕ) (i j : ℕ) (xs ys : List ℕ) → j ≡ i + length xs → i + length xs + length ys ≤ length l → laid (laid l i xs) j ys ≡ laid l i (xs ++ ys)
+unfolding laid
+laid-append l i j xs ys e h =
+    let a : length (take i l) ≡ i = length-take-le i l (omega arith) in
+    let p : length (take i l ++ xs) ≡ j = simp length-append (omega arith) in
+    let n : i + length xs + length ys ≡ i + length (xs ++ ys) = simp length-append (omega arith) in
+    let d : drop (j + length ys) ((take i l ++ xs) ++ drop (i + length xs) l) ≡ drop (i + length (xs ++ ys)) l =
+    rw (← p) (drop-append-add (take i l ++ xs) (drop (i + length xs) l) (length ys) ∙ drop-drop (length ys) (i + length xs) l ∙ ap (λ (k : ℕ). drop k l) n) in
+    rw (take-at (take i l ++ xs) (drop (i + length xs) l) j p, d, append-assoc (take i l) xs ys)
+
+-- a store is a write of one
+pub set-laid : (l : List ℕ) (i v : ℕ) → i < length l → set l i v ≡ laid l i (v ∷ [])
+unfolding laid
+set-laid l i v h = sets-eq (v ∷ []) l i (omega arith)
+
+-- a store right behind a write makes it longer by one
+pub laid-one : (l : List ℕ) (i j : ℕ) (vs : List ℕ) (v : ℕ) → j ≡ i + length vs → i + length vs < length l → set (laid l i vs) j v ≡ laid l i (vs ++ (v ∷ []))
+laid-one l i j vs v e h =
+    let n : length (laid l i vs) ≡ length l = length-laid l i vs (omega arith) in
+    set-laid (laid l i vs) j v (omega arith) ∙ laid-append l i j vs (v ∷ []) e (omega arith)
+
+-- the same where what is written are the bytes of a part: one more of them
+pub laid-take : (l part : List ℕ) (i : ℕ) → i < length l → i < length part → set (laid l 0 (take i part)) i (getD part i 0) ≡ laid l 0 (take (i + 1) part)
+laid-take l part i h k =
+    let n : length (take i part) ≡ i = length-take-le i part (omega arith) in
+    laid-one l 0 i (take i part) (getD part i 0) (omega arith) (omega arith) ∙ ap (laid l 0) (sym (ap (λ (x : ℕ). take x part) (add-one i) ∙ take-suc part i 0 k))
+
+-- what is written at the start of the lent rest is written in the whole from the mark on
+pub laid-rest : (l : List ℕ) (m k : ℕ) (vs : List ℕ) → m ≤ length l → k ≡ length l - m → take m l ++ (laid (take k (drop m l)) 0 vs ++ drop k (drop m l)) ≡ laid l m vs
+unfolding laid
+laid-rest l m k vs h e =
+    let n : k ≡ length (drop m l) = simp length-drop (omega arith) in
+    rw (n, take-length (drop m l), drop-length (drop m l), zero-add (length vs), append-nil (vs ++ drop (length vs) (drop m l)), drop-drop (length vs) m l, ← append-assoc (take m l) vs (drop (m + length vs) l))

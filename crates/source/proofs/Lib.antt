@@ -1,0 +1,5 @@
+pub mod Tests
+pub mod Words
+pub mod Laid
+pub mod Cursor
+pub mod Identifiers

@@ -1,0 +1,22 @@
+-- Laws of tests: of a conjunction, and of a choice that a test decides. Assumes nothing.
+use mathlib.Core.Path.{_≡_, refl}
+use mathlib.Core.Bool.{Bool, true, false, _&&_, false≢true}
+use Rattle.source.specs.Words.{if_then_else_}
+
+-- both sides of a conjunction that holds
+pub &&-left : (a b : Bool) → (a && b) ≡ true → a ≡ true
+&&-left true b e = refl
+&&-left false b e = absurd (false≢true e)
+
+pub &&-right : (a b : Bool) → (a && b) ≡ true → b ≡ true
+&&-right true b e = e
+&&-right false b e = absurd (false≢true e)
+
+-- and back
+pub &&-both : (a b : Bool) → a ≡ true → b ≡ true → (a && b) ≡ true
+&&-both a b e f = rw (e, f)
+
+-- what holds of both ways of a choice holds of the choice
+pub choice : {A : Type 0} (P : A → Type 0) (t : Bool) (a b : A) → (t ≡ true → P a) → (t ≡ false → P b) → P (if t then a else b)
+choice P true a b first other = first refl
+choice P false a b first other = other refl
