@@ -1,14 +1,15 @@
 -- Laws of runs and of `every`: one byte more, the end, and the loop that walks a run. Assumes nothing.
 use mathlib.Core.Path.{_≡_, refl, sym, _∙_}
-use mathlib.Core.Bool.{Bool, true, false, not, _&&_}
+use mathlib.Core.Bool.{Bool, true, false, not, _&&_, false≢true}
 use mathlib.Core.List.{List, [], _∷_, _++_}
-use Prim.Native.Nat.{ℕ, _+_, _<_, _≤_}
+use Prim.Native.Nat.{ℕ, suc, _+_, _<_, _≤_}
 use native.Mathlib.Omega.{arith}
 use native.Mathlib.Numerals.{add-one}
-use lib.ListN.{length, getD, drop, drop-of-length-le}
-use lib.Seq.{drop-cons}
-use borrow.Author.Tests.{not-true, not-false}
-use Rattle.source.specs.Words.{run, every}
+use lib.Dec.{ltb, eqb, eqb·suc-suc, eqb·zero-suc}
+use lib.ListN.{length, getD, take, drop, length-take, drop-of-length-le, List·getD-eq-default}
+use lib.Seq.{drop-cons, getD-take}
+use borrow.Author.Tests.{not-true, not-false, ltb-true, ltb-false}
+use Rattle.source.specs.Words.{if_then_else_, run, every}
 use Rattle.source.specs.Identifiers.{RunEnd}
 
 -- the list from i on, by its byte at i
@@ -39,3 +40,57 @@ module _ (test : ℕ → Bool) (src : List ℕ) (at : ℕ) where
       passing-on t = record { inside = omega arith; same = p .same ∙ rw (drop-one src i h, ← f, not-false flag t) (omega arith) }
 
 pub ruleset passing = (passing-first, passing-end, passing-stop, passing-on)
+
+-- all pass exactly if the run of those that do is the whole list
+pub every-run : (test : ℕ → Bool) (xs : List ℕ) → eqb (run test xs) (length xs) ≡ every test xs
+unfolding run every
+every-run test [] = refl
+every-run test (b ∷ rest) = go (test b) (every-run test rest)
+  where
+    go : (t : Bool) → eqb (run test rest) (length rest) ≡ every test rest → eqb (if t then suc (run test rest) else 0) (suc (length rest)) ≡ (t && every test rest)
+    go true e = eqb·suc-suc (run test rest) (length rest) ∙ e
+    go false e = eqb·zero-suc (length rest)
+
+-- the first n of a list pass a test exactly if those from i on do. Past the list's end stands `none`, which passes
+pub record Holding {A : Type 0} (test : A → Bool) (xs : List A) (n i : ℕ) : Type 0 where
+  pub inside : i ≤ n
+  pub same : every test (take n xs) ≡ every test (drop i (take n xs))
+
+module _ {A : Type 0} (none : A) (test : A → Bool) (xs : List A) (n : ℕ) where
+  pub holding-first : Holding test xs n 0
+  holding-first = record { inside = omega arith; same = refl }
+
+  module _ (i : ℕ) (p : Holding test xs n i) where
+    pub holding-end : n ≤ i → true ≡ every test (take n xs)
+    unfolding every
+    holding-end h =
+        let k : length (take n xs) ≤ i = rw (length-take n xs) (omega arith) in
+        sym (p .same ∙ rw (drop-of-length-le (take n xs) k))
+
+    module _ (flag : Bool) (h : i < n) (f : flag ≡ test (getD xs i none)) (fine : test none ≡ true) where
+      pub holding-stop : not flag ≡ true → false ≡ every test (take n xs)
+      unfolding every
+      holding-stop t = go (ltb i (length xs)) refl
+        where
+          go : (q : Bool) → ltb i (length xs) ≡ q → false ≡ every test (take n xs)
+          go true e =
+              let k : i < length (take n xs) = rw (length-take n xs) (omega (arith, ltb-true i (length xs) e)) in
+              sym (p .same ∙ rw (drop-cons (take n xs) i none k, getD-take n xs i none h, ← f, not-true flag t))
+          go false e =
+              let z : flag ≡ true = f ∙ rw (List·getD-eq-default xs none (ltb-false i (length xs) e)) fine in
+              absurd (false≢true (sym (not-true flag t) ∙ z))
+
+      pub holding-on : not flag ≡ false → Holding test xs n (i + 1)
+      unfolding every
+      holding-on t = record { inside = omega arith; same = p .same ∙ go (ltb i (length xs)) refl }
+        where
+          go : (q : Bool) → ltb i (length xs) ≡ q → every test (drop i (take n xs)) ≡ every test (drop (i + 1) (take n xs))
+          go true e =
+              let k : i < length (take n xs) = rw (length-take n xs) (omega (arith, ltb-true i (length xs) e)) in
+              rw (drop-cons (take n xs) i none k, getD-take n xs i none h, ← f, not-false flag t, add-one i)
+          go false e =
+              let k : length (take n xs) ≤ i = rw (length-take n xs) (omega (arith, ltb-false i (length xs) e)) in
+              let m : length (take n xs) ≤ i + 1 = omega arith in
+              rw (drop-of-length-le (take n xs) k, drop-of-length-le (take n xs) m)
+
+pub ruleset holding = (holding-first, holding-end, holding-stop, holding-on)

@@ -99,8 +99,8 @@ pub fn past(part: &[u8], p: Span) -> Span
     q
 }
 
-// Where the run of identifier bytes from `at` on ends.
-fn run_end(src: &[u8], at: usize) -> usize
+// Where the run of identifier bytes from `at` on ends, digits in its first place too.
+pub fn run_end(src: &[u8], at: usize) -> usize
     requires { ⌜ at ≤ length (now src) ⌝ }
     ensures { λ r. ⌜ RunEnd isIdentifier (now (src .entry)) at r ⌝ }
 {

@@ -1,0 +1,71 @@
+-- A session's bounds (document 01, refusal 12), one by one, and what tables may be lent (refusal 11).
+--   labelBytes, isLabel   the bytes that a label names; 1 to 64 identifier bytes within the source
+--   isFrame               a frame's label, if it has one, is a label
+--   isBottom              not VarOffset, not LookingForProperty
+--   areFrames             the bottom frame, and each up to the depth; those above are not looked at
+--   areNumbers            position, depth, line, column
+--   isGood                all of these
+--   areMarks              the marks are not past their tables; a list of n numbers has n / 8 places
+use Prim.Native.Nat.{ℕ, _+_, _/_}
+use mathlib.Core.Bool.{Bool, true, false, _&&_}
+use mathlib.Core.List.{List}
+use lib.Dec.{leb}
+use lib.ListN.{length, getD, take, drop}
+use Rattle.source.specs.Words.{every}
+use Rattle.source.specs.Bytes.{isIdentifier}
+use Rattle.state.specs.declared.Label.{Label}
+use Rattle.state.specs.declared.Frame.{Frame}
+use Rattle.state.specs.declared.Slot.{Slot}
+use Rattle.state.specs.declared.Session.{Session}
+
+abbrev pub labelBytes : List ℕ → Label → List ℕ
+labelBytes src l = take (l .len) (drop (l .start) src)
+
+unfoldable pub isLabel : List ℕ → Label → Bool
+isLabel src l =
+    leb 1 (l .len) && leb (l .len) 64 && leb (l .start + l .len) (length src) && every isIdentifier (labelBytes src l)
+
+unfoldable pub isFrame : List ℕ → Frame → Bool
+isFrame src (Frame.Heredoc l) = isLabel src l
+isFrame src (Frame.Nowdoc l) = isLabel src l
+isFrame src Frame.Initial = true
+isFrame src Frame.Scripting = true
+isFrame src Frame.DoubleQuote = true
+isFrame src Frame.ShellExec = true
+isFrame src Frame.LookingForVarname = true
+isFrame src Frame.LookingForProperty = true
+isFrame src Frame.VarOffset = true
+
+unfoldable pub isBottom : Frame → Bool
+isBottom Frame.VarOffset = false
+isBottom Frame.LookingForProperty = false
+isBottom Frame.Initial = true
+isBottom Frame.Scripting = true
+isBottom Frame.DoubleQuote = true
+isBottom Frame.ShellExec = true
+isBottom (Frame.Heredoc l) = true
+isBottom (Frame.Nowdoc l) = true
+isBottom Frame.LookingForVarname = true
+
+-- what a list of slots gives past its end
+abbrev pub noSlot : Slot
+noSlot = record { frame = Frame.Initial }
+
+abbrev pub isSlot : List ℕ → Slot → Bool
+isSlot src slot = isFrame src (slot .frame)
+
+unfoldable pub areFrames : List ℕ → Session → Bool
+areFrames src s = isBottom (getD (s .frames) 0 noSlot .frame) && every (isSlot src) (take (s .depth) (s .frames))
+
+unfoldable pub areNumbers : ℕ → Session → Bool
+areNumbers size s =
+    leb (s .position) size
+    && leb 1 (s .depth) && leb (s .depth) 64
+    && leb 1 (s .line) && leb (s .line) (s .position + 1)
+    && leb 1 (s .column) && leb (s .column) (s .position + 1)
+
+unfoldable pub isGood : List ℕ → Session → Bool
+isGood src s = areNumbers (length src) s && areFrames src s
+
+unfoldable pub areMarks : ℕ → ℕ → Session → Bool
+areMarks list pool s = leb (s .tokens) (list / 8) && leb (s .bytes) pool

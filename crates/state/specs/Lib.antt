@@ -1,0 +1,4 @@
+pub mod Refusals
+pub mod Bounds
+pub mod Gates
+pub mod Calls
