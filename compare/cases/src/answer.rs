@@ -59,10 +59,7 @@ pub struct Answer {
 
 impl Default for Answer {
     fn default() -> Self {
-        Answer {
-            outcome: Outcome::Fault("no case was run".to_string()),
-            tokens: Vec::new(),
-        }
+        Answer { outcome: Outcome::Fault("no case was run".to_string()), tokens: Vec::new() }
     }
 }
 

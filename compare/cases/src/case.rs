@@ -19,7 +19,7 @@ pub enum Routine {
     Skip,
 }
 
-/// Every routine with its name in a case line.
+/// Every routine with its name in a case line, in the order of `Routine`.
 pub const ROUTINES: [(&str, Routine); 12] = [
     ("initial", Routine::Initial),
     ("double_quote", Routine::DoubleQuote),
@@ -52,13 +52,7 @@ pub struct Case {
 
 impl Default for Case {
     fn default() -> Self {
-        Case {
-            routine: Routine::Initial,
-            position: 0,
-            label: Vec::new(),
-            count: 0,
-            source: Vec::new(),
-        }
+        Case { routine: Routine::Initial, position: 0, label: Vec::new(), count: 0, source: Vec::new() }
     }
 }
 
@@ -68,9 +62,7 @@ impl Case {
         let mut words = line.split(|byte| *byte == b' ');
         let (routine, position, label, source) =
             match (words.next(), words.next(), words.next(), words.next(), words.next()) {
-                (Some(routine), Some(position), Some(label), Some(source), None) => {
-                    (routine, position, label, source)
-                }
+                (Some(routine), Some(position), Some(label), Some(source), None) => (routine, position, label, source),
                 _ => return Err("a case is four words: ROUTINE POSITION LABEL SOURCE".to_string()),
             };
         self.routine = routine_named(routine)?;
@@ -124,7 +116,7 @@ fn routine_named(word: &[u8]) -> Result<Routine, String> {
 }
 
 fn number(what: &str, word: &[u8]) -> Result<usize, String> {
-    let wrong = || format!("the {} `{}` is not a number", what, word.escape_ascii());
+    let wrong = || format!("the {} `{}` is not a number, or too large", what, word.escape_ascii());
     if word.is_empty() || !word.iter().all(u8::is_ascii_digit) {
         return Err(wrong());
     }

@@ -17,10 +17,7 @@ pub fn compare(name: &str, path: &Path, answer_to: impl FnMut(&[u8], &mut Vec<u8
 }
 
 /// The number of cases, or what is wrong at the first line that is not as written.
-fn first_difference(
-    text: &[u8],
-    mut answer_to: impl FnMut(&[u8], &mut Vec<u8>),
-) -> Result<usize, String> {
+fn first_difference(text: &[u8], mut answer_to: impl FnMut(&[u8], &mut Vec<u8>)) -> Result<usize, String> {
     let mut count = 0;
     let mut got = Vec::new();
     for (index, line) in text.split(|byte| *byte == b'\n').enumerate() {

@@ -19,6 +19,9 @@ pub fn read(word: &[u8], bytes: &mut Vec<u8>) -> Result<(), &'static str> {
     if word == b"-" {
         return Ok(());
     }
+    if word.is_empty() {
+        return Err("is left out (`-` stands for no bytes)");
+    }
     if word.len() % 2 == 1 {
         return Err("has an odd number of hex digits");
     }

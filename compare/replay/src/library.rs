@@ -20,9 +20,5 @@ pub fn passed(source: &[u8], from: usize, count: usize, span: Span) -> Span {
     unsafe {
         puretakoi_passed(source.as_ptr(), source.len(), from, count, numbers.as_mut_ptr(), numbers.len());
     }
-    Span {
-        line: numbers[0] as usize,
-        column: numbers[1] as usize,
-        position: numbers[2] as usize,
-    }
+    Span { line: numbers[0] as usize, column: numbers[1] as usize, position: numbers[2] as usize }
 }

@@ -13,23 +13,27 @@ const STOP_BYTES: &[u8] = b"\n /:@[^`{\x7f\x00-$";
 /// Bytes of sources for `skip`: line breaks of all kinds, tabs and others.
 const SKIP_BYTES: &[u8] = b"\n\n\n\r\r\t a\x00\x0b\x0c\x7f\x80\x85\xff";
 
+/// The second line of each file.
+const ORIGIN: &str =
+    "# CASE => ANSWER as in compare/README.md, written by compare/oracle/make-answers from fixed seeds.";
+
 /// One source in this many is long.
 const LONG_ONES: usize = 8;
 
 fn main() -> io::Result<()> {
     let folder = std::env::args().nth(1).expect("make_answers FOLDER");
     oracle::quiet_panics();
-    write_file(Path::new(&folder), Routine::PeekIdentifier, &peek_cases(), "every byte alone and beside a letter; runs")?;
+    write_file(
+        Path::new(&folder),
+        Routine::PeekIdentifier,
+        &peek_cases(),
+        "every byte alone and beside a letter; runs",
+    )?;
     write_file(Path::new(&folder), Routine::Skip, &skip_cases(), "every byte between letters; line breaks of all kinds")
 }
 
 fn write_file(folder: &Path, routine: Routine, cases: &[Case], what: &str) -> io::Result<()> {
-    let mut text = format!(
-        "# What the Rust answers for `{}`: {}.\n# Written by compare/oracle/make-answers, from fixed seeds; CASE => ANSWER as in compare/README.md.\n",
-        routine.name(),
-        what
-    )
-    .into_bytes();
+    let mut text = format!("# What the Rust answers for `{}`: {}.\n{}\n", routine.name(), what, ORIGIN).into_bytes();
     let mut answer = cases::Answer::default();
     for (index, case) in cases.iter().enumerate() {
         if cases[..index].contains(case) {

@@ -8,8 +8,8 @@ use cases::random::Random;
 /// Pieces of text at which the routines decide something.
 const PIECES: [&[u8]; 52] = [
     b"a", b"x", b"E", b"_", b"\x80", b"\xff", b"0", b"1", b"7", b"9", b"0x", b"0b", b"0o", b".", b"e", b"+", b"-",
-    b"$", b"{", b"}", b"[", b"${", b"{$", b"$a", b"$x", b"->", b"?->", b"?", b"`", b"'", b"\"", b"\\", b"\\n",
-    b"\\x4", b"\\u{", b"\\u{41}", b"\\40", b"\\377", b"\n", b"\nE", b"\n  E", b" ", b"\t", b"\r", b"<?", b"<?php", b"<?=", b";",
+    b"$", b"{", b"}", b"[", b"${", b"{$", b"$a", b"$x", b"->", b"?->", b"?", b"`", b"'", b"\"", b"\\", b"\\n", b"\\x4",
+    b"\\u{", b"\\u{41}", b"\\40", b"\\377", b"\n", b"\nE", b"\n  E", b" ", b"\t", b"\r", b"<?", b"<?php", b"<?=", b";",
     b"\n \tE", b"$a->x", b"$a?->x", b"$a[",
 ];
 

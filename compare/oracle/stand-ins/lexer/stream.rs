@@ -94,12 +94,9 @@ fn call(case: &Case, state: &mut State, tokens: &mut Vec<Token>) -> SyntaxResult
 fn accepted(case: &Case, state: &State, tokens: Vec<Token>, answer: &mut Answer) -> Outcome {
     for token in tokens {
         match kind_and_detail(&token.kind) {
-            Some((kind, detail)) => answer.tokens.push(cases::Token {
-                kind,
-                detail,
-                span: place(token.span),
-                value: token.value.bytes,
-            }),
+            Some((kind, detail)) => {
+                answer.tokens.push(cases::Token { kind, detail, span: place(token.span), value: token.value.bytes })
+            }
             None => return Outcome::Fault(format!("document 01 has no kind {:?}", token.kind)),
         }
     }
