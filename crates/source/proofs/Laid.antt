@@ -49,8 +49,8 @@ laid-take l part i h k =
     laid-one l 0 i (take i part) (getD part i 0) (omega arith) (omega arith) ∙ ap (laid l 0) (sym (ap (λ (x : ℕ). take x part) (add-one i) ∙ take-suc part i 0 k))
 
 -- what is written at the start of the lent rest is written in the whole from the mark on
-pub laid-rest : (l : List ℕ) (m k : ℕ) (vs : List ℕ) → m ≤ length l → k ≡ length l - m → take m l ++ (laid (take k (drop m l)) 0 vs ++ drop k (drop m l)) ≡ laid l m vs
+pub laid-rest : (l rest : List ℕ) (m : ℕ) (vs : List ℕ) → m + length vs ≤ length l → rest ≡ laid (take (length l - m) (drop m l)) 0 vs → take m l ++ (rest ++ drop (length l - m) (drop m l)) ≡ laid l m vs
 unfolding laid
-laid-rest l m k vs h e =
-    let n : k ≡ length (drop m l) = simp length-drop (omega arith) in
-    rw (n, take-length (drop m l), drop-length (drop m l), zero-add (length vs), append-nil (vs ++ drop (length vs) (drop m l)), drop-drop (length vs) m l, ← append-assoc (take m l) vs (drop (m + length vs) l))
+laid-rest l rest m vs h f =
+    let n : length l - m ≡ length (drop m l) = simp length-drop (omega arith) in
+    rw (f, n, take-length (drop m l), drop-length (drop m l), zero-add (length vs), append-nil (vs ++ drop (length vs) (drop m l)), drop-drop (length vs) m l, ← append-assoc (take m l) vs (drop (m + length vs) l))

@@ -1,0 +1,214 @@
+-- The record file: its two loops, its refusals, and that reading and writing undo each other. Assumes nothing.
+use Prim.Native.Nat.{ℕ, zero, suc, _+_, _*_, _-_, _/_, _%_, _≤_, _<_}
+use mathlib.Core.Path.{_≡_, refl, sym, ap, _∙_}
+use mathlib.Core.Bool.{Bool, true, false, _&&_}
+use mathlib.Core.List.{List, [], _∷_, _++_, append-assoc, append-nil}
+use native.Mathlib.Omega.{arith}
+use native.Mathlib.Numerals.{add-one}
+use lib.Dec.{leb, eqb}
+use lib.ListN.{length, take, drop, set, getD, length-append, length-set, length-take}
+use lib.Seq.{take-length, take-suc, getD-drop, length-take-le}
+use borrow.Author.Tests.{le-leb, lt-leb, eq-eqb, ne-eqb, leb-true, eqb-true}
+use Rattle.source.specs.Words.{if_then_else_}
+use Rattle.source.specs.Laid.{laid}
+use Rattle.source.proofs.Laid.{laid-nil, laid-append, laid-one, length-laid}
+use Rattle.source.specs.Cursor.{origin}
+use Rattle.state.specs.declared.Answer.{Answer}
+use Rattle.token.specs.Files.{littleEndian, fileOf, numberAt, listOf, toFileRefusal, toListRefusal, fileAnswer, ToFile, ToList}
+
+pub fileOf-append : (xs ys : List ℕ) → fileOf (xs ++ ys) ≡ fileOf xs ++ fileOf ys
+unfolding fileOf
+fileOf-append [] ys = refl
+fileOf-append (n ∷ xs) ys = rw (fileOf-append xs ys, append-assoc (littleEndian n) (fileOf xs) (fileOf ys))
+
+pub length-fileOf : (xs : List ℕ) → length (fileOf xs) ≡ length xs * 4
+unfolding fileOf littleEndian
+length-fileOf [] = refl
+length-fileOf (n ∷ xs) = rw (length-fileOf xs) (omega arith)
+
+-- one number more of a list is four bytes more of its file
+pub fileOf-take : (list : List ℕ) (i : ℕ) → i < length list → fileOf (take (i + 1) list) ≡ fileOf (take i list) ++ littleEndian (getD list i 0)
+unfolding fileOf
+fileOf-take list i h = rw (add-one i, take-suc list i 0 h, fileOf-append (take i list) (getD list i 0 ∷ []), append-nil (littleEndian (getD list i 0)))
+
+-- the loop of `put_numbers`
+pub record Filing (list old file : List ℕ) (i : ℕ) : Type 0 where
+  pub inside : i ≤ length list
+  pub size : length file ≡ length old
+  pub written : file ≡ laid old 0 (fileOf (take i list))
+
+module _ (list old : List ℕ) (fits : length list * 4 ≤ length old) where
+  pub filing-first : Filing list old old 0
+  unfolding fileOf
+  filing-first = record { inside = omega arith; size = refl; written = sym (laid-nil old 0) }
+
+  module _ (file : List ℕ) (i : ℕ) (f : Filing list old file i) where
+    pub filing-room : i < length list → i * 4 + 4 ≤ length file
+    filing-room h = omega (arith, f .size)
+
+    pub filing-on : (after : List ℕ) → i < length list → after ≡ laid file (i * 4) (littleEndian (getD list i 0)) → Filing list old after (i + 1)
+    unfolding littleEndian
+    filing-on after h e =
+        let n : length (fileOf (take i list)) ≡ i * 4 = length-fileOf (take i list) ∙ ap (λ (x : ℕ). x * 4) (length-take-le i list (f .inside)) in
+        let w : after ≡ laid old 0 (fileOf (take (i + 1) list)) = e ∙ rw (f .written, fileOf-take list i h) (laid-append old 0 (i * 4) (fileOf (take i list)) (littleEndian (getD list i 0)) (omega arith) (omega arith)) in
+        let m : length (fileOf (take (i + 1) list)) ≡ (i + 1) * 4 = length-fileOf (take (i + 1) list) ∙ ap (λ (x : ℕ). x * 4) (length-take-le (i + 1) list (omega arith)) in
+        record { inside = omega arith; size = ap length w ∙ length-laid old 0 (fileOf (take (i + 1) list)) (omega arith); written = w }
+
+    pub filing-end : length list ≤ i → file ≡ laid old 0 (fileOf list)
+    filing-end h =
+        let n : i ≡ length list = omega (arith, f .inside) in
+        f .written ∙ rw (n, take-length list)
+
+pub ruleset filing = (filing-first, filing-room, filing-on, filing-end)
+
+-- four bytes that were read, put together
+pub numberAt-sum : (file : List ℕ) (at a b c d : ℕ) → a ≡ getD file at 0 → b ≡ getD file (at + 1) 0 → c ≡ getD file (at + 2) 0 → d ≡ getD file (at + 3) 0 → a + b * 256 + c * 65536 + d * 16777216 ≡ numberAt file at
+unfolding numberAt
+numberAt-sum file at a b c d ea eb ec ed = rw (ea, eb, ec, ed)
+
+numberAt-drop : (file : List ℕ) (n at : ℕ) → numberAt (drop n file) at ≡ numberAt file (n + at)
+unfolding numberAt
+numberAt-drop file n at =
+    let e1 : n + at + 1 ≡ n + (at + 1) = omega arith in
+    let e2 : n + at + 2 ≡ n + (at + 2) = omega arith in
+    let e3 : n + at + 3 ≡ n + (at + 3) = omega arith in
+    rw (e1, e2, e3, getD-drop n file at 0, getD-drop n file (at + 1) 0, getD-drop n file (at + 2) 0, getD-drop n file (at + 3) 0)
+
+length-listOf : (count : ℕ) (file : List ℕ) → length (listOf count file) ≡ count
+unfolding listOf
+length-listOf zero file = refl
+length-listOf (suc count) file = ap suc (length-listOf count (drop 4 file))
+
+-- one number more
+listOf-suc : (count : ℕ) (file : List ℕ) → listOf (suc count) file ≡ listOf count file ++ (numberAt file (count * 4) ∷ [])
+unfolding listOf
+listOf-suc zero file = refl
+listOf-suc (suc count) file =
+    let e : 4 + count * 4 ≡ suc count * 4 = omega arith in
+    rw (listOf-suc count (drop 4 file), numberAt-drop file 4 (count * 4), e)
+
+-- the loop of `put_list`
+pub record Listing (file : List ℕ) (count : ℕ) (old list : List ℕ) (i : ℕ) : Type 0 where
+  pub inside : i ≤ count
+  pub size : length list ≡ length old
+  pub written : list ≡ laid old 0 (listOf i file)
+
+module _ (file : List ℕ) (count : ℕ) (old : List ℕ) where
+  pub listing-first : Listing file count old old 0
+  unfolding listOf
+  listing-first = record { inside = omega arith; size = refl; written = sym (laid-nil old 0) }
+
+  module _ (list : List ℕ) (i : ℕ) (l : Listing file count old list i) where
+    pub listing-on : (v : ℕ) → i < count → count ≤ length old → v ≡ numberAt file (i * 4) → Listing file count old (set list i v) (i + 1)
+    listing-on v h fits e =
+        let n : length (listOf i file) ≡ i = length-listOf i file in
+        record {
+          inside = omega arith;
+          size = simp length-set (l .size);
+          written = rw (l .written, e, add-one i, listOf-suc i file) (laid-one old 0 i (listOf i file) (numberAt file (i * 4)) (omega arith) (omega arith));
+        }
+
+    pub listing-end : count ≤ i → list ≡ laid old 0 (listOf count file)
+    listing-end h =
+        let n : i ≡ count = omega (arith, l .inside) in
+        l .written ∙ rw n
+
+pub ruleset listing = (listing-first, listing-on, listing-end)
+
+-- `list_to_file`'s refusals, each on its way
+module _ (list file : ℕ) where
+  pub toFile-large : 65537 < list / 8 → 11 ≡ toFileRefusal list file
+  unfolding toFileRefusal
+  toFile-large h = rw (lt-leb (list / 8) 65537 h)
+
+  module _ (l : list / 8 ≤ 65537) where
+    pub toFile-broken : (list % 8 ≡ 0 → ⊥) → 10 ≡ toFileRefusal list file
+    unfolding toFileRefusal
+    toFile-broken h = rw (le-leb (list / 8) 65537 l, ne-eqb (list % 8) 0 h)
+
+    module _ (w : list % 8 ≡ 0) where
+      pub toFile-full : file / 32 < list / 8 → 8 ≡ toFileRefusal list file
+      unfolding toFileRefusal
+      toFile-full h = rw (le-leb (list / 8) 65537 l, eq-eqb (list % 8) 0 w, lt-leb (list / 8) (file / 32) h)
+
+      pub toFile-open : list / 8 ≤ file / 32 → 0 ≡ toFileRefusal list file
+      unfolding toFileRefusal
+      toFile-open h = rw (le-leb (list / 8) 65537 l, eq-eqb (list % 8) 0 w, le-leb (list / 8) (file / 32) h)
+
+pub ruleset toFileRefusals = (toFile-large, toFile-broken, toFile-full, toFile-open)
+
+-- `file_to_list`'s
+module _ (file list : ℕ) where
+  pub toList-file : 65537 < file / 32 → 11 ≡ toListRefusal file list
+  unfolding toListRefusal
+  toList-file h = rw (lt-leb (file / 32) 65537 h)
+
+  module _ (f : file / 32 ≤ 65537) where
+    pub toList-list : 65537 < list / 8 → 11 ≡ toListRefusal file list
+    unfolding toListRefusal
+    toList-list h = rw (le-leb (file / 32) 65537 f, lt-leb (list / 8) 65537 h)
+
+    module _ (l : list / 8 ≤ 65537) where
+      pub toList-broken : (file % 32 ≡ 0 → ⊥) → 10 ≡ toListRefusal file list
+      unfolding toListRefusal
+      toList-broken h = rw (le-leb (file / 32) 65537 f, le-leb (list / 8) 65537 l, ne-eqb (file % 32) 0 h)
+
+      module _ (w : file % 32 ≡ 0) where
+        pub toList-full : list / 8 < file / 32 → 7 ≡ toListRefusal file list
+        unfolding toListRefusal
+        toList-full h = rw (le-leb (file / 32) 65537 f, le-leb (list / 8) 65537 l, eq-eqb (file % 32) 0 w, lt-leb (file / 32) (list / 8) h)
+
+        pub toList-open : file / 32 ≤ list / 8 → 0 ≡ toListRefusal file list
+        unfolding toListRefusal
+        toList-open h = rw (le-leb (file / 32) 65537 f, le-leb (list / 8) 65537 l, eq-eqb (file % 32) 0 w, le-leb (file / 32) (list / 8) h)
+
+pub ruleset toListRefusals = (toList-file, toList-list, toList-broken, toList-full, toList-open)
+
+-- what an accepted call knows of its lengths: the numbers of both tests that come last
+accepted : (fits whole enough : Bool) (full : ℕ) → (if fits then (if whole then (if enough then 0 else suc full) else 10) else 11) ≡ 0 → (whole ≡ true) × (enough ≡ true)
+accepted true true true full e = (refl, refl)
+accepted true true false full e = absurd (omega arith)
+accepted true false enough full e = absurd (omega arith)
+accepted false whole enough full e = absurd (omega arith)
+
+module _ (list file : List ℕ) (number : ℕ) (e : number ≡ toFileRefusal (length list) (length file)) where
+  pub toFile-refused : (r : Answer) → (number ≡ 0 → ⊥) → r ≡ Answer.Refused number origin → ToFile list file r file
+  unfolding fileAnswer
+  toFile-refused r n back = record { answer = back ∙ rw (← e, ne-eqb number 0 n); written = rw (← e, ne-eqb number 0 n) }
+
+  module _ (z : number ≡ 0) where
+    pub toFile-room : length list * 4 ≤ length file
+    unfolding toFileRefusal
+    toFile-room =
+        let a = accepted (leb (length list / 8) 65537) (eqb (length list % 8) 0) (leb (length list / 8) (length file / 32)) 7 (sym e ∙ z) in
+        omega (arith, eqb-true (length list % 8) 0 (a .0), leb-true (length list / 8) (length file / 32) (a .1))
+
+    pub toFile-done : (after : List ℕ) → after ≡ laid file 0 (fileOf list) → ToFile list file Answer.Done after
+    unfolding fileAnswer
+    toFile-done after w = record { answer = rw (← e, eq-eqb number 0 z); written = w ∙ rw (← e, eq-eqb number 0 z) }
+
+pub ruleset toFile = (toFile-refused, toFile-room, toFile-done)
+
+module _ (file list : List ℕ) (number : ℕ) (e : number ≡ toListRefusal (length file) (length list)) where
+  pub toList-refused : (r : Answer) → (number ≡ 0 → ⊥) → r ≡ Answer.Refused number origin → ToList file list r list
+  unfolding fileAnswer
+  toList-refused r n back = record { answer = back ∙ rw (← e, ne-eqb number 0 n); written = rw (← e, ne-eqb number 0 n) }
+
+  module _ (z : number ≡ 0) where
+    lengths : (length file % 32 ≡ 0) × (length file / 32 ≤ length list / 8)
+    unfolding toListRefusal
+    lengths =
+        let a = accepted (leb (length file / 32) 65537 && leb (length list / 8) 65537) (eqb (length file % 32) 0) (leb (length file / 32) (length list / 8)) 6 (sym e ∙ z) in
+        (eqb-true (length file % 32) 0 (a .0), leb-true (length file / 32) (length list / 8) (a .1))
+
+    pub toList-bytes : length file / 4 * 4 ≤ length file
+    toList-bytes = omega (arith, lengths .0)
+
+    pub toList-room : length file / 4 ≤ length list
+    toList-room = omega (arith, lengths .0, lengths .1)
+
+    pub toList-done : (after : List ℕ) → after ≡ laid list 0 (listOf (length file / 4) file) → ToList file list Answer.Done after
+    unfolding fileAnswer
+    toList-done after w = record { answer = rw (← e, eq-eqb number 0 z); written = w ∙ rw (← e, eq-eqb number 0 z) }
+
+pub ruleset toList = (toList-refused, toList-bytes, toList-room, toList-done)

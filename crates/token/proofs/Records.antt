@@ -1,0 +1,76 @@
+-- Writing records and values, and asking for room first. Assumes nothing.
+use Prim.Native.Nat.{ℕ, suc, _+_, _*_, _-_, _/_, _≤_, _<_}
+use mathlib.Core.Path.{_≡_, refl, sym, ap, _∙_}
+use mathlib.Core.List.{List, [], _∷_, _++_}
+use native.Mathlib.Omega.{arith}
+use lib.ListN.{length, take, drop, set, getD, length-append, length-set}
+use lib.Seq.{sets-eq, take-length}
+use borrow.Author.Tests.{le-leb, lt-leb}
+use Rattle.source.specs.Laid.{laid}
+use Rattle.source.proofs.Laid.{laid-nil, laid-append, laid-take, laid-rest}
+use Rattle.token.specs.declared.Token.{Token}
+use Rattle.token.specs.Records.{recordOf, roomRefusal}
+
+-- stores in one place after another are one write
+module _ (l : List ℕ) (at v0 v1 v2 v3 : ℕ) where
+  pub four-laid : at + 4 ≤ length l → set (set (set (set l at v0) (at + 1) v1) (at + 2) v2) (at + 3) v3 ≡ laid l at (v0 ∷ v1 ∷ v2 ∷ v3 ∷ [])
+  unfolding laid
+  four-laid h =
+      let e1 : at + 1 ≡ suc at = omega arith in
+      let e2 : at + 2 ≡ suc (suc at) = omega arith in
+      let e3 : at + 3 ≡ suc (suc (suc at)) = omega arith in
+      rw (e1, e2, e3) (sets-eq (v0 ∷ v1 ∷ v2 ∷ v3 ∷ []) l at h)
+
+  pub eight-laid : (v4 v5 v6 v7 : ℕ) → at + 8 ≤ length l → set (set (set (set (set (set (set (set l at v0) (at + 1) v1) (at + 2) v2) (at + 3) v3) (at + 4) v4) (at + 5) v5) (at + 6) v6) (at + 7) v7 ≡ laid l at (v0 ∷ v1 ∷ v2 ∷ v3 ∷ v4 ∷ v5 ∷ v6 ∷ v7 ∷ [])
+  unfolding laid
+  eight-laid v4 v5 v6 v7 h =
+      let e1 : at + 1 ≡ suc at = omega arith in
+      let e2 : at + 2 ≡ suc (suc at) = omega arith in
+      let e3 : at + 3 ≡ suc (suc (suc at)) = omega arith in
+      let e4 : at + 4 ≡ suc (suc (suc (suc at))) = omega arith in
+      let e5 : at + 5 ≡ suc (suc (suc (suc (suc at)))) = omega arith in
+      let e6 : at + 6 ≡ suc (suc (suc (suc (suc (suc at))))) = omega arith in
+      let e7 : at + 7 ≡ suc (suc (suc (suc (suc (suc (suc at)))))) = omega arith in
+      rw (e1, e2, e3, e4, e5, e6, e7) (sets-eq (v0 ∷ v1 ∷ v2 ∷ v3 ∷ v4 ∷ v5 ∷ v6 ∷ v7 ∷ []) l at h)
+
+-- a record and the next behind it
+pub two-laid : (l m n : List ℕ) (place : ℕ) (t u : Token) → place * 8 + 16 ≤ length l → m ≡ laid l (place * 8) (recordOf t) → n ≡ laid m ((place + 1) * 8) (recordOf u) → n ≡ laid l (place * 8) (recordOf t ++ recordOf u)
+two-laid l m n place t u h first second =
+    second ∙ rw first (laid-append l (place * 8) ((place + 1) * 8) (recordOf t) (recordOf u) (omega arith) (omega arith))
+
+-- the loop of `copy`
+pub record Copying (part old rest : List ℕ) (i : ℕ) : Type 0 where
+  pub inside : i ≤ length part
+  pub size : length rest ≡ length old
+  pub written : rest ≡ laid old 0 (take i part)
+
+module _ (part old : List ℕ) where
+  pub copying-first : Copying part old old 0
+  copying-first = record { inside = omega arith; size = refl; written = sym (laid-nil old 0) }
+
+  module _ (rest : List ℕ) (i : ℕ) (c : Copying part old rest i) (fits : length part ≤ length old) where
+    pub copying-on : i < length part → Copying part old (set rest i (getD part i 0)) (i + 1)
+    copying-on h = record { inside = omega arith; size = simp length-set (c .size); written = rw (c .written) (laid-take old part i (omega arith) h) }
+
+    pub copying-end : length part ≤ i → rest ≡ laid old 0 part
+    copying-end h =
+        let n : i ≡ length part = omega (arith, c .inside) in
+        c .written ∙ rw (n, take-length part)
+
+pub ruleset copying = (copying-first, copying-on, copying-end)
+
+module _ (list pool tokens bytes count len : ℕ) where
+  pub room-list : list / 8 < tokens + count → 7 ≡ roomRefusal list pool tokens bytes count len
+  unfolding roomRefusal
+  room-list h = rw (lt-leb (tokens + count) (list / 8) h)
+
+  module _ (places : tokens + count ≤ list / 8) where
+    pub room-pool : pool < bytes + len → 8 ≡ roomRefusal list pool tokens bytes count len
+    unfolding roomRefusal
+    room-pool h = rw (le-leb (tokens + count) (list / 8) places, lt-leb (bytes + len) pool h)
+
+    pub room-enough : bytes + len ≤ pool → 0 ≡ roomRefusal list pool tokens bytes count len
+    unfolding roomRefusal
+    room-enough h = rw (le-leb (tokens + count) (list / 8) places, le-leb (bytes + len) pool h)
+
+pub ruleset rooms = (room-list, room-pool, room-enough)

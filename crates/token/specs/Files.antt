@@ -1,0 +1,68 @@
+-- The record file (document 01, "Token list"): 32-byte records, little-endian, no header.
+--   littleEndian     a number as four bytes, the lowest first
+--   fileOf           the bytes of a list of numbers
+--   numberAt         the number in the four bytes from a place on
+--   listOf           so many numbers from the file's start on
+--   toFileRefusal    of a list of so many numbers and a file of so many bytes: 11, 10, 8, or 0
+--   toListRefusal    of a file of so many bytes and a list of so many numbers: 11, 10, 7, or 0
+--   ToFile, ToList   answer, and what the file or the list then holds: a refusal changes nothing
+-- `list-file` and `file-list` (proofs/Files.antt) say that each undoes the other.
+use Prim.Native.Nat.{ℕ, zero, suc, _+_, _*_, _/_, _%_}
+use mathlib.Core.Bool.{Bool, true, false, _&&_}
+use mathlib.Core.List.{List, [], _∷_, _++_}
+use mathlib.Core.Path.{_≡_, refl}
+use lib.Dec.{leb, eqb}
+use lib.ListN.{length, getD, drop}
+use Rattle.source.specs.Words.{if_then_else_}
+use Rattle.source.specs.Laid.{laid}
+use Rattle.source.specs.Cursor.{origin}
+use Rattle.state.specs.Refusals.{listFull, poolFull, outOfPlace, tooLarge}
+use Rattle.state.specs.declared.Answer.{Answer}
+
+unfoldable pub littleEndian : ℕ → List ℕ
+littleEndian n = n % 256 ∷ n / 256 % 256 ∷ n / 65536 % 256 ∷ n / 16777216 % 256 ∷ []
+
+unfoldable pub fileOf : List ℕ → List ℕ
+fileOf [] = []
+fileOf (n ∷ rest) = littleEndian n ++ fileOf rest
+
+unfoldable pub numberAt : List ℕ → ℕ → ℕ
+numberAt file at =
+    getD file at 0 + getD file (at + 1) 0 * 256 + getD file (at + 2) 0 * 65536 + getD file (at + 3) 0 * 16777216
+
+unfoldable pub listOf : ℕ → List ℕ → List ℕ
+listOf zero file = []
+listOf (suc count) file = numberAt file 0 ∷ listOf count (drop 4 file)
+
+unfoldable pub toFileRefusal : ℕ → ℕ → ℕ
+toFileRefusal list file =
+    if leb (list / 8) 65537 then
+    (if eqb (list % 8) 0 then (if leb (list / 8) (file / 32) then 0 else poolFull) else outOfPlace)
+    else tooLarge
+
+unfoldable pub toListRefusal : ℕ → ℕ → ℕ
+toListRefusal file list =
+    if leb (file / 32) 65537 && leb (list / 8) 65537 then
+    (if eqb (file % 32) 0 then (if leb (file / 32) (list / 8) then 0 else listFull) else outOfPlace)
+    else tooLarge
+
+-- a call without a session bears the script's beginning
+unfoldable pub fileAnswer : ℕ → Answer
+fileAnswer number = if eqb number 0 then Answer.Done else Answer.Refused number origin
+
+pub record ToFile (list file : List ℕ) (r : Answer) (after : List ℕ) : Type 0 where
+  pub answer : r ≡ fileAnswer (toFileRefusal (length list) (length file))
+  pub written : after ≡ (if eqb (toFileRefusal (length list) (length file)) 0 then laid file 0 (fileOf list) else file)
+
+pub record ToList (file list : List ℕ) (r : Answer) (after : List ℕ) : Type 0 where
+  pub answer : r ≡ fileAnswer (toListRefusal (length file) (length list))
+  pub written : after ≡ (if eqb (toListRefusal (length file) (length list)) 0 then laid list 0 (listOf (length file / 4) file) else list)
+
+-- 258 is 2 and 1
+two-one : fileOf (258 ∷ []) ≡ 2 ∷ 1 ∷ 0 ∷ 0 ∷ []
+unfolding fileOf littleEndian
+two-one = refl
+
+one-number : listOf 1 (2 ∷ 1 ∷ 0 ∷ 0 ∷ []) ≡ 258 ∷ []
+unfolding listOf numberAt
+one-number = refl
