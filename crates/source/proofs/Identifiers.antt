@@ -37,3 +37,10 @@ module _ (src : List ℕ) (at : ℕ) where
       rw n
 
 pub ruleset identifiers = (identifierEnd-past, identifierEnd-none, identifierEnd-some, identifierAt-past, identifierAt-end)
+
+-- one place is where a run ends, and where an identifier does
+pub runEnd-one : (test : ℕ → Bool) (src : List ℕ) (at r r′ : ℕ) → RunEnd test src at r → RunEnd test src at r′ → r ≡ r′
+runEnd-one test src at r r′ e f = e .place ∙ sym (f .place)
+
+pub identifierEnd-one : (src : List ℕ) (at r r′ : ℕ) → IdentifierEnd src at r → IdentifierEnd src at r′ → r ≡ r′
+identifierEnd-one src at r r′ e f = e .place ∙ sym (f .place)

@@ -6,7 +6,7 @@ use native.Mathlib.Omega.{arith}
 use native.Mathlib.Numerals.{add-one}
 use native.Mathlib.Nat.{add-zero, zero-add}
 use lib.ListN.{length, take, drop, set, getD, length-append, length-drop, take-append-drop}
-use lib.Seq.{sets-eq, length-take-le, take-at, drop-drop, drop-append-add, take-length, take-suc, drop-length}
+use lib.Seq.{sets-eq, length-take-le, take-at, drop-drop, drop-append-add, take-length, take-suc, drop-length, take-append-seam}
 use Rattle.source.specs.Laid.{laid}
 
 -- a write of nothing changes nothing
@@ -54,3 +54,8 @@ unfolding laid
 laid-rest l rest m vs h f =
     let n : length l - m ≡ length (drop m l) = simp length-drop (omega arith) in
     rw (f, n, take-length (drop m l), drop-length (drop m l), zero-add (length vs), append-nil (vs ++ drop (length vs) (drop m l)), drop-drop (length vs) m l, ← append-assoc (take m l) vs (drop (m + length vs) l))
+
+-- what was written at the start can be read there
+pub take-laid : (l vs : List ℕ) (n : ℕ) → n ≡ length vs → take n (laid l 0 vs) ≡ vs
+unfolding laid
+take-laid l vs n e = rw e (take-append-seam vs (drop (0 + length vs) l))

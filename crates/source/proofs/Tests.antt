@@ -1,5 +1,5 @@
--- Laws of tests: of a conjunction, and of a choice that a test decides. Assumes nothing.
-use mathlib.Core.Path.{_≡_, refl}
+-- Laws of tests and of statements: a conjunction, a choice that a test decides, and that a statement `r ≡ ..` has one result. Assumes nothing.
+use mathlib.Core.Path.{_≡_, refl, sym, _∙_}
 use mathlib.Core.Bool.{Bool, true, false, _&&_, false≢true}
 use Rattle.source.specs.Words.{if_then_else_}
 
@@ -20,3 +20,7 @@ pub &&-both : (a b : Bool) → a ≡ true → b ≡ true → (a && b) ≡ true
 pub choice : {A : Type 0} (P : A → Type 0) (t : Bool) (a b : A) → (t ≡ true → P a) → (t ≡ false → P b) → P (if t then a else b)
 choice P true a b first other = first refl
 choice P false a b first other = other refl
+
+-- two results that meet one statement are equal: of every function whose contract says `r ≡ ..`
+pub one-result : {A : Type 0} (stated r r′ : A) → r ≡ stated → r′ ≡ stated → r ≡ r′
+one-result stated r r′ e f = e ∙ sym f

@@ -2,15 +2,16 @@
 use mathlib.Core.Path.{_≡_, refl, sym, _∙_}
 use mathlib.Core.Bool.{Bool, true, false, not, _&&_, false≢true}
 use mathlib.Core.List.{List, [], _∷_, _++_}
-use Prim.Native.Nat.{ℕ, suc, _+_, _<_, _≤_}
+use Prim.Native.Nat.{ℕ, zero, suc, _+_, _<_, _≤_}
 use native.Mathlib.Omega.{arith}
 use native.Mathlib.Numerals.{add-one}
 use lib.Dec.{ltb, eqb, eqb·suc-suc, eqb·zero-suc}
-use lib.ListN.{length, getD, take, drop, length-take, drop-of-length-le, List·getD-eq-default}
-use lib.Seq.{drop-cons, getD-take}
+use lib.ListN.{length, getD, set, take, drop, length-take, drop-of-length-le, List·getD-eq-default}
+use lib.Seq.{drop-cons, getD-take, take-nil, take-all, take-suc-set, set-out}
 use borrow.Author.Tests.{not-true, not-false, ltb-true, ltb-false}
 use Rattle.source.specs.Words.{if_then_else_, run, every}
 use Rattle.source.specs.Identifiers.{RunEnd}
+use Rattle.source.proofs.Tests.{&&-left, &&-right, &&-both}
 
 -- the list from i on, by its byte at i
 pub drop-one : (src : List ℕ) (i : ℕ) → i < length src → drop i src ≡ getD src i 0 ∷ drop (i + 1) src
@@ -94,3 +95,28 @@ module _ {A : Type 0} (none : A) (test : A → Bool) (xs : List A) (n : ℕ) whe
               rw (drop-of-length-le (take n xs) k, drop-of-length-le (take n xs) m)
 
 pub ruleset holding = (holding-first, holding-end, holding-stop, holding-on)
+
+-- the first m of a list pass where the first n do
+pub every-take : {A : Type 0} (test : A → Bool) (xs : List A) (m n : ℕ) → m ≤ n → every test (take n xs) ≡ true → every test (take m xs) ≡ true
+unfolding every
+every-take test [] m n h e = rw (take-nil m)
+every-take test (a ∷ rest) zero n h e = refl
+every-take test (a ∷ rest) (suc m) zero h e = absurd (omega arith)
+every-take test (a ∷ rest) (suc m) (suc n) h e = &&-both (test a) (every test (take m rest)) (&&-left (test a) (every test (take n rest)) e) (every-take test rest m n (omega arith) (&&-right (test a) (every test (take n rest)) e))
+
+every-append : {A : Type 0} (test : A → Bool) (xs ys : List A) → every test xs ≡ true → every test ys ≡ true → every test (xs ++ ys) ≡ true
+unfolding every
+every-append test [] ys e f = f
+every-append test (a ∷ rest) ys e f = &&-both (test a) (every test (rest ++ ys)) (&&-left (test a) (every test rest) e) (every-append test rest ys (&&-right (test a) (every test rest) e) f)
+
+-- and one more does where it is stored behind them
+pub every-set : {A : Type 0} (test : A → Bool) (xs : List A) (n : ℕ) (a : A) → every test (take n xs) ≡ true → test a ≡ true → every test (take (n + 1) (set xs n a)) ≡ true
+unfolding every
+every-set test xs n a e f = rw (add-one n) (go (ltb n (length xs)) refl)
+  where
+    go : (q : Bool) → ltb n (length xs) ≡ q → every test (take (suc n) (set xs n a)) ≡ true
+    go true h = rw (take-suc-set xs n a (ltb-true n (length xs) h)) (every-append test (take n xs) (a ∷ []) e (rw f))
+    go false h =
+        let k : length xs ≤ n = ltb-false n (length xs) h in
+        let m : length xs ≤ suc n = omega arith in
+        rw (set-out xs n a k, take-all (suc n) xs m) (rw (take-all n xs k) at e)

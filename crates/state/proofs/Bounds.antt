@@ -65,6 +65,19 @@ module _ (size : ℕ) (s : Session) where
         le-leb (s .column) (s .position + 1) (w .column-high),
       )
 
+  -- the same place at another depth
+  pub within-deep : (t : Session) → Within size s → t .position ≡ s .position → t .line ≡ s .line → t .column ≡ s .column → 1 ≤ t .depth → t .depth ≤ 64 → Within size t
+  within-deep t w p l c low high =
+      record {
+        position = rw p (w .position);
+        depth-low = low;
+        depth-high = high;
+        line-low = rw l (w .line-low);
+        line-high = rw (l, p) (w .line-high);
+        column-low = rw c (w .column-low);
+        column-high = rw (c, p) (w .column-high);
+      }
+
   pub within-depth : (numbers : Bool) → numbers ≡ areNumbers size s → not numbers ≡ false → s .depth ≤ 64
   within-depth numbers e t = areNumbers-within (sym e ∙ not-false numbers t) .depth-high
 

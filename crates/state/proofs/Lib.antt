@@ -1,3 +1,4 @@
 pub mod Bounds
 pub mod Gates
 pub mod Calls
+pub mod Kept

@@ -14,7 +14,7 @@ use Rattle.source.specs.Laid.{laid}
 use Rattle.source.proofs.Laid.{laid-nil, laid-append, laid-one, length-laid}
 use Rattle.source.specs.Cursor.{origin}
 use Rattle.state.specs.declared.Answer.{Answer}
-use Rattle.token.specs.Files.{littleEndian, fileOf, numberAt, listOf, toFileRefusal, toListRefusal, fileAnswer, ToFile, ToList}
+use Rattle.token.specs.Files.{littleEndian, fileOf, numberAt, listOf, toFileRefusal, toListRefusal, fileAnswer, Written}
 
 pub fileOf-append : (xs ys : List ℕ) → fileOf (xs ++ ys) ≡ fileOf xs ++ fileOf ys
 unfolding fileOf
@@ -74,7 +74,7 @@ numberAt-drop file n at =
     let e3 : n + at + 3 ≡ n + (at + 3) = omega arith in
     rw (e1, e2, e3, getD-drop n file at 0, getD-drop n file (at + 1) 0, getD-drop n file (at + 2) 0, getD-drop n file (at + 3) 0)
 
-length-listOf : (count : ℕ) (file : List ℕ) → length (listOf count file) ≡ count
+pub length-listOf : (count : ℕ) (file : List ℕ) → length (listOf count file) ≡ count
 unfolding listOf
 length-listOf zero file = refl
 length-listOf (suc count) file = ap suc (length-listOf count (drop 4 file))
@@ -171,44 +171,53 @@ accepted true true false full e = absurd (omega arith)
 accepted true false enough full e = absurd (omega arith)
 accepted false whole enough full e = absurd (omega arith)
 
-module _ (list file : List ℕ) (number : ℕ) (e : number ≡ toFileRefusal (length list) (length file)) where
-  pub toFile-refused : (r : Answer) → (number ≡ 0 → ⊥) → r ≡ Answer.Refused number origin → ToFile list file r file
+-- an answer that is no refusal
+pub fileAnswer-done : (number : ℕ) → Answer.Done ≡ fileAnswer number → number ≡ 0
+unfolding fileAnswer
+fileAnswer-done number e = go (eqb number 0) refl e
+  where
+    go : (t : Bool) → eqb number 0 ≡ t → Answer.Done ≡ (if t then Answer.Done else Answer.Refused number origin) → number ≡ 0
+    go true h e = eqb-true number 0 h
+    go false h e = cc
+
+module _ (number refusal : ℕ) (lent values : List ℕ) (e : number ≡ refusal) where
+  pub written-refused : (r : Answer) → (number ≡ 0 → ⊥) → r ≡ Answer.Refused number origin → Written refusal lent values r lent
   unfolding fileAnswer
-  toFile-refused r n back = record { answer = back ∙ rw (← e, ne-eqb number 0 n); written = rw (← e, ne-eqb number 0 n) }
+  written-refused r n back = record { answer = back ∙ rw (← e, ne-eqb number 0 n); holds = rw (← e, ne-eqb number 0 n) }
 
-  module _ (z : number ≡ 0) where
-    pub toFile-room : length list * 4 ≤ length file
-    unfolding toFileRefusal
-    toFile-room =
-        let a = accepted (leb (length list / 8) 65537) (eqb (length list % 8) 0) (leb (length list / 8) (length file / 32)) 7 (sym e ∙ z) in
-        omega (arith, eqb-true (length list % 8) 0 (a .0), leb-true (length list / 8) (length file / 32) (a .1))
-
-    pub toFile-done : (after : List ℕ) → after ≡ laid file 0 (fileOf list) → ToFile list file Answer.Done after
-    unfolding fileAnswer
-    toFile-done after w = record { answer = rw (← e, eq-eqb number 0 z); written = w ∙ rw (← e, eq-eqb number 0 z) }
-
-pub ruleset toFile = (toFile-refused, toFile-room, toFile-done)
-
-module _ (file list : List ℕ) (number : ℕ) (e : number ≡ toListRefusal (length file) (length list)) where
-  pub toList-refused : (r : Answer) → (number ≡ 0 → ⊥) → r ≡ Answer.Refused number origin → ToList file list r list
+  pub written-done : (after : List ℕ) → number ≡ 0 → after ≡ laid lent 0 values → Written refusal lent values Answer.Done after
   unfolding fileAnswer
-  toList-refused r n back = record { answer = back ∙ rw (← e, ne-eqb number 0 n); written = rw (← e, ne-eqb number 0 n) }
+  written-done after z w = record { answer = rw (← e, eq-eqb number 0 z); holds = w ∙ rw (← e, eq-eqb number 0 z) }
 
-  module _ (z : number ≡ 0) where
-    lengths : (length file % 32 ≡ 0) × (length file / 32 ≤ length list / 8)
-    unfolding toListRefusal
-    lengths =
-        let a = accepted (leb (length file / 32) 65537 && leb (length list / 8) 65537) (eqb (length file % 32) 0) (leb (length file / 32) (length list / 8)) 6 (sym e ∙ z) in
-        (eqb-true (length file % 32) 0 (a .0), leb-true (length file / 32) (length list / 8) (a .1))
+-- two results that meet one statement are equal
+pub written-one : (refusal : ℕ) (lent values : List ℕ) (r r′ : Answer) (after after′ : List ℕ) → Written refusal lent values r after → Written refusal lent values r′ after′ → (r ≡ r′) × (after ≡ after′)
+written-one refusal lent values r r′ after after′ f g = (f .answer ∙ sym (g .answer), f .holds ∙ sym (g .holds))
 
-    pub toList-bytes : length file / 4 * 4 ≤ length file
-    toList-bytes = omega (arith, lengths .0)
+-- a call that was done has written its values
+pub written-values : (refusal : ℕ) (lent values after : List ℕ) → Written refusal lent values Answer.Done after → after ≡ laid lent 0 values
+written-values refusal lent values after f = rw (eq-eqb refusal 0 (fileAnswer-done refusal (f .answer))) at (f .holds)
 
-    pub toList-room : length file / 4 ≤ length list
-    toList-room = omega (arith, lengths .0, lengths .1)
+-- there is room for what an accepted call writes
+pub toFile-room : (list file number : ℕ) → number ≡ toFileRefusal list file → number ≡ 0 → list * 4 ≤ file
+unfolding toFileRefusal
+toFile-room list file number e z =
+    let a = accepted (leb (list / 8) 65537) (eqb (list % 8) 0) (leb (list / 8) (file / 32)) 7 (sym e ∙ z) in
+    omega (arith, eqb-true (list % 8) 0 (a .0), leb-true (list / 8) (file / 32) (a .1))
 
-    pub toList-done : (after : List ℕ) → after ≡ laid list 0 (listOf (length file / 4) file) → ToList file list Answer.Done after
-    unfolding fileAnswer
-    toList-done after w = record { answer = rw (← e, eq-eqb number 0 z); written = w ∙ rw (← e, eq-eqb number 0 z) }
+module _ (file list number : ℕ) (e : number ≡ toListRefusal file list) (z : number ≡ 0) where
+  lengths : (file % 32 ≡ 0) × (file / 32 ≤ list / 8)
+  unfolding toListRefusal
+  lengths =
+      let a = accepted (leb (file / 32) 65537 && leb (list / 8) 65537) (eqb (file % 32) 0) (leb (file / 32) (list / 8)) 6 (sym e ∙ z) in
+      (eqb-true (file % 32) 0 (a .0), leb-true (file / 32) (list / 8) (a .1))
 
-pub ruleset toList = (toList-refused, toList-bytes, toList-room, toList-done)
+  pub toList-whole : file / 4 * 4 ≡ file
+  toList-whole = omega (arith, lengths .0)
+
+  pub toList-bytes : file / 4 * 4 ≤ file
+  toList-bytes = omega (arith, lengths .0)
+
+  pub toList-room : file / 4 ≤ list
+  toList-room = omega (arith, lengths .0, lengths .1)
+
+pub ruleset filed = (written-refused, written-done, toFile-room, toList-bytes, toList-room)

@@ -1,2 +1,3 @@
 pub mod Records
 pub mod Files
+pub mod RoundTrips

@@ -5,8 +5,8 @@
 --   listOf           so many numbers from the file's start on
 --   toFileRefusal    of a list of so many numbers and a file of so many bytes: 11, 10, 8, or 0
 --   toListRefusal    of a file of so many bytes and a list of so many numbers: 11, 10, 7, or 0
---   ToFile, ToList   answer, and what the file or the list then holds: a refusal changes nothing
--- `list-file` and `file-list` (proofs/Files.antt) say that each undoes the other.
+--   ToFile, ToList   answer, and what the lent file or list then holds: a refusal changes nothing
+-- `toFile-toList` and `toList-toFile` (proofs/RoundTrips.antt) say that each undoes the other.
 use Prim.Native.Nat.{ℕ, zero, suc, _+_, _*_, _/_, _%_}
 use mathlib.Core.Bool.{Bool, true, false, _&&_}
 use mathlib.Core.List.{List, [], _∷_, _++_}
@@ -50,13 +50,16 @@ toListRefusal file list =
 unfoldable pub fileAnswer : ℕ → Answer
 fileAnswer number = if eqb number 0 then Answer.Done else Answer.Refused number origin
 
-pub record ToFile (list file : List ℕ) (r : Answer) (after : List ℕ) : Type 0 where
-  pub answer : r ≡ fileAnswer (toFileRefusal (length list) (length file))
-  pub written : after ≡ (if eqb (toFileRefusal (length list) (length file)) 0 then laid file 0 (fileOf list) else file)
+-- with refusal 0 the values stand at the start of what was lent, and else it is as it was
+pub record Written (refusal : ℕ) (lent values : List ℕ) (r : Answer) (after : List ℕ) : Type 0 where
+  pub answer : r ≡ fileAnswer refusal
+  pub holds : after ≡ (if eqb refusal 0 then laid lent 0 values else lent)
 
-pub record ToList (file list : List ℕ) (r : Answer) (after : List ℕ) : Type 0 where
-  pub answer : r ≡ fileAnswer (toListRefusal (length file) (length list))
-  pub written : after ≡ (if eqb (toListRefusal (length file) (length list)) 0 then laid list 0 (listOf (length file / 4) file) else list)
+abbrev pub ToFile : List ℕ → List ℕ → Answer → List ℕ → Type 0
+ToFile list file r after = Written (toFileRefusal (length list) (length file)) file (fileOf list) r after
+
+abbrev pub ToList : List ℕ → List ℕ → Answer → List ℕ → Type 0
+ToList file list r after = Written (toListRefusal (length file) (length list)) list (listOf (length file / 4) file) r after
 
 -- 258 is 2 and 1
 two-one : fileOf (258 ∷ []) ≡ 2 ∷ 1 ∷ 0 ∷ 0 ∷ []
