@@ -1,6 +1,9 @@
--- Laws of tests and of statements: a conjunction, a choice that a test decides, and that a statement `r ≡ ..` has one result. Assumes nothing.
+-- Laws of tests and of statements: a conjunction, a choice that a test decides, a refusal that was not given, and that
+-- a statement `r ≡ ..` has one result. Assumes nothing.
+use Prim.Native.Nat.{ℕ, suc}
 use mathlib.Core.Path.{_≡_, refl, sym, _∙_}
 use mathlib.Core.Bool.{Bool, true, false, _&&_, false≢true}
+use native.Mathlib.Omega.{arith}
 use Rattle.source.specs.Words.{if_then_else_}
 
 -- both sides of a conjunction that holds
@@ -20,6 +23,11 @@ pub &&-both : (a b : Bool) → a ≡ true → b ≡ true → (a && b) ≡ true
 pub choice : {A : Type 0} (P : A → Type 0) (t : Bool) (a b : A) → (t ≡ true → P a) → (t ≡ false → P b) → P (if t then a else b)
 choice P true a b first other = first refl
 choice P false a b first other = other refl
+
+-- where the refusal is 0, its test passed, and so did those behind it
+pub unrefused : (t : Bool) (later number : ℕ) → (if t then later else suc number) ≡ 0 → (t ≡ true) × (later ≡ 0)
+unrefused true later number e = (refl, e)
+unrefused false later number e = absurd (omega arith)
 
 -- two results that meet one statement are equal: of every function whose contract says `r ≡ ..`
 pub one-result : {A : Type 0} (stated r r′ : A) → r ≡ stated → r′ ≡ stated → r ≡ r′

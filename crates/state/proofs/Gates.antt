@@ -8,7 +8,7 @@ use lib.Dec.{leb}
 use lib.ListN.{length}
 use borrow.Author.Tests.{leb-true, le-leb, lt-leb, not-true, not-false}
 use Rattle.source.specs.Words.{if_then_else_}
-use Rattle.source.proofs.Tests.{&&-left, &&-right}
+use Rattle.source.proofs.Tests.{&&-left, &&-right, unrefused}
 use Rattle.state.specs.declared.Session.{Session}
 use Rattle.state.specs.Bounds.{areNumbers, areFrames, isGood, areMarks}
 use Rattle.state.proofs.Bounds.{Within, areNumbers-within, within-depth}
@@ -41,22 +41,14 @@ pub record Opened (src : List ℕ) (s : Session) : Type 0 where
   pub numbers : Within (length src) s
   pub frames : areFrames src s ≡ true
 
-checked-fits : (fits good : Bool) → checked fits good ≡ 0 → fits ≡ true
-checked-fits true good e = refl
-checked-fits false good e = absurd (omega arith)
-
-checked-good : (fits good : Bool) → checked fits good ≡ 0 → good ≡ true
-checked-good true true e = refl
-checked-good true false e = absurd (omega arith)
-checked-good false good e = absurd (omega arith)
-
 module _ (src : List ℕ) (s : Session) where
   pub gate-opened : gateRefusal src s ≡ 0 → Opened src s
   unfolding gateRefusal sourceFits isGood
   gate-opened e =
-      let good = checked-good (sourceFits src) (isGood src s) e in
+      let fits = unrefused (sourceFits src) _ 10 e in
+      let good = unrefused (isGood src s) 0 11 (fits .1) .0 in
       record {
-        source = leb-true _ _ (checked-fits (sourceFits src) (isGood src s) e);
+        source = leb-true _ _ (fits .0);
         numbers = areNumbers-within (length src) s (&&-left (areNumbers (length src) s) (areFrames src s) good);
         frames = &&-right (areNumbers (length src) s) (areFrames src s) good;
       }

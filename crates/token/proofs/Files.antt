@@ -11,6 +11,7 @@ use lib.Seq.{take-length, take-suc, getD-drop, length-take-le}
 use borrow.Author.Tests.{le-leb, lt-leb, eq-eqb, ne-eqb, leb-true, eqb-true}
 use Rattle.source.specs.Words.{if_then_else_}
 use Rattle.source.specs.Laid.{laid}
+use Rattle.source.proofs.Tests.{unrefused}
 use Rattle.source.proofs.Laid.{laid-nil, laid-append, laid-one, length-laid}
 use Rattle.source.specs.Cursor.{origin}
 use Rattle.state.specs.declared.Answer.{Answer}
@@ -164,13 +165,6 @@ module _ (file list : ℕ) where
 
 pub ruleset toListRefusals = (toList-file, toList-list, toList-broken, toList-full, toList-open)
 
--- what an accepted call knows of its lengths: the numbers of both tests that come last
-accepted : (fits whole enough : Bool) (full : ℕ) → (if fits then (if whole then (if enough then 0 else suc full) else 10) else 11) ≡ 0 → (whole ≡ true) × (enough ≡ true)
-accepted true true true full e = (refl, refl)
-accepted true true false full e = absurd (omega arith)
-accepted true false enough full e = absurd (omega arith)
-accepted false whole enough full e = absurd (omega arith)
-
 -- an answer that is no refusal
 pub fileAnswer-done : (number : ℕ) → Answer.Done ≡ fileAnswer number → number ≡ 0
 unfolding fileAnswer
@@ -201,15 +195,19 @@ written-values refusal lent values after f = rw (eq-eqb refusal 0 (fileAnswer-do
 pub toFile-room : (list file number : ℕ) → number ≡ toFileRefusal list file → number ≡ 0 → list * 4 ≤ file
 unfolding toFileRefusal
 toFile-room list file number e z =
-    let a = accepted (leb (list / 8) 65537) (eqb (list % 8) 0) (leb (list / 8) (file / 32)) 7 (sym e ∙ z) in
-    omega (arith, eqb-true (list % 8) 0 (a .0), leb-true (list / 8) (file / 32) (a .1))
+    let fits = unrefused (leb (list / 8) 65537) _ 10 (sym e ∙ z) in
+    let whole = unrefused (eqb (list % 8) 0) _ 9 (fits .1) in
+    let enough = unrefused (leb (list / 8) (file / 32)) 0 7 (whole .1) in
+    omega (arith, eqb-true (list % 8) 0 (whole .0), leb-true (list / 8) (file / 32) (enough .0))
 
 module _ (file list number : ℕ) (e : number ≡ toListRefusal file list) (z : number ≡ 0) where
   lengths : (file % 32 ≡ 0) × (file / 32 ≤ list / 8)
   unfolding toListRefusal
   lengths =
-      let a = accepted (leb (file / 32) 65537 && leb (list / 8) 65537) (eqb (file % 32) 0) (leb (file / 32) (list / 8)) 6 (sym e ∙ z) in
-      (eqb-true (file % 32) 0 (a .0), leb-true (file / 32) (list / 8) (a .1))
+      let fits = unrefused (leb (file / 32) 65537 && leb (list / 8) 65537) _ 10 (sym e ∙ z) in
+      let whole = unrefused (eqb (file % 32) 0) _ 9 (fits .1) in
+      let enough = unrefused (leb (file / 32) (list / 8)) 0 6 (whole .1) in
+      (eqb-true (file % 32) 0 (whole .0), leb-true (file / 32) (list / 8) (enough .0))
 
   pub toList-whole : file / 4 * 4 ≡ file
   toList-whole = omega (arith, lengths .0)
