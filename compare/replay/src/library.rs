@@ -4,7 +4,7 @@ use cases::Span;
 
 extern "C" {
     fn puretakoi_peek_identifier(src: *const u8, len: usize, at: usize) -> usize;
-    fn puretakoi_passed(src: *const u8, len: usize, from: usize, count: usize, span: *mut u32, span_len: usize);
+    fn puretakoi_past(part: *const u8, len: usize, span: *mut u32, span_len: usize) -> u32;
 }
 
 /// The length of the identifier at a position, 0 for none.
@@ -13,12 +13,17 @@ pub fn peek_identifier(source: &[u8], at: usize) -> usize {
     unsafe { puretakoi_peek_identifier(source.as_ptr(), source.len(), at) }
 }
 
-/// The span after `count` bytes from `from` on; as it was when they are more than the source has.
-pub fn passed(source: &[u8], from: usize, count: usize, span: Span) -> Span {
+/// The refusal or 0, with the span in the three numbers moved past all bytes of a part.
+pub fn past(part: &[u8], span: &mut [u32]) -> u32 {
+    // The library reads `part`, and reads and writes `span`, each within its length.
+    unsafe { puretakoi_past(part.as_ptr(), part.len(), span.as_mut_ptr(), span.len()) }
+}
+
+/// The span past all bytes of a part, or the refusal.
+pub fn past_span(part: &[u8], span: Span) -> Result<Span, u32> {
     let mut numbers = [span.line as u32, span.column as u32, span.position as u32];
-    // The library reads `source` and writes the three numbers.
-    unsafe {
-        puretakoi_passed(source.as_ptr(), source.len(), from, count, numbers.as_mut_ptr(), numbers.len());
+    match past(part, &mut numbers) {
+        0 => Ok(Span { line: numbers[0] as usize, column: numbers[1] as usize, position: numbers[2] as usize }),
+        number => Err(number),
     }
-    Span { line: numbers[0] as usize, column: numbers[1] as usize, position: numbers[2] as usize }
 }

@@ -1,6 +1,7 @@
 //! Replays files of stored answers on the proved library: `replay FILE..`.
 
 mod library;
+mod refusals;
 
 use std::path::Path;
 use std::process::exit;
@@ -14,7 +15,7 @@ const START: Span = Span { line: 1, column: 1, position: 0 };
 
 fn main() {
     let mut case = Case::default();
-    let mut good = true;
+    let mut good = refusals::all_given();
     for file in std::env::args().skip(1) {
         let path = Path::new(&file);
         let name = path.file_name().unwrap_or_default().to_string_lossy();
@@ -50,22 +51,22 @@ fn peeked(case: &Case) -> Answer {
     }
 }
 
-/// Beside the answer, one byte more than there is must leave the span alone.
 fn skipped(case: &Case) -> Answer {
-    let cursor = cursor_at(case);
-    if case.position <= case.source.len() {
-        let too_many = case.source.len() - case.position + 1;
-        if library::passed(&case.source, case.position, too_many, cursor) != cursor {
-            return fault("a skip past the end changed the span");
-        }
+    let end = case.position.saturating_add(case.count);
+    let part = match case.source.get(case.position..end) {
+        Some(part) => part,
+        None => return fault("the case skips past the end"),
+    };
+    match library::past_span(part, cursor_at(case)) {
+        Ok(cursor) => accepted(cursor, Vec::new()),
+        Err(number) => fault(&format!("the library refused with {}", number)),
     }
-    accepted(library::passed(&case.source, case.position, case.count, cursor), Vec::new())
 }
 
 /// The cursor at the case's position; past the end, line and column stay the end's, as in the Rust.
 fn cursor_at(case: &Case) -> Span {
     let inside = case.position.min(case.source.len());
-    let cursor = library::passed(&case.source, 0, inside, START);
+    let cursor = library::past_span(&case.source[..inside], START).unwrap_or(START);
     Span { position: cursor.position + (case.position - inside), ..cursor }
 }
 
