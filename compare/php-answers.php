@@ -1,0 +1,82 @@
+<?php
+// Holds this PHP to a file of `KIND TEXT => ANSWER` lines; `#` starts a comment line. Called by `php`, beside it.
+//
+//   code    the tokens of TEXT behind `<?php `
+//   script  the tokens of TEXT as a whole script
+//   short   the same with short tags on; lines of this kind are tried alone, in a run with that setting
+//   value   what TEXT gives as an expression in which $a is 'A', and a warning; text in hex, `-` for no bytes
+//
+// A token is its kind and its text, or its one sign. In TEXT and tokens the signs below stand for bytes.
+
+const SIGNS = ['⏎' => "\n", '␍' => "\r", '⇥' => "\t", '·' => ' '];
+
+exit(main($argv[1]));
+
+function main(string $path): int
+{
+    $tags = ini_get('short_open_tag') ? 'on' : 'off';
+    $tried = 0;
+    foreach (file($path, FILE_IGNORE_NEW_LINES) as $index => $line) {
+        if (!preg_match('/^(\w+) (.*) => (.*)$/', $line, $parts)) {
+            if ($line === '' || $line[0] === '#') {
+                continue;
+            }
+            return failed($index, $line, 'KIND TEXT => ANSWER', 'another form');
+        }
+        [, $kind, $text, $expected] = $parts;
+        if (($kind === 'short') !== ($tags === 'on')) {
+            continue;
+        }
+        $got = answer($kind, strtr($text, SIGNS));
+        if ($got !== $expected) {
+            return failed($index, $line, $expected, $got);
+        }
+        $tried++;
+    }
+    echo 'ok PHP ', PHP_VERSION, ", short tags $tags ($tried answers)\n";
+    return $tried > 0 ? 0 : 1;
+}
+
+function failed(int $index, string $line, string $expected, string $got): int
+{
+    echo 'FAILED PHP ', PHP_VERSION, "\n  line     ", $index + 1, " $line\n  expected $expected\n  got      $got\n";
+    return 1;
+}
+
+function answer(string $kind, string $text): string
+{
+    return match ($kind) {
+        'code' => tokens(array_slice(token_get_all("<?php $text"), 1)),
+        'script', 'short' => tokens(token_get_all($text)),
+        'value' => value($text),
+        default => 'no such kind',
+    };
+}
+
+function tokens(array $tokens): string
+{
+    $shown = fn ($text) => strtr($text, array_flip(SIGNS));
+    $one = fn ($token) => is_array($token) ? token_name($token[0]) . ' ' . $shown($token[1]) : $token;
+    return $tokens === [] ? 'none' : implode(' | ', array_map($one, $tokens));
+}
+
+function value(string $expression): string
+{
+    $a = 'A';
+    error_clear_last();
+    try {
+        $value = @eval("return $expression;");
+    } catch (ParseError $error) {
+        return 'error ' . $error->getMessage();
+    }
+    $warning = error_get_last();
+    return shown_value($value) . ($warning ? ", warning {$warning['message']}" : '');
+}
+
+function shown_value(mixed $value): string
+{
+    if (is_string($value)) {
+        return 'text ' . ($value === '' ? '-' : bin2hex($value));
+    }
+    return gettype($value) . ' ' . var_export($value, true);
+}
