@@ -59,3 +59,7 @@ module _ (part span : List ℕ) where
       }
 
 pub ruleset pasts = (past-large, past-short, past-wild, past-done, past-reaches)
+
+-- two results that meet one statement are equal
+pub past-one : (part span : List ℕ) (r r′ : ℕ) (after after′ : List ℕ) → Past part span r after → Past part span r′ after′ → (r ≡ r′) × (after ≡ after′)
+past-one part span r r′ after after′ f g = (f .answer ∙ sym (g .answer), f .holds ∙ sym (g .holds))
