@@ -15,7 +15,7 @@ use Rattle.source.proofs.Words.{every-run, Holding, holding-first, holding-end,
 use Rattle.state.specs.declared.Label.{Label}
 use Rattle.state.specs.declared.Frame.{Frame}
 use Rattle.state.specs.declared.Session.{Session}
-use Rattle.state.specs.Bounds.{isLabel, isFrame, isBottom, noSlot, isSlot, areFrames, areNumbers}
+use Rattle.state.specs.Bounds.{isLabel, isFrame, isBottom, noSlot, isSlot, isStack, isWithin}
 
 -- what the numbers of a good session tell
 pub record Within (size : ℕ) (s : Session) : Type 0 where
@@ -28,9 +28,9 @@ pub record Within (size : ℕ) (s : Session) : Type 0 where
   pub column-high : s .column ≤ s .position + 1
 
 module _ (size : ℕ) (s : Session) where
-  pub areNumbers-within : areNumbers size s ≡ true → Within size s
-  unfolding areNumbers
-  areNumbers-within e =
+  pub isWithin-facts : isWithin size s ≡ true → Within size s
+  unfolding isWithin
+  isWithin-facts e =
       let a = leb (s .position) size in
       let b = a && leb 1 (s .depth) in
       let c = b && leb (s .depth) 64 in
@@ -52,9 +52,9 @@ module _ (size : ℕ) (s : Session) where
         column-high = leb-true _ _ (&&-right g (leb (s .column) (s .position + 1)) e);
       }
 
-  pub within-areNumbers : Within size s → areNumbers size s ≡ true
-  unfolding areNumbers
-  within-areNumbers w =
+  pub within-isWithin : Within size s → isWithin size s ≡ true
+  unfolding isWithin
+  within-isWithin w =
       rw (
         le-leb (s .position) size (w .position),
         le-leb 1 (s .depth) (w .depth-low),
@@ -78,8 +78,8 @@ module _ (size : ℕ) (s : Session) where
         column-high = rw (c, p) (w .column-high);
       }
 
-  pub within-depth : (numbers : Bool) → numbers ≡ areNumbers size s → not numbers ≡ false → s .depth ≤ 64
-  within-depth numbers e t = areNumbers-within (sym e ∙ not-false numbers t) .depth-high
+  pub within-depth : (numbers : Bool) → numbers ≡ isWithin size s → not numbers ≡ false → s .depth ≤ 64
+  within-depth numbers e t = isWithin-facts (sym e ∙ not-false numbers t) .depth-high
 
 -- an arm of a match on a frame
 pub isBottom-arm : (f arm : Frame) (r : Bool) → f ≡ arm → r ≡ isBottom arm → r ≡ isBottom f
@@ -120,25 +120,25 @@ pub record Checking (src : List ℕ) (s : Session) (depth i : ℕ) : Type 0 wher
 
 module _ (src : List ℕ) (s : Session) where
   module _ (flag : Bool) (e : flag ≡ isBottom (getD (s .frames) 0 noSlot .frame)) where
-    pub areFrames-bottom : not flag ≡ true → false ≡ areFrames src s
-    unfolding areFrames
-    areFrames-bottom t = rw (← e, not-true flag t)
+    pub isStack-bottom : not flag ≡ true → false ≡ isStack src s
+    unfolding isStack
+    isStack-bottom t = rw (← e, not-true flag t)
 
     pub checking-first : not flag ≡ false → Checking src s (s .depth) 0
     checking-first t = record { whole = refl; bottom = sym e ∙ not-false flag t; passed = holding-first noSlot (isSlot src) (s .frames) (s .depth) }
 
   module _ (depth i : ℕ) (c : Checking src s depth i) where
-    pub checking-end : depth ≤ i → true ≡ areFrames src s
-    unfolding areFrames
+    pub checking-end : depth ≤ i → true ≡ isStack src s
+    unfolding isStack
     checking-end h = rw (c .bottom) (holding-end noSlot (isSlot src) (s .frames) (s .depth) i (c .passed) (rw (← c .whole) h))
 
     module _ (flag : Bool) (h : i < depth) (e : flag ≡ isFrame src (getD (s .frames) i noSlot .frame)) where
-      pub checking-stop : not flag ≡ true → false ≡ areFrames src s
-      unfolding areFrames isFrame
+      pub checking-stop : not flag ≡ true → false ≡ isStack src s
+      unfolding isStack isFrame
       checking-stop t = rw (c .bottom) (holding-stop noSlot (isSlot src) (s .frames) (s .depth) i (c .passed) flag (rw (← c .whole) h) e refl t)
 
       pub checking-on : not flag ≡ false → Checking src s depth (i + 1)
       unfolding isFrame
       checking-on t = record { whole = c .whole; bottom = c .bottom; passed = holding-on noSlot (isSlot src) (s .frames) (s .depth) i (c .passed) flag (rw (← c .whole) h) e refl t }
 
-pub ruleset checking = (areFrames-bottom, checking-first, checking-end, checking-stop, checking-on)
+pub ruleset checking = (isStack-bottom, checking-first, checking-end, checking-stop, checking-on)

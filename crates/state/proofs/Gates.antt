@@ -10,8 +10,8 @@ use borrow.Author.Tests.{leb-true, le-leb, lt-leb, not-true, not-false}
 use Rattle.source.specs.Words.{if_then_else_}
 use Rattle.source.proofs.Tests.{&&-left, &&-right, unrefused}
 use Rattle.state.specs.declared.Session.{Session}
-use Rattle.state.specs.Bounds.{areNumbers, areFrames, isGood, areMarks}
-use Rattle.state.proofs.Bounds.{Within, areNumbers-within, within-depth}
+use Rattle.state.specs.Bounds.{isWithin, isStack, isGood, fitsTables}
+use Rattle.state.proofs.Bounds.{Within, isWithin-facts, within-depth}
 use Rattle.state.specs.Gates.{checked, sourceFits, tablesFit, gateRefusal, lentRefusal}
 
 module _ (src : List ℕ) (s : Session) where
@@ -19,12 +19,12 @@ module _ (src : List ℕ) (s : Session) where
   unfolding gateRefusal sourceFits
   gate-large h = rw (lt-leb (length src) 65536 h)
 
-  module _ (h : length src ≤ 65536) (numbers : Bool) (n : numbers ≡ areNumbers (length src) s) where
+  module _ (h : length src ≤ 65536) (numbers : Bool) (n : numbers ≡ isWithin (length src) s) where
     pub gate-numbers : not numbers ≡ true → 12 ≡ gateRefusal src s
     unfolding gateRefusal sourceFits isGood
     gate-numbers t = rw (le-leb (length src) 65536 h, ← n, not-true numbers t)
 
-    module _ (t : not numbers ≡ false) (frames : Bool) (f : frames ≡ areFrames src s) where
+    module _ (t : not numbers ≡ false) (frames : Bool) (f : frames ≡ isStack src s) where
       pub gate-frames : not frames ≡ true → 12 ≡ gateRefusal src s
       unfolding gateRefusal sourceFits isGood
       gate-frames u = rw (le-leb (length src) 65536 h, ← n, not-false numbers t, ← f, not-true frames u)
@@ -39,7 +39,7 @@ pub ruleset gates = (within-depth, gate-large, gate-numbers, gate-frames, gate-o
 pub record Opened (src : List ℕ) (s : Session) : Type 0 where
   pub source : length src ≤ 65536
   pub numbers : Within (length src) s
-  pub frames : areFrames src s ≡ true
+  pub frames : isStack src s ≡ true
 
 module _ (src : List ℕ) (s : Session) where
   pub gate-opened : gateRefusal src s ≡ 0 → Opened src s
@@ -49,8 +49,8 @@ module _ (src : List ℕ) (s : Session) where
       let good = unrefused (isGood src s) 0 11 (fits .1) .0 in
       record {
         source = leb-true _ _ (fits .0);
-        numbers = areNumbers-within (length src) s (&&-left (areNumbers (length src) s) (areFrames src s) good);
-        frames = &&-right (areNumbers (length src) s) (areFrames src s) good;
+        numbers = isWithin-facts (length src) s (&&-left (isWithin (length src) s) (isStack src s) good);
+        frames = &&-right (isWithin (length src) s) (isStack src s) good;
       }
 
 -- a gate that is shut without tables is shut with them, and one that is open leaves the marks to be looked at
@@ -77,24 +77,24 @@ module _ (src : List ℕ) (list pool : ℕ) (s : Session) where
     module _ (l : list / 8 ≤ 65537) (alone : ℕ) (e : alone ≡ gateRefusal src s) where
       pub lent-shut : (alone ≡ 0 → ⊥) → alone ≡ lentRefusal src list pool s
       unfolding lentRefusal tablesFit gateRefusal
-      lent-shut n = rw (le-leb pool 65536 p, le-leb (list / 8) 65537 l) (checked-shut (sourceFits src) (isGood src s) (areMarks list pool s) alone e n)
+      lent-shut n = rw (le-leb pool 65536 p, le-leb (list / 8) 65537 l) (checked-shut (sourceFits src) (isGood src s) (fitsTables list pool s) alone e n)
 
-      lent-marks : alone ≡ 0 → lentRefusal src list pool s ≡ (if areMarks list pool s then 0 else 12)
+      lent-marks : alone ≡ 0 → lentRefusal src list pool s ≡ (if fitsTables list pool s then 0 else 12)
       unfolding lentRefusal tablesFit gateRefusal
-      lent-marks z = rw (le-leb pool 65536 p, le-leb (list / 8) 65537 l) (checked-open (sourceFits src) (isGood src s) (areMarks list pool s) alone e z)
+      lent-marks z = rw (le-leb pool 65536 p, le-leb (list / 8) 65537 l) (checked-open (sourceFits src) (isGood src s) (fitsTables list pool s) alone e z)
 
       module _ (z : alone ≡ 0) where
         pub lent-tokens : list / 8 < s .tokens → 12 ≡ lentRefusal src list pool s
-        unfolding areMarks
+        unfolding fitsTables
         lent-tokens h = sym (lent-marks z ∙ rw (lt-leb (s .tokens) (list / 8) h))
 
         module _ (t : s .tokens ≤ list / 8) where
           pub lent-bytes : pool < s .bytes → 12 ≡ lentRefusal src list pool s
-          unfolding areMarks
+          unfolding fitsTables
           lent-bytes h = sym (lent-marks z ∙ rw (le-leb (s .tokens) (list / 8) t, lt-leb (s .bytes) pool h))
 
           pub lent-open : s .bytes ≤ pool → 0 ≡ lentRefusal src list pool s
-          unfolding areMarks
+          unfolding fitsTables
           lent-open h = sym (lent-marks z ∙ rw (le-leb (s .tokens) (list / 8) t, le-leb (s .bytes) pool h))
 
 pub ruleset lent = (lent-pool, lent-list, lent-shut, lent-tokens, lent-bytes, lent-open)

@@ -22,10 +22,10 @@ use Rattle.state.specs.declared.Reading.{Reading}
 use Rattle.state.specs.declared.Session.{Session}
 use Rattle.state.specs.declared.Answer.{Answer}
 use Rattle.state.specs.declared.Turn.{Turn}
-use Rattle.state.specs.Bounds.{isFrame, isBottom, noSlot, isSlot, areFrames, areNumbers, isGood, areMarks}
+use Rattle.state.specs.Bounds.{isFrame, isBottom, noSlot, isSlot, isStack, isWithin, isGood, fitsTables}
 use Rattle.state.specs.Gates.{gateRefusal}
 use Rattle.state.specs.Calls.{spanOf, refused, done, gated, moved, entered, left, freshSession, skipped, pushed, popped}
-use Rattle.state.proofs.Bounds.{Within, areNumbers-within, within-areNumbers, within-deep}
+use Rattle.state.proofs.Bounds.{Within, isWithin-facts, within-isWithin, within-deep}
 
 -- where the turn's answer is a refusal, its session is s
 pub record Kept (s : Session) (t : Turn) : Type 0 where
@@ -69,22 +69,22 @@ gated-stays src number s t k = choice (Stays src s) (eqb number 0) t (refused nu
 module _ (src : List ℕ) (s : Session) (e : isGood src s ≡ true) where
   good-numbers : Within (length src) s
   unfolding isGood
-  good-numbers = areNumbers-within (length src) s (&&-left (areNumbers (length src) s) (areFrames src s) e)
+  good-numbers = isWithin-facts (length src) s (&&-left (isWithin (length src) s) (isStack src s) e)
 
-  good-frames : areFrames src s ≡ true
+  good-frames : isStack src s ≡ true
   unfolding isGood
-  good-frames = &&-right (areNumbers (length src) s) (areFrames src s) e
+  good-frames = &&-right (isWithin (length src) s) (isStack src s) e
 
   good-bottom : isBottom (getD (s .frames) 0 noSlot .frame) ≡ true
-  unfolding areFrames
+  unfolding isStack
   good-bottom = &&-left (isBottom (getD (s .frames) 0 noSlot .frame)) (every (isSlot src) (take (s .depth) (s .frames))) good-frames
 
   good-slots : every (isSlot src) (take (s .depth) (s .frames)) ≡ true
-  unfolding areFrames
+  unfolding isStack
   good-slots = &&-right (isBottom (getD (s .frames) 0 noSlot .frame)) (every (isSlot src) (take (s .depth) (s .frames))) good-frames
 
   moved-good : (count : ℕ) → s .position + count ≤ length src → isGood src (moved s (passed (spanOf s) (take count (drop (s .position) src)))) ≡ true
-  unfolding isGood areFrames
+  unfolding isGood isStack
   moved-good count h =
       let w = good-numbers in
       let part = take count (drop (s .position) src) in
@@ -92,7 +92,7 @@ module _ (src : List ℕ) (s : Session) (e : isGood src s ≡ true) where
       let p = passed-position (spanOf s) part in
       let q = passed-placed (spanOf s) part (record { line-low = w .line-low; line-high = w .line-high; column-low = w .column-low; column-high = w .column-high }) in
       &&-both _ _
-      (within-areNumbers (length src) (moved s (passed (spanOf s) part))
+      (within-isWithin (length src) (moved s (passed (spanOf s) part))
       (record {
         position = omega (arith, p, n);
         depth-low = w .depth-low;
@@ -105,17 +105,17 @@ module _ (src : List ℕ) (s : Session) (e : isGood src s ≡ true) where
       good-frames
 
   entered-good : (f : Frame) → isFrame src f ≡ true → s .depth < 64 → isGood src (entered s f) ≡ true
-  unfolding isGood areFrames
+  unfolding isGood isStack
   entered-good f g h =
       let same : getD (set (s .frames) (s .depth) (record { frame = f })) 0 noSlot ≡ getD (s .frames) 0 noSlot = getD-set-other (s .frames) (s .depth) 0 _ noSlot (λ (z : 0 ≡ s .depth). omega (arith, good-numbers .depth-low)) in
       let bottom : isBottom (getD (set (s .frames) (s .depth) (record { frame = f })) 0 noSlot .frame) ≡ true = rw same good-bottom in
-      &&-both _ _ (within-areNumbers (length src) (entered s f) (within-deep (length src) s (entered s f) good-numbers refl refl refl (omega arith) (omega arith)))
+      &&-both _ _ (within-isWithin (length src) (entered s f) (within-deep (length src) s (entered s f) good-numbers refl refl refl (omega arith) (omega arith)))
       (&&-both _ _ bottom (every-set (isSlot src) (s .frames) (s .depth) (record { frame = f }) good-slots g))
 
   left-good : 1 < s .depth → isGood src (left s) ≡ true
-  unfolding isGood areFrames
+  unfolding isGood isStack
   left-good h =
-      &&-both _ _ (within-areNumbers (length src) (left s) (within-deep (length src) s (left s) good-numbers refl refl refl (omega arith) (omega (arith, good-numbers .depth-high))))
+      &&-both _ _ (within-isWithin (length src) (left s) (within-deep (length src) s (left s) good-numbers refl refl refl (omega arith) (omega (arith, good-numbers .depth-high))))
       (&&-both _ _ good-bottom (every-take (isSlot src) (s .frames) (s .depth - 1) (s .depth) (omega arith) good-slots))
 
 module _ (src : List ℕ) (s : Session) where
@@ -132,5 +132,5 @@ module _ (src : List ℕ) (s : Session) where
   pop-stays = gated-stays src (gateRefusal src s) s _ (choice (Stays src s) (ltb 1 (s .depth)) _ _ (λ e. record { good = λ g. left-good src s g (ltb-true _ _ e); tokens = refl; bytes = refl }) (λ e. same-stays src s _))
 
 pub fresh-good : (src : List ℕ) (nowdocs : Reading) → isGood src (freshSession nowdocs) ≡ true
-unfolding isGood areNumbers areFrames isBottom isFrame every
+unfolding isGood isWithin isStack isBottom isFrame every
 fresh-good src nowdocs = rw (le-leb 0 (length src) (omega arith))

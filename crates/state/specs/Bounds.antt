@@ -1,11 +1,11 @@
 -- A session's bounds (document 01, refusal 12), one by one, and what tables may be lent (refusal 11).
 --   labelBytes, isLabel   the bytes that a label names; 1 to 64 identifier bytes within the source
---   isFrame               a frame's label, if it has one, is a label
+--   isFrame               a frame whose label, if it has one, is a label
 --   isBottom              not VarOffset, not LookingForProperty
---   areFrames             the bottom frame, and each up to the depth; those above are not looked at
---   areNumbers            position, depth, line, column
+--   isStack               the bottom frame may stand there, and each frame up to the depth is one; those above are not looked at
+--   isWithin              position, depth, line and column are within their bounds
 --   isGood                all of these
---   areMarks              the marks are not past their tables; a list of n numbers has n / 8 places
+--   fitsTables            the marks are not past their tables; a list of n numbers has n / 8 places
 use Prim.Native.Nat.{ℕ, _+_, _/_}
 use mathlib.Core.Bool.{Bool, true, false, _&&_}
 use mathlib.Core.List.{List}
@@ -54,18 +54,18 @@ noSlot = record { frame = Frame.Initial }
 abbrev pub isSlot : List ℕ → Slot → Bool
 isSlot src slot = isFrame src (slot .frame)
 
-unfoldable pub areFrames : List ℕ → Session → Bool
-areFrames src s = isBottom (getD (s .frames) 0 noSlot .frame) && every (isSlot src) (take (s .depth) (s .frames))
+unfoldable pub isStack : List ℕ → Session → Bool
+isStack src s = isBottom (getD (s .frames) 0 noSlot .frame) && every (isSlot src) (take (s .depth) (s .frames))
 
-unfoldable pub areNumbers : ℕ → Session → Bool
-areNumbers size s =
+unfoldable pub isWithin : ℕ → Session → Bool
+isWithin size s =
     leb (s .position) size
     && leb 1 (s .depth) && leb (s .depth) 64
     && leb 1 (s .line) && leb (s .line) (s .position + 1)
     && leb 1 (s .column) && leb (s .column) (s .position + 1)
 
 unfoldable pub isGood : List ℕ → Session → Bool
-isGood src s = areNumbers (length src) s && areFrames src s
+isGood src s = isWithin (length src) s && isStack src s
 
-unfoldable pub areMarks : ℕ → ℕ → Session → Bool
-areMarks list pool s = leb (s .tokens) (list / 8) && leb (s .bytes) pool
+unfoldable pub fitsTables : ℕ → ℕ → Session → Bool
+fitsTables list pool s = leb (s .tokens) (list / 8) && leb (s .bytes) pool

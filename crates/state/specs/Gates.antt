@@ -9,7 +9,7 @@ use lib.ListN.{length}
 use Rattle.source.specs.Words.{if_then_else_}
 use Rattle.state.specs.declared.Session.{Session}
 use Rattle.state.specs.Refusals.{tooLarge, badSession}
-use Rattle.state.specs.Bounds.{isGood, areMarks}
+use Rattle.state.specs.Bounds.{isGood, fitsTables}
 
 abbrev pub checked : Bool → Bool → ℕ
 checked fits good = if fits then (if good then 0 else badSession) else tooLarge
@@ -24,4 +24,4 @@ unfoldable pub gateRefusal : List ℕ → Session → ℕ
 gateRefusal src s = checked (sourceFits src) (isGood src s)
 
 unfoldable pub lentRefusal : List ℕ → ℕ → ℕ → Session → ℕ
-lentRefusal src list pool s = checked (tablesFit list pool && sourceFits src) (isGood src s && areMarks list pool s)
+lentRefusal src list pool s = checked (tablesFit list pool && sourceFits src) (isGood src s && fitsTables list pool s)

@@ -5,7 +5,7 @@ use source::Span;
 ghost use mathlib.Core.Path.{_≡_};
 ghost use Prim.Native.Nat.{_≤_};
 ghost use Rattle.source.specs.Cursor.{origin};
-ghost use Rattle.state.specs.Bounds.{isLabel, isFrame, isBottom, areFrames, areNumbers, areMarks};
+ghost use Rattle.state.specs.Bounds.{isLabel, isFrame, isBottom, isStack, isWithin, fitsTables};
 ghost use Rattle.state.specs.Gates.{gateRefusal, lentRefusal};
 ghost use Rattle.state.specs.Calls.{spanOf, refused, freshSession, skipped, pushed, popped};
 
@@ -182,10 +182,10 @@ fn is_bottom(f: Frame) -> bool
     }
 }
 
-// Whether the frames up to the depth are good.
-fn are_frames(src: &[u8], s: Session) -> bool
+// Whether the frames up to the depth are a mode stack.
+fn is_stack(src: &[u8], s: Session) -> bool
     requires { ⌜ s .depth ≤ 64 ⌝ }
-    ensures { λ r. ⌜ r ≡ areFrames (now (src .entry)) s ⌝ }
+    ensures { λ r. ⌜ r ≡ isStack (now (src .entry)) s ⌝ }
 {
     let depth = s.depth as usize;
     let bottom = s.frames[0];
@@ -206,8 +206,8 @@ fn are_frames(src: &[u8], s: Session) -> bool
 }
 
 // Whether position, depth, line and column are within their bounds.
-fn are_numbers(size: usize, s: Session) -> bool
-    ensures { λ r. ⌜ r ≡ areNumbers size s ⌝ }
+fn is_within(size: usize, s: Session) -> bool
+    ensures { λ r. ⌜ r ≡ isWithin size s ⌝ }
 {
     let position = s.position as usize;
     let depth = s.depth as usize;
@@ -230,10 +230,10 @@ pub fn gate(src: &[u8], s: Session) -> u32
     if 65536 < src.len() {
         return TOO_LARGE;
     }
-    if !are_numbers(src.len(), s) {
+    if !is_within(src.len(), s) {
         return BAD_SESSION;
     }
-    if !are_frames(src, s) {
+    if !is_stack(src, s) {
         return BAD_SESSION;
     }
     0
