@@ -1,14 +1,13 @@
 -- The exported functions on each way through them. Assumes nothing.
-use Prim.Native.Nat.{ℕ, suc, _+_, _≤_, _<_}
-use mathlib.Core.Path.{_≡_, refl, sym, ap, _∙_}
+use Prim.Native.Nat.{ℕ, _≤_, _<_}
+use mathlib.Core.Path.{_≡_, sym, _∙_}
 use mathlib.Core.Bool.{Bool, true, false, not, _&&_}
-use mathlib.Core.List.{List, [], _∷_, _++_}
+use mathlib.Core.List.{List, []}
 use native.Mathlib.Omega.{arith}
-use lib.Dec.{leb, eqb}
-use lib.ListN.{length, getD, set, drop, drop-of-length-le}
+use lib.Dec.{leb}
+use lib.ListN.{length, set, drop, drop-of-length-le}
 use lib.Seq.{sets-eq}
 use borrow.Author.Tests.{le-leb, lt-leb, leb-true, eq-eqb, ne-eqb, not-true, not-false}
-use Rattle.source.specs.Words.{if_then_else_}
 use Rattle.source.specs.Cursor.{Reaches, passed}
 use Rattle.source.specs.declared.Span.{Span}
 use Rattle.source.proofs.Tests.{&&-left, &&-right}

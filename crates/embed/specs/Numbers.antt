@@ -4,7 +4,7 @@
 --   pastRefusal         11 for a part over 65,536 bytes, 10 for no three numbers, 12 for a number over 65,537, or 0
 --   Past                the refusal, and what the three numbers are then: past the part, or as they were
 use Prim.Native.Nat.{ℕ}
-use mathlib.Core.Bool.{Bool, true, false, _&&_}
+use mathlib.Core.Bool.{Bool, _&&_}
 use mathlib.Core.List.{List, [], _∷_}
 use mathlib.Core.Path.{_≡_}
 use lib.Dec.{leb, eqb}

@@ -1,12 +1,11 @@
 -- Laws of `laid`, for every write to a list, a pool or a file. Assumes nothing.
-use Prim.Native.Nat.{ℕ, suc, _+_, _-_, _≤_, _<_}
+use Prim.Native.Nat.{ℕ, _+_, _-_, _≤_, _<_}
 use mathlib.Core.Path.{_≡_, refl, sym, ap, _∙_}
 use mathlib.Core.List.{List, [], _∷_, _++_, append-assoc, append-nil}
 use native.Mathlib.Omega.{arith}
-use native.Mathlib.Numerals.{add-one}
 use native.Mathlib.Nat.{add-zero, zero-add}
-use lib.ListN.{length, take, drop, set, getD, length-append, length-drop, take-append-drop}
-use lib.Seq.{sets-eq, length-take-le, take-at, drop-drop, drop-append-add, take-length, take-suc, drop-length, take-append-seam}
+use lib.ListN.{length, take, drop, set, length-append, length-drop, take-append-drop}
+use lib.Seq.{sets-eq, length-take-le, take-at, drop-drop, drop-append-add, take-length, drop-length, take-append-seam}
 use Rattle.source.specs.Laid.{laid}
 
 -- a write of nothing changes nothing
@@ -36,18 +35,6 @@ pub set-laid : (l : List ℕ) (i v : ℕ) → i < length l → set l i v ≡ lai
 unfolding laid
 set-laid l i v h = sets-eq (v ∷ []) l i (omega arith)
 
--- a store right behind a write makes it longer by one
-pub laid-one : (l : List ℕ) (i j : ℕ) (vs : List ℕ) (v : ℕ) → j ≡ i + length vs → i + length vs < length l → set (laid l i vs) j v ≡ laid l i (vs ++ (v ∷ []))
-laid-one l i j vs v e h =
-    let n : length (laid l i vs) ≡ length l = length-laid l i vs (omega arith) in
-    set-laid (laid l i vs) j v (omega arith) ∙ laid-append l i j vs (v ∷ []) e (omega arith)
-
--- the same where what is written are the bytes of a part: one more of them
-pub laid-take : (l part : List ℕ) (i : ℕ) → i < length l → i < length part → set (laid l 0 (take i part)) i (getD part i 0) ≡ laid l 0 (take (i + 1) part)
-laid-take l part i h k =
-    let n : length (take i part) ≡ i = length-take-le i part (omega arith) in
-    laid-one l 0 i (take i part) (getD part i 0) (omega arith) (omega arith) ∙ ap (laid l 0) (sym (ap (λ (x : ℕ). take x part) (add-one i) ∙ take-suc part i 0 k))
-
 -- what is written at the start of the lent rest is written in the whole from the mark on
 pub laid-rest : (l rest : List ℕ) (m : ℕ) (vs : List ℕ) → m + length vs ≤ length l → rest ≡ laid (take (length l - m) (drop m l)) 0 vs → take m l ++ (rest ++ drop (length l - m) (drop m l)) ≡ laid l m vs
 unfolding laid
@@ -59,3 +46,26 @@ laid-rest l rest m vs h f =
 pub take-laid : (l vs : List ℕ) (n : ℕ) → n ≡ length vs → take n (laid l 0 vs) ≡ vs
 unfolding laid
 take-laid l vs n e = rw e (take-append-seam vs (drop (0 + length vs) l))
+
+-- a loop that writes: i of its n turns are done, and what they wrote, `values i`, stands at the start
+pub record Writing (values : ℕ → List ℕ) (n : ℕ) (old now : List ℕ) (i : ℕ) : Type 0 where
+  pub inside : i ≤ n
+  pub size : length now ≡ length old
+  pub written : now ≡ laid old 0 (values i)
+
+module _ (values : ℕ → List ℕ) (n : ℕ) (old : List ℕ) where
+  pub writing-first : values 0 ≡ [] → Writing values n old old 0
+  writing-first e = record { inside = omega arith; size = refl; written = sym (rw e (laid-nil old 0)) }
+
+  module _ (now : List ℕ) (i : ℕ) (w : Writing values n old now i) where
+    -- a turn writes vs behind what is there
+    pub writing-on : (after : List ℕ) (at : ℕ) (vs : List ℕ) → i < n → at ≡ length (values i) → at + length vs ≤ length old → values (i + 1) ≡ values i ++ vs → after ≡ laid now at vs → Writing values n old after (i + 1)
+    writing-on after at vs h place fits more e =
+        let m : length (values (i + 1)) ≡ at + length vs = rw more (length-append (values i) vs ∙ rw place) in
+        let done : after ≡ laid old 0 (values (i + 1)) = e ∙ rw (w .written, more) (laid-append old 0 at (values i) vs (omega arith) (omega arith)) in
+        record { inside = omega arith; size = ap length done ∙ length-laid old 0 (values (i + 1)) (omega arith); written = done }
+
+    pub writing-end : n ≤ i → now ≡ laid old 0 (values n)
+    writing-end h =
+        let all : i ≡ n = omega (arith, w .inside) in
+        w .written ∙ rw all

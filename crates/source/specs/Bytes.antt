@@ -5,7 +5,7 @@
 --   isIdentifier              what may follow: digits too
 --   isBlank                   a space or a tab, as indentation has them
 use Prim.Native.Nat.{ℕ}
-use mathlib.Core.Bool.{Bool, _&&_, _||_}
+use mathlib.Core.Bool.{Bool, _||_}
 use lib.Dec.{leb}
 use Rattle.source.specs.Words.{_is_, _from_to_}
 

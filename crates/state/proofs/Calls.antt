@@ -1,6 +1,6 @@
 -- The host's calls on each way through them. Assumes nothing.
 use Prim.Native.Nat.{ℕ, _+_, _-_, _≤_, _<_}
-use mathlib.Core.Path.{_≡_, refl, sym, _∙_}
+use mathlib.Core.Path.{_≡_, sym, _∙_}
 use mathlib.Core.Bool.{Bool, true, false, not}
 use mathlib.Core.List.{List}
 use native.Mathlib.Omega.{arith}
@@ -13,8 +13,7 @@ use Rattle.state.specs.declared.Session.{Session}
 use Rattle.state.specs.declared.Turn.{Turn}
 use Rattle.state.specs.Bounds.{isFrame}
 use Rattle.state.specs.Gates.{gateRefusal}
-use Rattle.state.proofs.Bounds.{Within}
-use Rattle.state.proofs.Gates.{Opened, gate-opened}
+use Rattle.state.proofs.Gates.{gate-opened}
 use Rattle.state.specs.Calls.{spanOf, refused, done, gated, moved, entered, left, skipped, pushed, popped}
 
 -- a shut gate refuses, and an open one lets the call through

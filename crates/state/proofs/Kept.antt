@@ -3,26 +3,26 @@
 --   Stays, skip-stays, push-stays, pop-stays        what a call makes of a good session is good, and its marks are the same
 --   fresh-good                                      a fresh session is good, for every source
 use Prim.Native.Nat.{ℕ, _+_, _-_, _≤_, _<_}
-use mathlib.Core.Path.{_≡_, refl, sym, ap, _∙_}
-use mathlib.Core.Bool.{Bool, true, false, _&&_}
+use mathlib.Core.Path.{_≡_, refl}
+use mathlib.Core.Bool.{true, _&&_}
 use mathlib.Core.List.{List}
 use native.Mathlib.Omega.{arith}
 use lib.Dec.{leb, ltb, eqb}
 use lib.ListN.{length, getD, set, take, drop, length-take, length-drop}
 use lib.Seq.{getD-set-other}
 use borrow.Author.Tests.{leb-true, ltb-true, le-leb}
-use Rattle.source.specs.Words.{if_then_else_, every}
+use Rattle.source.specs.Words.{every}
 use Rattle.source.specs.Cursor.{origin, passed}
 use Rattle.source.specs.declared.Span.{Span}
 use Rattle.source.proofs.Tests.{&&-left, &&-right, &&-both, choice}
 use Rattle.source.proofs.Words.{every-take, every-set}
-use Rattle.source.proofs.Cursor.{Placed, passed-position, passed-placed}
+use Rattle.source.proofs.Cursor.{passed-position, passed-placed}
 use Rattle.state.specs.declared.Frame.{Frame}
 use Rattle.state.specs.declared.Reading.{Reading}
 use Rattle.state.specs.declared.Session.{Session}
 use Rattle.state.specs.declared.Answer.{Answer}
 use Rattle.state.specs.declared.Turn.{Turn}
-use Rattle.state.specs.Bounds.{isFrame, isBottom, noSlot, isSlot, isStack, isWithin, isGood, fitsTables}
+use Rattle.state.specs.Bounds.{isFrame, isBottom, noSlot, isSlot, isStack, isWithin, isGood}
 use Rattle.state.specs.Gates.{gateRefusal}
 use Rattle.state.specs.Calls.{spanOf, refused, done, gated, moved, entered, left, freshSession, skipped, pushed, popped}
 use Rattle.state.proofs.Bounds.{Within, isWithin-facts, within-isWithin, within-deep}

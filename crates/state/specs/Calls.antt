@@ -4,7 +4,6 @@
 --   moved, entered, left    a session at another place, with a frame more, with a frame less
 --   freshSession, skipped, pushed, popped   the calls
 use Prim.Native.Nat.{ℕ, _+_, _-_}
-use mathlib.Core.Bool.{Bool, true, false}
 use mathlib.Core.List.{List}
 use lib.Dec.{leb, ltb, eqb}
 use lib.ListN.{length, set, take, drop, replicate}
@@ -12,7 +11,6 @@ use Rattle.source.specs.Words.{if_then_else_}
 use Rattle.source.specs.Cursor.{origin, passed}
 use Rattle.source.specs.declared.Span.{Span}
 use Rattle.state.specs.declared.Frame.{Frame}
-use Rattle.state.specs.declared.Slot.{Slot}
 use Rattle.state.specs.declared.Reading.{Reading}
 use Rattle.state.specs.declared.Session.{Session}
 use Rattle.state.specs.declared.Answer.{Answer}

@@ -2,7 +2,7 @@
 --   gateRefusal   of a source and a session, where no tables are lent: skip, push, pop
 --   lentRefusal   of a source, a session, a list of so many numbers and a pool of so many bytes: step and the readings
 use Prim.Native.Nat.{ℕ, _/_}
-use mathlib.Core.Bool.{Bool, true, false, _&&_}
+use mathlib.Core.Bool.{Bool, _&&_}
 use mathlib.Core.List.{List}
 use lib.Dec.{leb}
 use lib.ListN.{length}

@@ -5,7 +5,7 @@ use source::Span;
 ghost use mathlib.Core.Path.{_≡_};
 ghost use Prim.Native.Nat.{_≤_};
 ghost use Rattle.source.specs.Cursor.{origin};
-ghost use Rattle.state.specs.Bounds.{isLabel, isFrame, isBottom, isStack, isWithin, fitsTables};
+ghost use Rattle.state.specs.Bounds.{isLabel, isFrame, isBottom, isStack, isWithin};
 ghost use Rattle.state.specs.Gates.{gateRefusal, lentRefusal};
 ghost use Rattle.state.specs.Calls.{spanOf, refused, freshSession, skipped, pushed, popped};
 

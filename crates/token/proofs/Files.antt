@@ -6,13 +6,13 @@ use mathlib.Core.List.{List, [], _∷_, _++_, append-assoc, append-nil}
 use native.Mathlib.Omega.{arith}
 use native.Mathlib.Numerals.{add-one}
 use lib.Dec.{leb, eqb}
-use lib.ListN.{length, take, drop, set, getD, length-append, length-set, length-take}
+use lib.ListN.{length, take, drop, set, getD}
 use lib.Seq.{take-length, take-suc, getD-drop, length-take-le}
 use borrow.Author.Tests.{le-leb, lt-leb, eq-eqb, ne-eqb, leb-true, eqb-true}
 use Rattle.source.specs.Words.{if_then_else_}
 use Rattle.source.specs.Laid.{laid}
 use Rattle.source.proofs.Tests.{unrefused}
-use Rattle.source.proofs.Laid.{laid-nil, laid-append, laid-one, length-laid}
+use Rattle.source.proofs.Laid.{set-laid, Writing, writing-first, writing-on, writing-end}
 use Rattle.source.specs.Cursor.{origin}
 use Rattle.state.specs.declared.Answer.{Answer}
 use Rattle.token.specs.Files.{littleEndian, fileOf, numberAt, listOf, toFileRefusal, toListRefusal, fileAnswer, Written}
@@ -32,16 +32,14 @@ pub fileOf-take : (list : List ℕ) (i : ℕ) → i < length list → fileOf (ta
 unfolding fileOf
 fileOf-take list i h = rw (add-one i, take-suc list i 0 h, fileOf-append (take i list) (getD list i 0 ∷ []), append-nil (littleEndian (getD list i 0)))
 
--- the loop of `put_numbers`
-pub record Filing (list old file : List ℕ) (i : ℕ) : Type 0 where
-  pub inside : i ≤ length list
-  pub size : length file ≡ length old
-  pub written : file ≡ laid old 0 (fileOf (take i list))
+-- the loop of `put_numbers`: i numbers of the list are written
+abbrev pub Filing : List ℕ → List ℕ → List ℕ → ℕ → Type 0
+Filing list old file i = Writing (λ (k : ℕ). fileOf (take k list)) (length list) old file i
 
 module _ (list old : List ℕ) (fits : length list * 4 ≤ length old) where
   pub filing-first : Filing list old old 0
   unfolding fileOf
-  filing-first = record { inside = omega arith; size = refl; written = sym (laid-nil old 0) }
+  filing-first = writing-first (λ (k : ℕ). fileOf (take k list)) (length list) old refl
 
   module _ (file : List ℕ) (i : ℕ) (f : Filing list old file i) where
     pub filing-room : i < length list → i * 4 + 4 ≤ length file
@@ -51,14 +49,10 @@ module _ (list old : List ℕ) (fits : length list * 4 ≤ length old) where
     unfolding littleEndian
     filing-on after h e =
         let n : length (fileOf (take i list)) ≡ i * 4 = length-fileOf (take i list) ∙ ap (λ (x : ℕ). x * 4) (length-take-le i list (f .inside)) in
-        let w : after ≡ laid old 0 (fileOf (take (i + 1) list)) = e ∙ rw (f .written, fileOf-take list i h) (laid-append old 0 (i * 4) (fileOf (take i list)) (littleEndian (getD list i 0)) (omega arith) (omega arith)) in
-        let m : length (fileOf (take (i + 1) list)) ≡ (i + 1) * 4 = length-fileOf (take (i + 1) list) ∙ ap (λ (x : ℕ). x * 4) (length-take-le (i + 1) list (omega arith)) in
-        record { inside = omega arith; size = ap length w ∙ length-laid old 0 (fileOf (take (i + 1) list)) (omega arith); written = w }
+        writing-on (λ (k : ℕ). fileOf (take k list)) (length list) old file i f after (i * 4) (littleEndian (getD list i 0)) h (sym n) (omega arith) (fileOf-take list i h) e
 
     pub filing-end : length list ≤ i → file ≡ laid old 0 (fileOf list)
-    filing-end h =
-        let n : i ≡ length list = omega (arith, f .inside) in
-        f .written ∙ rw (n, take-length list)
+    filing-end h = writing-end (λ (k : ℕ). fileOf (take k list)) (length list) old file i f h ∙ rw (take-length list)
 
 pub ruleset filing = (filing-first, filing-room, filing-on, filing-end)
 
@@ -88,31 +82,23 @@ listOf-suc (suc count) file =
     let e : 4 + count * 4 ≡ suc count * 4 = omega arith in
     rw (listOf-suc count (drop 4 file), numberAt-drop file 4 (count * 4), e)
 
--- the loop of `put_list`
-pub record Listing (file : List ℕ) (count : ℕ) (old list : List ℕ) (i : ℕ) : Type 0 where
-  pub inside : i ≤ count
-  pub size : length list ≡ length old
-  pub written : list ≡ laid old 0 (listOf i file)
+-- the loop of `put_list`: i numbers of the file are written
+abbrev pub Listing : List ℕ → ℕ → List ℕ → List ℕ → ℕ → Type 0
+Listing file count old list i = Writing (λ (k : ℕ). listOf k file) count old list i
 
 module _ (file : List ℕ) (count : ℕ) (old : List ℕ) where
   pub listing-first : Listing file count old old 0
   unfolding listOf
-  listing-first = record { inside = omega arith; size = refl; written = sym (laid-nil old 0) }
+  listing-first = writing-first (λ (k : ℕ). listOf k file) count old refl
 
   module _ (list : List ℕ) (i : ℕ) (l : Listing file count old list i) where
     pub listing-on : (v : ℕ) → i < count → count ≤ length old → v ≡ numberAt file (i * 4) → Listing file count old (set list i v) (i + 1)
     listing-on v h fits e =
-        let n : length (listOf i file) ≡ i = length-listOf i file in
-        record {
-          inside = omega arith;
-          size = simp length-set (l .size);
-          written = rw (l .written, e, add-one i, listOf-suc i file) (laid-one old 0 i (listOf i file) (numberAt file (i * 4)) (omega arith) (omega arith));
-        }
+        let m : i < length list = omega (arith, l .size) in
+        writing-on (λ (k : ℕ). listOf k file) count old list i l _ i (v ∷ []) h (sym (length-listOf i file)) (omega arith) (rw (add-one i, e) (listOf-suc i file)) (set-laid list i v m)
 
     pub listing-end : count ≤ i → list ≡ laid old 0 (listOf count file)
-    listing-end h =
-        let n : i ≡ count = omega (arith, l .inside) in
-        l .written ∙ rw n
+    listing-end h = writing-end (λ (k : ℕ). listOf k file) count old list i l h
 
 pub ruleset listing = (listing-first, listing-on, listing-end)
 

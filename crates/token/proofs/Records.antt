@@ -1,13 +1,14 @@
 -- Writing records and values, and asking for room first. Assumes nothing.
 use Prim.Native.Nat.{ℕ, suc, _+_, _*_, _-_, _/_, _≤_, _<_}
-use mathlib.Core.Path.{_≡_, refl, sym, ap, _∙_}
+use mathlib.Core.Path.{_≡_, refl, sym, _∙_}
 use mathlib.Core.List.{List, [], _∷_, _++_}
 use native.Mathlib.Omega.{arith}
-use lib.ListN.{length, take, drop, set, getD, length-append, length-set}
-use lib.Seq.{sets-eq, take-length}
+use native.Mathlib.Numerals.{add-one}
+use lib.ListN.{length, take, set, getD}
+use lib.Seq.{sets-eq, take-length, take-suc, length-take-le}
 use borrow.Author.Tests.{le-leb, lt-leb}
 use Rattle.source.specs.Laid.{laid}
-use Rattle.source.proofs.Laid.{laid-nil, laid-append, laid-take, laid-rest}
+use Rattle.source.proofs.Laid.{laid-append, set-laid, Writing, writing-first, writing-on, writing-end}
 use Rattle.token.specs.declared.Token.{Token}
 use Rattle.token.specs.Records.{recordOf, roomRefusal}
 
@@ -38,24 +39,23 @@ pub two-laid : (l m n : List ℕ) (place : ℕ) (t u : Token) → place * 8 + 16
 two-laid l m n place t u h first second =
     second ∙ rw first (laid-append l (place * 8) ((place + 1) * 8) (recordOf t) (recordOf u) (omega arith) (omega arith))
 
--- the loop of `copy`
-pub record Copying (part old rest : List ℕ) (i : ℕ) : Type 0 where
-  pub inside : i ≤ length part
-  pub size : length rest ≡ length old
-  pub written : rest ≡ laid old 0 (take i part)
+-- the loop of `copy`: i bytes of the part are written
+abbrev pub Copying : List ℕ → List ℕ → List ℕ → ℕ → Type 0
+Copying part old rest i = Writing (λ (k : ℕ). take k part) (length part) old rest i
 
 module _ (part old : List ℕ) where
   pub copying-first : Copying part old old 0
-  copying-first = record { inside = omega arith; size = refl; written = sym (laid-nil old 0) }
+  copying-first = writing-first (λ (k : ℕ). take k part) (length part) old refl
 
   module _ (rest : List ℕ) (i : ℕ) (c : Copying part old rest i) (fits : length part ≤ length old) where
     pub copying-on : i < length part → Copying part old (set rest i (getD part i 0)) (i + 1)
-    copying-on h = record { inside = omega arith; size = simp length-set (c .size); written = rw (c .written) (laid-take old part i (omega arith) h) }
+    copying-on h =
+        let m : i < length rest = omega (arith, c .size) in
+        let n : i ≡ length (take i part) = sym (length-take-le i part (omega arith)) in
+        writing-on (λ (k : ℕ). take k part) (length part) old rest i c _ i (getD part i 0 ∷ []) h n (omega arith) (rw (add-one i) (take-suc part i 0 h)) (set-laid rest i (getD part i 0) m)
 
     pub copying-end : length part ≤ i → rest ≡ laid old 0 part
-    copying-end h =
-        let n : i ≡ length part = omega (arith, c .inside) in
-        c .written ∙ rw (n, take-length part)
+    copying-end h = writing-end (λ (k : ℕ). take k part) (length part) old rest i c h ∙ rw (take-length part)
 
 pub ruleset copying = (copying-first, copying-on, copying-end)
 

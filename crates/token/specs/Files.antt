@@ -8,7 +8,7 @@
 --   ToFile, ToList   answer, and what the lent file or list then holds: a refusal changes nothing
 -- `toFile-toList` and `toList-toFile` (proofs/RoundTrips.antt) say that each undoes the other.
 use Prim.Native.Nat.{ℕ, zero, suc, _+_, _*_, _/_, _%_}
-use mathlib.Core.Bool.{Bool, true, false, _&&_}
+use mathlib.Core.Bool.{_&&_}
 use mathlib.Core.List.{List, [], _∷_, _++_}
 use mathlib.Core.Path.{_≡_, refl}
 use lib.Dec.{leb, eqb}

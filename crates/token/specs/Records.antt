@@ -3,7 +3,6 @@
 --   roomRefusal   7 for more tokens than places left, then 8 for more value bytes than pool left, or 0.
 --                 The list has so many numbers, the pool so many bytes; both are filled up to their marks
 use Prim.Native.Nat.{ℕ, _+_, _/_}
-use mathlib.Core.Bool.{Bool}
 use mathlib.Core.List.{List, [], _∷_}
 use lib.Dec.{leb}
 use Rattle.source.specs.Words.{if_then_else_}
