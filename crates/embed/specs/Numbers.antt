@@ -12,7 +12,7 @@ use lib.ListN.{length, getD}
 use Rattle.source.specs.Words.{if_then_else_}
 use Rattle.source.specs.Cursor.{passed}
 use Rattle.source.specs.declared.Span.{Span}
-use Rattle.state.specs.Refusals.{outOfPlace, tooLarge, badSession}
+use Rattle.source.specs.Refusals.{outOfPlace, tooLarge, badSession}
 
 abbrev pub spanIn : List ℕ → Span
 spanIn span = record { line = getD span 0 0; column = getD span 1 0; position = getD span 2 0 }

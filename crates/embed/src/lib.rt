@@ -29,10 +29,10 @@ pub extern "C" fn puretakoi_past(part: &[u8], span: &mut [u32]) -> u32
     ensures { λ r. ⌜ Past (now (part .entry)) (now (span .entry)) r (now (span .exit)) ⌝ }
 {
     if 65536 < part.len() {
-        return state::TOO_LARGE;
+        return source::TOO_LARGE;
     }
     if span.len() != 3 {
-        return state::OUT_OF_PLACE;
+        return source::OUT_OF_PLACE;
     }
     let from = Span {
         line: span[0],
@@ -40,7 +40,7 @@ pub extern "C" fn puretakoi_past(part: &[u8], span: &mut [u32]) -> u32
         position: span[2],
     };
     if !is_small(from) {
-        return state::BAD_SESSION;
+        return source::BAD_SESSION;
     }
     let to = source::past(part, from);
     span[0] = to.line;

@@ -3,3 +3,4 @@ pub mod Words
 pub mod Laid
 pub mod Cursor
 pub mod Identifiers
+pub mod Demand

@@ -3,3 +3,5 @@ pub mod Laid
 pub mod Bytes
 pub mod Cursor
 pub mod Identifiers
+pub mod Demand
+pub mod Refusals

@@ -1,4 +1,4 @@
-// The source: the classes of its bytes, the cursor over them, and the identifier at a place.
+// The source: the classes of its bytes, the cursor over them, and the identifier at a place; and the refusal numbers by name.
 // Of the Rust: state/source.rs, and `peek_identifier` of mod.rs. A cursor is a value beside the lent bytes.
 ghost use mathlib.Core.Path.{_≡_};
 ghost use Prim.Native.Nat.{_≤_};
@@ -6,6 +6,33 @@ ghost use lib.ListN.{length};
 ghost use Rattle.source.specs.Bytes.{isDigit, isOctal, isHex, isLetter, isStart, isIdentifier, isBlank};
 ghost use Rattle.source.specs.Cursor.{Reaches, passedByte, passed};
 ghost use Rattle.source.specs.Identifiers.{RunEnd, IdentifierEnd, identifierAt};
+
+// Why a call refuses (document 01, "Refusal numbers").
+pub const UNEXPECTED_END_OF_FILE: u32 = 1;
+
+pub const INVALID_UNICODE_ESCAPE: u32 = 2;
+
+pub const INVALID_OCTAL_ESCAPE: u32 = 3;
+
+pub const INVALID_DOC_INDENTATION: u32 = 4;
+// Neither arrow nor identifier where a property should stand.
+pub const NO_PROPERTY: u32 = 5;
+// More must come before this can be told.
+pub const WAIT: u32 = 6;
+
+pub const LIST_FULL: u32 = 7;
+
+pub const POOL_FULL: u32 = 8;
+// A frame would be the 65th.
+pub const STACK_FULL: u32 = 9;
+// The call does not fit: a skip past the end, a pop of the last frame, a pushed label that is none, a reading without Scripting on top.
+pub const OUT_OF_PLACE: u32 = 10;
+
+pub const TOO_LARGE: u32 = 11;
+
+pub const BAD_SESSION: u32 = 12;
+// Sheet reading: another byte inside the indentation.
+pub const STRAY_INDENTATION: u32 = 13;
 
 // A place in a script. Lines and columns count from 1, columns in bytes; the position counts from 0.
 pub struct Span {

@@ -15,7 +15,7 @@ use Rattle.state.specs.declared.Reading.{Reading}
 use Rattle.state.specs.declared.Session.{Session}
 use Rattle.state.specs.declared.Answer.{Answer}
 use Rattle.state.specs.declared.Turn.{Turn}
-use Rattle.state.specs.Refusals.{stackFull, outOfPlace}
+use Rattle.source.specs.Refusals.{stackFull, outOfPlace}
 use Rattle.state.specs.Bounds.{isFrame, noSlot}
 use Rattle.state.specs.Gates.{gateRefusal}
 

@@ -8,7 +8,7 @@ use lib.Dec.{leb}
 use lib.ListN.{length}
 use Rattle.source.specs.Words.{if_then_else_}
 use Rattle.state.specs.declared.Session.{Session}
-use Rattle.state.specs.Refusals.{tooLarge, badSession}
+use Rattle.source.specs.Refusals.{tooLarge, badSession}
 use Rattle.state.specs.Bounds.{isGood, fitsTables}
 
 abbrev pub checked : Bool → Bool → ℕ

@@ -1,4 +1,3 @@
-pub mod Refusals
 pub mod Bounds
 pub mod Gates
 pub mod Calls

@@ -9,33 +9,6 @@ ghost use Rattle.state.specs.Bounds.{isLabel, isFrame, isBottom, isStack
 ghost use Rattle.state.specs.Gates.{gateRefusal, lentRefusal};
 ghost use Rattle.state.specs.Calls.{spanOf, refused, freshSession, skipped, pushed, popped};
 
-// Why a call refuses (document 01, "Refusal numbers").
-pub const UNEXPECTED_END_OF_FILE: u32 = 1;
-
-pub const INVALID_UNICODE_ESCAPE: u32 = 2;
-
-pub const INVALID_OCTAL_ESCAPE: u32 = 3;
-
-pub const INVALID_DOC_INDENTATION: u32 = 4;
-// Neither arrow nor identifier where a property should stand.
-pub const NO_PROPERTY: u32 = 5;
-// More must come before this can be told.
-pub const WAIT: u32 = 6;
-
-pub const LIST_FULL: u32 = 7;
-
-pub const POOL_FULL: u32 = 8;
-// A frame would be the 65th.
-pub const STACK_FULL: u32 = 9;
-// The call does not fit the session: a skip past the end, a pop of the last frame, a pushed label that is none.
-pub const OUT_OF_PLACE: u32 = 10;
-
-pub const TOO_LARGE: u32 = 11;
-
-pub const BAD_SESSION: u32 = 12;
-// Sheet reading: another byte inside the indentation.
-pub const STRAY_INDENTATION: u32 = 13;
-
 // A text block's label: a range of the source.
 pub struct Label {
     pub start: u16,
@@ -228,13 +201,13 @@ pub fn gate(src: &[u8], s: Session) -> u32
     ensures { λ r. ⌜ r ≡ gateRefusal (now (src .entry)) s ⌝ }
 {
     if 65536 < src.len() {
-        return TOO_LARGE;
+        return source::TOO_LARGE;
     }
     if !is_within(src.len(), s) {
-        return BAD_SESSION;
+        return source::BAD_SESSION;
     }
     if !is_stack(src, s) {
-        return BAD_SESSION;
+        return source::BAD_SESSION;
     }
     0
 }
@@ -244,10 +217,10 @@ pub fn gate_with_tables(src: &[u8], list: usize, pool: usize, s: Session) -> u32
     ensures { λ r. ⌜ r ≡ lentRefusal (now (src .entry)) list pool s ⌝ }
 {
     if 65536 < pool {
-        return TOO_LARGE;
+        return source::TOO_LARGE;
     }
     if 65537 < list / 8 {
-        return TOO_LARGE;
+        return source::TOO_LARGE;
     }
     let alone = gate(src, s);
     if alone != 0 {
@@ -256,10 +229,10 @@ pub fn gate_with_tables(src: &[u8], list: usize, pool: usize, s: Session) -> u32
     let tokens = s.tokens as usize;
     let bytes = s.bytes as usize;
     if list / 8 < tokens {
-        return BAD_SESSION;
+        return source::BAD_SESSION;
     }
     if pool < bytes {
-        return BAD_SESSION;
+        return source::BAD_SESSION;
     }
     0
 }
@@ -292,7 +265,7 @@ pub fn skip(src: &[u8], s: Session, count: usize) -> Turn
     }
     let at = s.position as usize;
     if src.len() - at < count {
-        return refuse(OUT_OF_PLACE, span_of(s), s);
+        return refuse(source::OUT_OF_PLACE, span_of(s), s);
     }
     let end = at + count;
     let p = source::past(&src[at..end], span_of(s));
@@ -315,11 +288,11 @@ pub fn push(src: &[u8], s: Session, f: Frame) -> Turn
         return refuse_at_gate(shut, s);
     }
     if !is_frame(src, f) {
-        return refuse(OUT_OF_PLACE, span_of(s), s);
+        return refuse(source::OUT_OF_PLACE, span_of(s), s);
     }
     let depth = s.depth;
     if 64 <= depth {
-        return refuse(STACK_FULL, span_of(s), s);
+        return refuse(source::STACK_FULL, span_of(s), s);
     }
     let mut t = s;
     let top = depth as usize;
@@ -341,7 +314,7 @@ pub fn pop(src: &[u8], s: Session) -> Turn
     }
     let depth = s.depth;
     if depth <= 1 {
-        return refuse(OUT_OF_PLACE, span_of(s), s);
+        return refuse(source::OUT_OF_PLACE, span_of(s), s);
     }
     let mut t = s;
     t.depth = depth - 1;

@@ -13,14 +13,12 @@ use lib.ListN.{length, take}
 use borrow.Author.Tests.{ltb-true}
 use Rattle.source.specs.Words.{every}
 use Rattle.source.specs.Laid.{laid}
+use Rattle.source.specs.Demand.{isByte}
 use Rattle.source.proofs.Tests.{&&-left, &&-right}
 use Rattle.source.proofs.Laid.{take-laid}
 use Rattle.state.specs.declared.Answer.{Answer}
 use Rattle.token.specs.Files.{littleEndian, fileOf, numberAt, listOf, ToFile, ToList}
 use Rattle.token.proofs.Files.{length-fileOf, length-listOf, fileAnswer-done, written-values, toList-whole}
-
-abbrev pub isByte : ℕ → Bool
-isByte b = ltb b 256
 
 abbrev pub isNumber : ℕ → Bool
 isNumber n = ltb n 4294967296

@@ -16,7 +16,7 @@ use lib.ListN.{length, getD, drop}
 use Rattle.source.specs.Words.{if_then_else_}
 use Rattle.source.specs.Laid.{laid}
 use Rattle.source.specs.Cursor.{origin}
-use Rattle.state.specs.Refusals.{listFull, poolFull, outOfPlace, tooLarge}
+use Rattle.source.specs.Refusals.{listFull, poolFull, outOfPlace, tooLarge}
 use Rattle.state.specs.declared.Answer.{Answer}
 
 unfoldable pub littleEndian : ℕ → List ℕ

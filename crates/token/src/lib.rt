@@ -67,10 +67,10 @@ pub fn room(list: usize, pool: usize, tokens: u32, bytes: u32, count: u32, len: 
     ensures { λ r. ⌜ r ≡ roomRefusal list pool tokens bytes count len ⌝ }
 {
     if list / 8 < tokens as usize + count as usize {
-        return state::LIST_FULL;
+        return source::LIST_FULL;
     }
     if pool < bytes as usize + len as usize {
-        return state::POOL_FULL;
+        return source::POOL_FULL;
     }
     0
 }
@@ -155,13 +155,13 @@ fn to_file_refusal(list: usize, file: usize) -> u32
     ensures { λ r. ⌜ r ≡ toFileRefusal list file ⌝ }
 {
     if 65537 < list / 8 {
-        return state::TOO_LARGE;
+        return source::TOO_LARGE;
     }
     if list % 8 != 0 {
-        return state::OUT_OF_PLACE;
+        return source::OUT_OF_PLACE;
     }
     if file / 32 < list / 8 {
-        return state::POOL_FULL;
+        return source::POOL_FULL;
     }
     0
 }
@@ -171,16 +171,16 @@ fn to_list_refusal(file: usize, list: usize) -> u32
     ensures { λ r. ⌜ r ≡ toListRefusal file list ⌝ }
 {
     if 65537 < file / 32 {
-        return state::TOO_LARGE;
+        return source::TOO_LARGE;
     }
     if 65537 < list / 8 {
-        return state::TOO_LARGE;
+        return source::TOO_LARGE;
     }
     if file % 32 != 0 {
-        return state::OUT_OF_PLACE;
+        return source::OUT_OF_PLACE;
     }
     if list / 8 < file / 32 {
-        return state::LIST_FULL;
+        return source::LIST_FULL;
     }
     0
 }
