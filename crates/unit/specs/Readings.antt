@@ -1,0 +1,111 @@
+-- A text reading: the units from the cursor on, up to the first that is no text (document 01, "Quoted strings", "Modes", "Text blocks").
+--   Reading    the value, what ended it, and from where to where that stands; or a refusal and its place; or wait
+--   collected  the text as it is read, before its last break is looked at
+--   trimmed    without one LF at the end
+--   textAt     what contracts cite: before an interpolation a heredoc's text loses one LF, also one from an escape
+use Prim.Native.Nat.{ℕ, zero, suc, _-_}
+use mathlib.Core.Bool.{Bool, true, false}
+use mathlib.Core.List.{List, [], _∷_, _++_}
+use mathlib.Core.Path.{_≡_, refl}
+use Rattle.source.specs.Refusals.{unexpectedEndOfFile}
+use Rattle.source.specs.Words.{if_then_else_, _is_, bytes}
+use Rattle.source.specs.Bytes.{isBlank, isStart, isIdentifier, isLetter, isDigit}
+use Rattle.unit.specs.declared.Follow.{Follow}
+use Rattle.unit.specs.declared.Indentation.{Indentation}
+use Rattle.unit.specs.declared.Mode.{Mode}
+use Rattle.unit.specs.declared.Stop.{Stop}
+use Rattle.unit.specs.declared.TextUnit.{TextUnit}
+use Rattle.unit.specs.Digits.{digitValue, isScalar, utf8}
+use Rattle.unit.specs.Escapes.{letterValue, fitted, digits, braced, codePoint, escape, quoteEscape}
+use Rattle.unit.specs.Interpolations.{follow, variable, name, dollar}
+use Rattle.unit.specs.Closers.{matched, indented, closer, judged, line}
+use Rattle.unit.specs.Units.{unitAt}
+
+pub data Reading : Type 0 where
+  Text : List ℕ → Stop → ℕ → ℕ → Reading
+  Refused : ℕ → ℕ → Reading
+  Wait : Reading
+
+-- these bytes before the text of what is read behind them
+unfoldable pub onto : List ℕ → Reading → Reading
+onto vs (Text text stop from after) = Text (vs ++ text) stop from after
+onto vs (Refused number place) = Refused number place
+onto vs Wait = Wait
+
+-- a unit, then what is read behind it
+unfoldable pub taken : TextUnit → Reading → Reading
+taken (TextUnit.Byte value after) later = onto (value ∷ []) later
+taken (TextUnit.Point code after) later = onto (utf8 code) later
+taken (TextUnit.Ends stop from after) later = Text [] stop from after
+taken (TextUnit.Fault number place) later = Refused number place
+taken TextUnit.Undecided later = Wait
+
+-- the place behind a unit that is text
+unfoldable pub afterOf : TextUnit → ℕ
+afterOf (TextUnit.Byte value after) = after
+afterOf (TextUnit.Point code after) = after
+afterOf (TextUnit.Ends stop from after) = 0
+afterOf (TextUnit.Fault number place) = 0
+afterOf TextUnit.Undecided = 0
+
+-- from n on, where `skip` bytes of the last unit are still to be passed; a text that is not closed is refusal 1, at the source's end
+unfoldable pub collected : Mode → List ℕ → Bool → ℕ → ℕ → List ℕ → Reading
+collected m label end skip n [] = if end then Refused unexpectedEndOfFile n else Wait
+collected m label end (suc k) n (b ∷ rest) = collected m label end k (suc n) rest
+collected m label end zero n (b ∷ rest) =
+    taken (unitAt m label end n b rest)
+    (collected m label end (afterOf (unitAt m label end n b rest) - suc n) (suc n) rest)
+
+unfoldable pub trimmed : List ℕ → List ℕ
+trimmed [] = []
+trimmed (b ∷ []) = if b is "\n" then [] else b ∷ []
+trimmed (b ∷ c ∷ rest) = b ∷ trimmed (c ∷ rest)
+
+-- whether the text before this stop loses its last break: in a heredoc, before all but its label
+unfoldable pub losesBreak : Mode → Stop → Bool
+losesBreak Mode.Heredoc (Stop.Label ind amount) = false
+losesBreak Mode.Heredoc Stop.Quote = true
+losesBreak Mode.Heredoc Stop.Interpolation = true
+losesBreak Mode.Heredoc Stop.DollarLeftBrace = true
+losesBreak Mode.Heredoc Stop.LeftBrace = true
+losesBreak Mode.Heredoc (Stop.Variable f) = true
+losesBreak Mode.Single stop = false
+losesBreak Mode.Double stop = false
+losesBreak Mode.DoubleQuote stop = false
+losesBreak Mode.ShellExec stop = false
+losesBreak Mode.Nowdoc stop = false
+
+unfoldable pub finished : Mode → Reading → Reading
+finished m (Text text stop from after) = Text (if losesBreak m stop then trimmed text else text) stop from after
+finished m (Refused number place) = Refused number place
+finished m Wait = Wait
+
+-- the reading from the cursor n on
+unfoldable pub textAt : Mode → List ℕ → Bool → ℕ → List ℕ → Reading
+textAt m label end n xs = finished m (collected m label end 0 n xs)
+
+-- worked sheets d to h, l, m and n
+sheet-d : textAt Mode.Single [] true 0 (bytes "a\\'b\\n'") ≡ Text (bytes "a'b\\n") Stop.Quote 6 7
+unfolding textAt finished losesBreak collected taken onto afterOf unitAt quoteEscape bytes
+sheet-d = refl
+
+sheets-e-to-h :
+    (textAt Mode.Double [] true 0 (bytes "\\377\"") ≡ Text (255 ∷ []) Stop.Quote 4 5)
+    × (textAt Mode.Double [] true 0 (bytes "\\400\"") ≡ Refused 3 4)
+    × (textAt Mode.Double [] true 0 (bytes "\\u{20AC}\"") ≡ Text (0xE2 ∷ 0x82 ∷ 0xAC ∷ []) Stop.Quote 8 9)
+    × (textAt Mode.Double [] true 0 (bytes "\\u{}\"") ≡ Refused 2 3)
+    × (textAt Mode.Double [] true 0 (bytes "\\u{110000}\"") ≡ Refused 2 10)
+unfolding textAt finished losesBreak collected taken onto afterOf unitAt escape letterValue digits fitted braced codePoint isScalar digitValue utf8 bytes
+sheets-e-to-h = (refl, refl, refl, refl, refl)
+
+sheet-l : textAt Mode.Nowdoc (bytes "EOT") true 0 (bytes "a\n  EOTX") ≡ Text (bytes "a") (Stop.Label Indentation.Space 2) 4 7
+unfolding textAt finished losesBreak collected taken onto afterOf unitAt line judged matched indented closer isBlank bytes
+sheet-l = refl
+
+sheet-m : textAt Mode.Nowdoc (bytes "EOT") true 0 (bytes "a\n \tEOT") ≡ Refused 4 4
+unfolding textAt finished collected taken onto afterOf unitAt line judged matched indented closer isBlank bytes
+sheet-m = refl
+
+sheet-n : textAt Mode.Heredoc (bytes "x") true 0 (bytes "a\n$x;") ≡ Text (bytes "a") (Stop.Variable Follow.Other) 2 4
+unfolding textAt finished losesBreak trimmed collected taken onto afterOf unitAt line judged matched isBlank dollar name variable follow isStart isIdentifier isLetter isDigit bytes
+sheet-n = refl
