@@ -1,0 +1,4 @@
+pub mod Modes
+pub mod Points
+pub mod Scans
+pub mod Writes

@@ -1,0 +1,10 @@
+-- `text::plain_at` meets its contract: one byte. Assumes nothing.
+use borrow.Author.Needs.{needs}
+use Rattle.text.proofs.Modes.{plain-here}
+use Rattle.text.proofs.plain_at.Statement.{statement}
+use Rattle.text.proofs.plain_at.Tie as tie
+
+pub plain-at-spec : {M : Type 1} → statement M
+plain-at-spec =
+    tie.close
+    (tie.spec (λ c. search needs) (λ c. search plain-here))

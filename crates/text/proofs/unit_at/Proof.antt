@@ -1,0 +1,13 @@
+-- `text::unit_at` meets its contract: each arm of the match is one mode. Assumes nothing.
+use borrow.Author.Needs.{needs}
+use Rattle.text.proofs.Modes.{units}
+use Rattle.text.proofs.unit_at.Statement.{statement}
+use Rattle.text.proofs.unit_at.Tie as tie
+
+pub unit-at-spec : {M : Type 1} → statement M
+unit-at-spec =
+    tie.close
+    (tie.spec (λ c. search needs) (λ c κs. search needs) (λ c. search needs) (λ c κs. search needs)
+    (λ c. search needs) (λ c κs. search needs) (λ c. search needs) (λ c κs. search needs) (λ c. search needs)
+    (λ c κs. search needs) (λ c. search needs) (λ c κs. search needs) (λ c. search units) (λ c. search units)
+    (λ c. search units) (λ c. search units) (λ c. search units) (λ c. search units))
