@@ -1,0 +1,8 @@
+pub mod Digits
+pub mod Values
+pub mod Waiting
+pub mod Runs
+pub mod Extents
+pub mod Writing
+pub mod Closing
+pub mod Manual
