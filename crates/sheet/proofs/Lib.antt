@@ -1,0 +1,9 @@
+pub mod Lines
+pub mod Demand
+pub mod Inside
+pub mod Steps
+pub mod Turns
+pub mod Bodies
+pub mod Scans
+pub mod Parts
+pub mod Writes
