@@ -1,0 +1,34 @@
+//! The reading of a string in double quotes up to its end, or up to an interpolation, which `double_quote` reads.
+
+use cases::{Answer, Case, Change, Frame, Routine};
+
+use super::Reading;
+use crate::pieces::{ESCAPES, INTERPOLATIONS, NO_LABEL, PREFIXES, PROPERTY};
+use crate::text::{self, Ending, INTERPOLATION, QUOTE};
+
+pub const READING: Reading = Reading {
+    routine: Routine::Double,
+    proved,
+    narrow: b"\"\\${}a1478xun",
+    wide: b"\"\\${}[->?a01478exu_\n\r\t \x80",
+    prefixes: PREFIXES,
+    continuations: PROPERTY,
+    calm: &[ESCAPES],
+    ending: &[INTERPOLATIONS],
+    closer: |_| b"\"".to_vec(),
+    labels: NO_LABEL,
+    kinds: &[18, 5],
+    refusals: &[1, 2, 3],
+};
+
+fn proved(case: &Case, end: bool) -> Answer {
+    text::answer(1, ending, case, end)
+}
+
+fn ending(stop: u32) -> Option<Ending> {
+    match stop {
+        QUOTE => Some(Ending::Literal { kind: 18, change: Change::Keep }),
+        INTERPOLATION => Some(Ending::Literal { kind: 5, change: Change::Swap(Frame::DoubleQuote) }),
+        _ => None,
+    }
+}

@@ -1,0 +1,33 @@
+//! The mode between two interpolations of a string in double quotes.
+
+use cases::{Answer, Case, Change, Frame, Routine};
+
+use super::Reading;
+use crate::pieces::{ESCAPES, INTERPOLATIONS, NO_LABEL, PREFIXES, PROPERTY};
+use crate::text::{self, Ending, QUOTE};
+
+pub const READING: Reading = Reading {
+    routine: Routine::DoubleQuote,
+    proved,
+    narrow: b"\"\\${}[->?a7xu_",
+    wide: b"\"\\${}[->?a01478exu_\n\r\t \x80",
+    prefixes: PREFIXES,
+    continuations: PROPERTY,
+    calm: &[ESCAPES],
+    ending: &[INTERPOLATIONS],
+    closer: |_| b"\"".to_vec(),
+    labels: NO_LABEL,
+    kinds: &[6, 7, 8, 10],
+    refusals: &[1, 2, 3],
+};
+
+fn proved(case: &Case, end: bool) -> Answer {
+    text::answer(2, ending, case, end)
+}
+
+fn ending(stop: u32) -> Option<Ending> {
+    match stop {
+        QUOTE => Some(Ending::Token { kind: 8, change: Change::Swap(Frame::Scripting) }),
+        other => text::interpolation(other),
+    }
+}
