@@ -1,19 +1,8 @@
-//! Links the proved readings: the archive that PURETAKOI_ARCHIVE names, else target/staticlib/libprobe.a.
+//! Links the proved readings: target/staticlib/libprobe.a.
 
-use std::env;
-use std::path::PathBuf;
+#[path = "../archive.rs"]
+mod archive;
 
 fn main() {
-    println!("cargo:rerun-if-env-changed=PURETAKOI_ARCHIVE");
-    let package = PathBuf::from(env::var_os("CARGO_MANIFEST_DIR").unwrap());
-    let archive = match env::var_os("PURETAKOI_ARCHIVE") {
-        Some(file) => PathBuf::from(file),
-        None => package.join("../../target/staticlib/libprobe.a"),
-    };
-    let folder = archive.parent().expect("the archive stands in a folder");
-    let stem = archive.file_stem().expect("the archive has a name").to_string_lossy();
-    let name = stem.strip_prefix("lib").expect("the archive's name is libNAME.a");
-    println!("cargo:rerun-if-changed={}", archive.display());
-    println!("cargo:rustc-link-search=native={}", folder.display());
-    println!("cargo:rustc-link-lib=static={}", name);
+    archive::link("probe");
 }

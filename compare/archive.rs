@@ -1,0 +1,19 @@
+//! For build scripts: links the archive that PURETAKOI_ARCHIVE names, else that of a crate in target/staticlib.
+
+use std::env;
+use std::path::PathBuf;
+
+pub fn link(library: &str) {
+    println!("cargo:rerun-if-env-changed=PURETAKOI_ARCHIVE");
+    let package = PathBuf::from(env::var_os("CARGO_MANIFEST_DIR").unwrap());
+    let archive = match env::var_os("PURETAKOI_ARCHIVE") {
+        Some(file) => PathBuf::from(file),
+        None => package.join(format!("../../target/staticlib/lib{}.a", library)),
+    };
+    let folder = archive.parent().expect("the archive stands in a folder");
+    let stem = archive.file_stem().expect("the archive has a name").to_string_lossy();
+    let name = stem.strip_prefix("lib").expect("the archive's name is libNAME.a");
+    println!("cargo:rerun-if-changed={}", archive.display());
+    println!("cargo:rustc-link-search=native={}", folder.display());
+    println!("cargo:rustc-link-lib=static={}", name);
+}
