@@ -6,3 +6,4 @@ pub mod Extents
 pub mod Writing
 pub mod Closing
 pub mod Manual
+pub mod Progress

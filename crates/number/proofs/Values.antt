@@ -132,7 +132,7 @@ module _ (base : Base) where
     before-joined n b c xs (Digits.Read ds after) h p t = taken-skip n b (c ∷ xs) (c ∷ ds) after h (taken-on (suc n) c xs ds after p t)
     before-joined n b c xs Digits.Undecided h p t = t
 
-    digitsMore-taken : (n : ℕ) (xs : List ℕ) → DigitsTaken base end n xs (digitsMore base end n xs)
+    pub digitsMore-taken : (n : ℕ) (xs : List ℕ) → DigitsTaken base end n xs (digitsMore base end n xs)
     unfolding digitsMore
     digitsMore-taken n [] = last-taken n []
     digitsMore-taken n (b ∷ []) =
@@ -217,7 +217,7 @@ module _ (end : Bool) where
       (λ mark. power-taken n b rest mark)
       (λ _. taken-none Base.Decimal n (b ∷ rest))
 
-  fraction-taken : (n : ℕ) (xs : List ℕ) → NumberTaken Base.Decimal end n xs (fraction end n xs)
+  pub fraction-taken : (n : ℕ) (xs : List ℕ) → NumberTaken Base.Decimal end n xs (fraction end n xs)
   unfolding fraction
   fraction-taken n xs = followed-taken Base.Decimal end n xs _ (exponent end) exponent-taken (digits-taken Base.Decimal end n xs)
 
@@ -247,7 +247,7 @@ module _ (end : Bool) where
   decided-taken n xs Ahead.No some none k s t = t
   decided-taken n xs Ahead.Undecided some none k s t = k refl
 
-  tail-taken : (n : ℕ) (xs : List ℕ) → NumberTaken Base.Decimal end n xs (tail end n xs)
+  pub tail-taken : (n : ℕ) (xs : List ℕ) → NumberTaken Base.Decimal end n xs (tail end n xs)
   unfolding tail marked
   tail-taken n [] = closing-taken Base.Decimal end Literal.Integer n [] _ (last-taken Base.Decimal end n [])
   tail-taken n (b ∷ rest) =

@@ -308,9 +308,9 @@ isWait : (r : Reading) → Dec (r ≡ Reading.Wait)
 isWait (Reading.Number literal value after) = no (λ e. let z : Reading.Number literal value after ≡ Reading.Wait = e in let y : _≡_ {A = ℕ} 0 1 = cc in omega arith)
 isWait Reading.Wait = yes refl
 
-pub number-waits : (n : ℕ) → Waits Reading.Wait (numberAt false n) (numberAt true n)
+pub number-waits : (n : ℕ) (part : List ℕ) → Waits Reading.Wait (numberAt false n) (numberAt true n) part
 unfolding every
-number-waits n = waits Reading.Wait (numberAt false n) (numberAt true n) isWait stays opens
+number-waits n part = waits Reading.Wait (numberAt false n) (numberAt true n) part (isWait (numberAt false n part)) (stays part) (opens part)
   where
     stays : (part : List ℕ) → (numberAt false n part ≡ Reading.Wait → ⊥) → (rest : List ℕ) → numberAt true n (part ++ rest) ≡ numberAt false n part
     stays part other rest = fits-stays (numberAt false n part) _ _ (numberAt-fits n _ part refl) other rest

@@ -1,5 +1,5 @@
 -- Demand 3 for the sheet reading:
---   sheet-waits         Label label → Waits Wait (sheetAt label false n) (sheetAt label true n)
+--   sheet-waits         Label label → Waits Wait (sheetAt label false n) (sheetAt label true n) part
 --   sheet-never-waits   with the end announced the reading doesn't wait
 -- What is told of a line stays, and a line with a break is told. So a block that is open misses its closing line where the text
 -- ends, and one byte more misses it a place further on. Assumes nothing.
@@ -264,31 +264,34 @@ module _ (label : List ℕ) (h : Label label) (n : ℕ) where
   sheet-stays part k rest =
       ap (answered (length label) n) (block-stays label h n (lines-append part rest) (λ z. k (rw z)))
 
+  -- an open block is refused where the text ends, and no sheet is refused so anywhere else
+  pub sheet-open : (part : List ℕ) → sheetAt label false n part ≡ Wait → sheetAt label true n part ≡ Refused 1 (n + length part)
+  unfolding sheetAt answered
+  sheet-open part k =
+      rw (block-open label h n (lines-lined part) (answered-wait (length label) n _ k), total-lines part)
+
+  pub sheet-missing : (xs : List ℕ) (p : ℕ) → sheetAt label true n xs ≡ Refused 1 p → p ≡ n + length xs
+  unfolding sheetAt
+  sheet-missing xs p e =
+      omega (arith, block-missing label n (lines xs) p (answered-missing (length label) n _ p e), total-lines xs)
+
   -- the text as it is, and with one byte more
   sheet-apart : (part : List ℕ) → sheetAt label false n part ≡ Wait → Apart (sheetAt label true n) part
-  unfolding sheetAt answered every
+  unfolding every
   sheet-apart part k =
-      let e : block label true n (lines part) ≡ Missing (n + total (lines part)) =
-      block-open label h n (lines-lined part) (answered-wait (length label) n _ k) in
-      let now : sheetAt label true n (part ++ []) ≡ Refused 1 (n + total (lines part)) = rw (append-nil part, e) in
       record {
         one = [];
         two = oneMore;
         one-bytes = refl;
         two-bytes = refl;
         apart = λ z.
-            let m = answered-missing (length label) n (block label true n (lines (part ++ oneMore))) _ (sym z ∙ now) in
-            omega (
-              arith,
-              block-missing label n (lines (part ++ oneMore)) _ m,
-              total-lines part,
-              total-lines (part ++ oneMore),
-              length-append part oneMore,
-            );
+            let now : sheetAt label true n (part ++ []) ≡ Refused 1 (n + length part) = rw append-nil (sheet-open part k) in
+            omega (arith, sheet-missing (part ++ oneMore) (n + length part) (sym z ∙ now), length-append part oneMore);
       }
 
-pub sheet-waits : (label : List ℕ) → Label label → (n : ℕ) → Waits Wait (sheetAt label false n) (sheetAt label true n)
-sheet-waits label h n = waits Wait _ _ is-wait (sheet-stays label h n) (sheet-apart label h n)
+pub sheet-waits : (label : List ℕ) → Label label → (n : ℕ) (part : List ℕ)
+    → Waits Wait (sheetAt label false n) (sheetAt label true n) part
+sheet-waits label h n part = waits Wait _ _ part (is-wait _) (sheet-stays label h n part) (sheet-apart label h n part)
 
 -- ---- with the end announced nothing waits
 

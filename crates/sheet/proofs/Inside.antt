@@ -10,6 +10,7 @@ use mathlib.Core.List.{List, [], _∷_}
 use native.Mathlib.Omega.{arith}
 use lib.Dec.{leb, eqb}
 use lib.ListN.{length, drop, length-append, length-drop}
+use Rattle.source.specs.Refusals.{strayIndentation}
 use Rattle.source.specs.Words.{_is_, run}
 use Rattle.source.specs.Bytes.{isBlank}
 use Rattle.source.proofs.Tests.{choice}
@@ -84,7 +85,7 @@ block-inside label end n hi (line ∷ more) h =
 -- what is left of so many bytes from n on
 abbrev pub TextInside : ℕ → ℕ → Text → Type 0
 TextInside n hi (Kept text) = n + length text ≤ hi
-TextInside n hi (Stray p) = FaultInside n hi p
+TextInside n hi (Stray p) = FaultInside n hi strayIndentation p
 
 pub run-length : (test : ℕ → Bool) (xs : List ℕ) → run test xs ≤ length xs
 unfolding run
@@ -100,13 +101,13 @@ unindented-inside ind n line =
     (λ e. omega (arith, length-drop (ind .width) line))
     (λ e. choice (TextInside n (n + length line)) (isOver (drop blanks line)) _ _
     (λ f. omega (arith, length-drop blanks line))
-    (λ f. record { on = omega arith; inside = omega (arith, run-length (eqb (ind .blank)) line) }))
+    (λ f. record { told = refl; on = omega arith; inside = omega (arith, run-length (eqb (ind .blank)) line) }))
 
 followed-inside : (n m hi : ℕ) (t u : Text) → n ≤ m → m ≤ hi → TextInside n m t → TextInside m hi u → TextInside n hi (followed t u)
 unfolding followed
 followed-inside n m hi (Kept x) (Kept y) h k i j = omega (arith, length-append x y)
-followed-inside n m hi (Kept x) (Stray p) h k i j = record { on = omega (arith, j .on); inside = j .inside }
-followed-inside n m hi (Stray p) u h k i j = record { on = i .on; inside = omega (arith, i .inside) }
+followed-inside n m hi (Kept x) (Stray p) h k i j = record { told = refl; on = omega (arith, j .on); inside = j .inside }
+followed-inside n m hi (Stray p) u h k i j = record { told = refl; on = i .on; inside = omega (arith, i .inside) }
 
 pub body-inside : (ind : Indent) (n : ℕ) (ls : List (List ℕ)) → TextInside n (n + total ls) (bodyText ind n ls)
 unfolding bodyText total
@@ -128,16 +129,16 @@ unbroken-length (b ∷ c ∷ d ∷ rest) = omega (arith, unbroken-length (c ∷ 
 -- ---- the reading
 
 abbrev pub InsideReading : ℕ → ℕ → Reading → Type 0
-InsideReading n hi (Sheet value ind amount place after) = ReadInside n hi value place after
-InsideReading n hi (Refused number place) = FaultInside n hi place
+InsideReading n hi (Sheet value ind amount place after) = ReadInside n hi amount value place after
+InsideReading n hi (Refused number place) = FaultInside n hi number place
 InsideReading n hi Wait = Unit {0}
 
-filled-inside : (n m hi : ℕ) (t : Text) (ind : Indentation) (amount place after : ℕ) → TextInside n m t → m ≤ place → place ≤ after
-    → after ≤ hi → InsideReading n hi (filled t ind amount place after)
+filled-inside : (n m hi : ℕ) (t : Text) (ind : Indentation) (amount place after : ℕ) → TextInside n m t → m + amount ≤ place
+    → place ≤ after → after ≤ hi → InsideReading n hi (filled t ind amount place after)
 unfolding filled
 filled-inside n m hi (Kept text) ind amount place after t h k l =
-    record { narrow = omega (arith, unbroken-length text); order = k; inside = l }
-filled-inside n m hi (Stray p) ind amount place after t h k l = record { on = t .on; inside = omega (arith, t .inside) }
+    record { indented = omega arith; narrow = omega (arith, unbroken-length text); order = k; inside = l }
+filled-inside n m hi (Stray p) ind amount place after t h k l = record { told = refl; on = t .on; inside = omega (arith, t .inside) }
 
 stripped-inside : (size n hi : ℕ) (body : List (List ℕ)) (ind : Indentation) (amount place : ℕ)
     → ClosedInside size n hi body amount place → InsideReading n hi (stripped size n body ind amount place)
@@ -149,12 +150,12 @@ stripped-inside size n hi body Indentation.Space amount place c =
 stripped-inside size n hi body Indentation.Tab amount place c =
     filled-inside n (n + total body) hi _ _ _ _ _ (body-inside _ n body) (omega (arith, c .behind)) (omega arith) (c .inside)
 stripped-inside size n hi body Indentation.Mixed amount place c =
-    record { on = omega (arith, c .behind); inside = omega (arith, c .inside) }
+    record { told = refl; on = omega (arith, c .behind); inside = omega (arith, c .inside) }
 
 answered-inside : (size n hi : ℕ) (b : Block) → n ≤ hi → BlockInside size n hi b → InsideReading n hi (answered size n b)
 unfolding answered
 answered-inside size n hi (Closed body ind amount place) h i = stripped-inside size n hi body ind amount place i
-answered-inside size n hi (Missing place) h i = record { on = omega arith; inside = omega arith }
+answered-inside size n hi (Missing place) h i = record { told = refl; on = omega arith; inside = omega arith }
 answered-inside size n hi Open h i = tt
 
 pub sheet-inside : (label : List ℕ) (end : Bool) (n : ℕ) (xs : List ℕ)

@@ -7,3 +7,4 @@ pub mod Bodies
 pub mod Scans
 pub mod Parts
 pub mod Writes
+pub mod Progress

@@ -5,15 +5,12 @@ use mathlib.Core.List.{List, _++_}
 use Prim.Native.Nat.{ℕ}
 use Rattle.source.specs.Demand.{Apart, Waits}
 
-pub waits : {A : Type 0} (wait : A) (more whole : List ℕ → A) → ((a : A) → Dec (a ≡ wait))
-    → ((part : List ℕ) → (more part ≡ wait → ⊥) → (rest : List ℕ) → whole (part ++ rest) ≡ more part)
-    → ((part : List ℕ) → more part ≡ wait → Apart whole part)
-    → Waits wait more whole
-waits wait more whole dec stays opens = record { exactly = λ part. (opens part, back part); settled = stays }
+pub waits : {A : Type 0} (wait : A) (more whole : List ℕ → A) (part : List ℕ) → Dec (more part ≡ wait)
+    → ((more part ≡ wait → ⊥) → (rest : List ℕ) → whole (part ++ rest) ≡ more part)
+    → (more part ≡ wait → Apart whole part)
+    → Waits wait more whole part
+waits wait more whole part dec stays opens = record { exactly = (opens, back dec); settled = stays }
   where
-    back : (part : List ℕ) → Apart whole part → more part ≡ wait
-    back part x = go (dec (more part))
-      where
-        go : Dec (more part ≡ wait) → more part ≡ wait
-        go (yes h) = h
-        go (no h) = absurd (x .apart (stays part h (x .one) ∙ sym (stays part h (x .two))))
+    back : Dec (more part ≡ wait) → Apart whole part → more part ≡ wait
+    back (yes h) x = h
+    back (no h) x = absurd (x .apart (stays h (x .one) ∙ sym (stays h (x .two))))

@@ -22,6 +22,7 @@ pub record Apart {A : Type 0} (whole : List ℕ → A) (part : List ℕ) : Type 
   pub two-bytes : every isByte two ≡ true
   pub apart : whole (part ++ one) ≡ whole (part ++ two) → ⊥
 
-pub record Waits {A : Type 0} (wait : A) (more whole : List ℕ → A) : Type 0 where
-  pub exactly : (part : List ℕ) → (more part ≡ wait) ↔ Apart whole part
-  pub settled : (part : List ℕ) → (more part ≡ wait → ⊥) → (rest : List ℕ) → whole (part ++ rest) ≡ more part
+-- of one part
+pub record Waits {A : Type 0} (wait : A) (more whole : List ℕ → A) (part : List ℕ) : Type 0 where
+  pub exactly : (more part ≡ wait) ↔ Apart whole part
+  pub settled : (more part ≡ wait → ⊥) → (rest : List ℕ) → whole (part ++ rest) ≡ more part

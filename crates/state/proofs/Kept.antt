@@ -1,6 +1,8 @@
 -- What the host's calls keep: a refusal gives back the session, and a good session stays good. Assumes nothing.
 --   Kept, skip-kept, push-kept, pop-kept            a refused call gives back the session that was passed (demand 1)
 --   Stays, skip-stays, push-stays, pop-stays        what a call makes of a good session is good, and its marks are the same
+--   good-numbers, good-bottom, good-slots           what a good session is, fact by fact
+--   moved-good, entered-good, left-good             a good session at another place, with a frame more, with a frame less
 --   fresh-good                                      a fresh session is good, for every source
 use Prim.Native.Nat.{ℕ, _+_, _-_, _≤_, _<_}
 use mathlib.Core.Path.{_≡_, refl}
@@ -67,23 +69,23 @@ gated-stays src number s t k = choice (Stays src s) (eqb number 0) t (refused nu
 
 -- a session is good where its numbers and its frames are
 module _ (src : List ℕ) (s : Session) (e : isGood src s ≡ true) where
-  good-numbers : Within (length src) s
+  pub good-numbers : Within (length src) s
   unfolding isGood
   good-numbers = isWithin-facts (length src) s (&&-left (isWithin (length src) s) (isStack src s) e)
 
-  good-frames : isStack src s ≡ true
+  pub good-frames : isStack src s ≡ true
   unfolding isGood
   good-frames = &&-right (isWithin (length src) s) (isStack src s) e
 
-  good-bottom : isBottom (getD (s .frames) 0 noSlot .frame) ≡ true
+  pub good-bottom : isBottom (getD (s .frames) 0 noSlot .frame) ≡ true
   unfolding isStack
   good-bottom = &&-left (isBottom (getD (s .frames) 0 noSlot .frame)) (every (isSlot src) (take (s .depth) (s .frames))) good-frames
 
-  good-slots : every (isSlot src) (take (s .depth) (s .frames)) ≡ true
+  pub good-slots : every (isSlot src) (take (s .depth) (s .frames)) ≡ true
   unfolding isStack
   good-slots = &&-right (isBottom (getD (s .frames) 0 noSlot .frame)) (every (isSlot src) (take (s .depth) (s .frames))) good-frames
 
-  moved-good : (count : ℕ) → s .position + count ≤ length src → isGood src (moved s (passed (spanOf s) (take count (drop (s .position) src)))) ≡ true
+  pub moved-good : (count : ℕ) → s .position + count ≤ length src → isGood src (moved s (passed (spanOf s) (take count (drop (s .position) src)))) ≡ true
   unfolding isGood isStack
   moved-good count h =
       let w = good-numbers in
@@ -104,7 +106,7 @@ module _ (src : List ℕ) (s : Session) (e : isGood src s ≡ true) where
       }))
       good-frames
 
-  entered-good : (f : Frame) → isFrame src f ≡ true → s .depth < 64 → isGood src (entered s f) ≡ true
+  pub entered-good : (f : Frame) → isFrame src f ≡ true → s .depth < 64 → isGood src (entered s f) ≡ true
   unfolding isGood isStack
   entered-good f g h =
       let same : getD (set (s .frames) (s .depth) (record { frame = f })) 0 noSlot ≡ getD (s .frames) 0 noSlot = getD-set-other (s .frames) (s .depth) 0 _ noSlot (λ (z : 0 ≡ s .depth). omega (arith, good-numbers .depth-low)) in
@@ -112,7 +114,7 @@ module _ (src : List ℕ) (s : Session) (e : isGood src s ≡ true) where
       &&-both _ _ (within-isWithin (length src) (entered s f) (within-deep (length src) s (entered s f) good-numbers refl refl refl (omega arith) (omega arith)))
       (&&-both _ _ bottom (every-set (isSlot src) (s .frames) (s .depth) (record { frame = f }) good-slots g))
 
-  left-good : 1 < s .depth → isGood src (left s) ≡ true
+  pub left-good : 1 < s .depth → isGood src (left s) ≡ true
   unfolding isGood isStack
   left-good h =
       &&-both _ _ (within-isWithin (length src) (left s) (within-deep (length src) s (left s) good-numbers refl refl refl (omega arith) (omega (arith, good-numbers .depth-high))))

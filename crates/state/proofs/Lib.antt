@@ -2,3 +2,4 @@ pub mod Bounds
 pub mod Gates
 pub mod Calls
 pub mod Kept
+pub mod Longer

@@ -1,16 +1,18 @@
 -- Demand 3 for the six text readings:
---   text-waits         Labelled m label → Waits Wait (textAt m label false n) (textAt m label true n)
+--   text-waits         Labelled m label → Waits Wait (textAt m label false n) (textAt m label true n) part
 --   text-never-waits   with the end announced no reading waits
 -- From Stays (what is told stays) and Opens (what is not told has two continuations). Two readings are told apart by their
 -- endings, the text left out: so neither bytes before a text nor a heredoc's lost break matter. Assumes nothing.
+--   text-endings       a wait has two continuations apart by their endings, where each frame that is entered is the 65th, too
 use mathlib.Core.Path.{_≡_, refl, ap, sym, _∙_}
 use mathlib.Core.Bool.{Bool, true, false}
 use mathlib.Core.List.{List, [], _∷_, _++_, append-nil}
 use Prim.Native.Nat.{ℕ, zero, suc, _+_, _-_}
 use native.Mathlib.Omega.{arith}
 use lib.ListN.{length, length-append}
-use Rattle.source.specs.Words.{every}
+use Rattle.source.specs.Words.{if_then_else_, every}
 use Rattle.source.specs.Demand.{Apart, Waits}
+use Rattle.source.specs.Refusals.{stackFull}
 use Rattle.source.proofs.Demand.{waits}
 use Rattle.unit.specs.declared.Follow.{Follow}
 use Rattle.unit.specs.declared.Mode.{Mode}
@@ -66,23 +68,34 @@ module _ (m : Mode) (label : List ℕ) (h : Labelled m label) where
 
 -- ---- a wait has two continuations apart
 
--- what a reading comes to, its text left out
-abbrev ending : Reading → Reading
-ending (Text text stop from after) = Text [] stop from after
-ending (Refused number place) = Refused number place
-ending Wait = Wait
+-- whether a frame is entered at a stop
+abbrev pub enters : Stop → Bool
+enters Stop.DollarLeftBrace = true
+enters Stop.LeftBrace = true
+enters (Stop.Variable Follow.Offset) = true
+enters (Stop.Variable Follow.Property) = true
+enters (Stop.Variable Follow.Other) = false
+enters Stop.Quote = false
+enters Stop.Interpolation = false
+enters (Stop.Label ind amount) = false
 
-ending-onto : (vs : List ℕ) (r : Reading) → ending (onto vs r) ≡ ending r
+-- what a reading comes to where no frame may be entered: a refusal and its place, be it of a 65th frame, at q; of a text nothing else
+abbrev pub ending : ℕ → Reading → Reading
+ending q (Text text stop from after) = if enters stop then Refused stackFull q else Text [] Stop.Quote 0 0
+ending q (Refused number place) = Refused number place
+ending q Wait = Wait
+
+ending-onto : (q : ℕ) (vs : List ℕ) (r : Reading) → ending q (onto vs r) ≡ ending q r
 unfolding onto
-ending-onto vs (Text text stop from after) = refl
-ending-onto vs (Refused number place) = refl
-ending-onto vs Wait = refl
+ending-onto q vs (Text text stop from after) = refl
+ending-onto q vs (Refused number place) = refl
+ending-onto q vs Wait = refl
 
-ending-finished : (m : Mode) (r : Reading) → ending (finished m r) ≡ ending r
+ending-finished : (q : ℕ) (m : Mode) (r : Reading) → ending q (finished m r) ≡ ending q r
 unfolding finished
-ending-finished m (Text text stop from after) = refl
-ending-finished m (Refused number place) = refl
-ending-finished m Wait = refl
+ending-finished q m (Text text stop from after) = refl
+ending-finished q m (Refused number place) = refl
+ending-finished q m Wait = refl
 
 -- a byte that stands for itself
 pub unit-plain : (m : Mode) (label : List ℕ) (end : Bool) (n b : ℕ) (rest : List ℕ) → Plainly b
@@ -100,9 +113,9 @@ record Lost (r : Reading) (q : ℕ) : Type 0 where
   number : ℕ
   refused : r ≡ Refused number q
 
-lost-apart : (r r′ : Reading) (q q′ : ℕ) → Lost r q → Lost r′ q′ → (q ≡ q′ → ⊥) → ending r ≡ ending r′ → ⊥
-lost-apart r r′ q q′ x y n e =
-    let z : Refused (x .number) q ≡ Refused (y .number) q′ = sym (ap ending (x .refused)) ∙ e ∙ ap ending (y .refused) in
+lost-apart : (p : ℕ) (r r′ : Reading) (q q′ : ℕ) → Lost r q → Lost r′ q′ → (q ≡ q′ → ⊥) → ending p r ≡ ending p r′ → ⊥
+lost-apart p r r′ q q′ x y n e =
+    let z : Refused (x .number) q ≡ Refused (y .number) q′ = sym (ap (ending p) (x .refused)) ∙ e ∙ ap (ending p) (y .refused) in
     n cc
 
 taken-falls : (ys : List ℕ) (u : TextUnit) (r : Reading) (q : ℕ) → Falls ys u q → (Quiet ys → r ≡ Refused 1 q)
@@ -111,24 +124,28 @@ unfolding taken onto
 taken-falls ys u r q (byte {value = v} k) e = record { number = 1; refused = ap (onto (v ∷ [])) (e k) }
 taken-falls ys u r q (fault {number = i}) e = record { number = i; refused = refl }
 
-final-apart : (u : TextUnit) (r : Reading) (q : ℕ) → Final u → ending (taken u r) ≡ Refused 1 q → ⊥
+final-apart : (p : ℕ) (u : TextUnit) (r : Reading) (q : ℕ) → Final u → ending p (taken u r) ≡ Refused 1 q → ⊥
 unfolding taken
-final-apart u r q (ends {stop = s} {from = f} {after = a}) e =
-    let z : Text [] s f a ≡ Refused 1 q = e in
-    clash cc
-final-apart u r q (crooked {place = p}) e =
-    let z : Refused 4 p ≡ Refused 1 q = e in
+final-apart p u r q (ends {stop = s} {from = f} {after = a}) e = go (enters s) e
+  where
+    go : (t : Bool) → (if t then Refused stackFull p else Text [] Stop.Quote 0 0) ≡ Refused 1 q → ⊥
+    go true z =
+        let y : _≡_ {A = ℕ} 9 1 = cc in
+        omega arith
+    go false z = clash cc
+final-apart p u r q (crooked {place = k}) e =
+    let z : Refused 4 k ≡ Refused 1 q = e in
     let y : _≡_ {A = ℕ} 4 1 = cc in
     omega arith
 
-follows-apart : (from after : ℕ)
-    → Text [] (Stop.Variable Follow.Other) from after ≡ Text [] (Stop.Variable Follow.Property) from after → ⊥
-follows-apart from after e = clash cc
+follows-apart : (p : ℕ) → Text [] Stop.Quote 0 0 ≡ Refused stackFull p → ⊥
+follows-apart p e = clash cc
 
-module _ (m : Mode) (label : List ℕ) where
+-- a 65th frame is refused at p
+module _ (m : Mode) (label : List ℕ) (p : ℕ) where
   -- the ending of what is read from n on, where so many bytes are to be passed
   abbrev endingAt : ℕ → ℕ → List ℕ → Reading
-  endingAt skip n ys = ending (collected m label true skip n ys)
+  endingAt skip n ys = ending p (collected m label true skip n ys)
 
   quiet-lost : (skip n : ℕ) (ys : List ℕ) → Quiet ys → collected m label true skip n ys ≡ Refused 1 (n + length ys)
   unfolding collected taken onto afterOf
@@ -165,7 +182,7 @@ module _ (m : Mode) (label : List ℕ) where
         one-bytes = refl;
         two-bytes = refl;
         apart =
-            lost-apart _ _ _ _ (falls-lost n b (xs ++ []) (rw append-nil x))
+            lost-apart p _ _ _ _ (falls-lost n b (xs ++ []) (rw append-nil x))
             (falls-lost n b (xs ++ oneMore) (falls-at (omega (arith, length-append xs oneMore)) y))
             (λ e. omega (arith, length-append xs oneMore, ap length (append-nil xs)));
       }
@@ -181,9 +198,9 @@ module _ (m : Mode) (label : List ℕ) where
         one-bytes = refl;
         two-bytes = x .more-bytes;
         apart = λ e.
-            let p = stop-read n b (xs ++ []) (Stop.Variable Follow.Other) (x .from) (x .after) (rw append-nil (x .now)) in
-            let q = stop-read n b (xs ++ x .more) (Stop.Variable Follow.Property) (x .from) (x .after) (x .later) in
-            follows-apart (x .from) (x .after) (sym (ap ending p) ∙ e ∙ ap ending q);
+            let now = stop-read n b (xs ++ []) (Stop.Variable Follow.Other) (x .from) (x .after) (rw append-nil (x .now)) in
+            let later = stop-read n b (xs ++ x .more) (Stop.Variable Follow.Property) (x .from) (x .after) (x .later) in
+            follows-apart p (sym (ap (ending p) now) ∙ e ∙ ap (ending p) later);
       }
   opening-apart n b xs (closes {value} {after} more k q x y) =
       record {
@@ -193,7 +210,7 @@ module _ (m : Mode) (label : List ℕ) where
         two-bytes = k;
         apart = λ e.
             let r = byte-lost n b (xs ++ []) {value = value} {after = after} (rw append-nil x) (rw append-nil q) in
-            final-apart _ _ _ y (sym e ∙ ap ending r);
+            final-apart p _ _ _ y (sym e ∙ ap (ending p) r);
       }
 
   -- bytes of text before the rest
@@ -208,7 +225,7 @@ module _ (m : Mode) (label : List ℕ) where
         one-bytes = x .one-bytes;
         two-bytes = x .two-bytes;
         apart =
-            λ e. x .apart (sym (ap ending (s (x .one)) ∙ ending-onto vs _) ∙ e ∙ ap ending (s (x .two)) ∙ ending-onto vs _);
+            λ e. x .apart (sym (ap (ending p) (s (x .one)) ∙ ending-onto p vs _) ∙ e ∙ ap (ending p) (s (x .two)) ∙ ending-onto p vs _);
       }
 
   end-apart : (skip n : ℕ) → Apart (endingAt skip n) []
@@ -220,7 +237,7 @@ module _ (m : Mode) (label : List ℕ) where
         one-bytes = refl;
         two-bytes = refl;
         apart =
-            lost-apart _ _ _ _ (record {
+            lost-apart p _ _ _ _ (record {
               number =
                   1;
               refused =
@@ -229,11 +246,11 @@ module _ (m : Mode) (label : List ℕ) where
             (λ e. omega arith);
       }
 
-module _ (m : Mode) (label : List ℕ) (h : Labelled m label) where
+module _ (m : Mode) (label : List ℕ) (h : Labelled m label) (p : ℕ) where
   collected-waits : (skip n : ℕ) (xs : List ℕ) → collected m label false skip n xs ≡ Wait
-      → Apart (endingAt m label skip n) xs
+      → Apart (endingAt m label p skip n) xs
   unfolding collected taken afterOf
-  collected-waits skip n [] k = end-apart m label skip n
+  collected-waits skip n [] k = end-apart m label p skip n
   collected-waits (suc j) n (b ∷ xs) k =
       let x = collected-waits j (suc n) xs k in
       record { one = x .one; two = x .two; one-bytes = x .one-bytes; two-bytes = x .two-bytes; apart = x .apart }
@@ -244,17 +261,17 @@ module _ (m : Mode) (label : List ℕ) (h : Labelled m label) where
     where
       go : (u : TextUnit) → ((more : List ℕ) → Stays TextUnit.Undecided u (unitAt m label true n b (xs ++ more)))
           → (u ≡ TextUnit.Undecided → Opening (suc n) xs (unitAt m label true n b))
-          → ((j : ℕ) → collected m label false j (suc n) xs ≡ Wait → Apart (endingAt m label j (suc n)) xs)
-          → taken u (collected m label false (afterOf u - suc n) (suc n) xs) ≡ Wait → Apart (endingAt m label 0 n) (b ∷ xs)
+          → ((j : ℕ) → collected m label false j (suc n) xs ≡ Wait → Apart (endingAt m label p j (suc n)) xs)
+          → taken u (collected m label false (afterOf u - suc n) (suc n) xs) ≡ Wait → Apart (endingAt m label p 0 n) (b ∷ xs)
       go (TextUnit.Byte v a) s o ih z =
-          onto-apart m label n b xs (v ∷ []) (a - suc n) (λ more. rw (s more byte-told))
+          onto-apart m label p n b xs (v ∷ []) (a - suc n) (λ more. rw (s more byte-told))
           (ih (a - suc n) (wait-onto (v ∷ []) _ z))
       go (TextUnit.Point c a) s o ih z =
-          onto-apart m label n b xs (utf8 c) (a - suc n) (λ more. rw (s more point-told))
+          onto-apart m label p n b xs (utf8 c) (a - suc n) (λ more. rw (s more point-told))
           (ih (a - suc n) (wait-onto (utf8 c) _ z))
       go (TextUnit.Ends stop from after) s o ih z = clash cc
       go (TextUnit.Fault number place) s o ih z = clash cc
-      go TextUnit.Undecided s o ih z = opening-apart m label n b xs (o refl)
+      go TextUnit.Undecided s o ih z = opening-apart m label p n b xs (o refl)
 
 is-wait : (r : Reading) → Dec (r ≡ Wait)
 is-wait (Text text stop from after) = no (λ (z : Text text stop from after ≡ Wait). clash cc)
@@ -273,21 +290,34 @@ module _ (m : Mode) (label : List ℕ) (h : Labelled m label) (n : ℕ) where
   unfolding textAt finished
   text-stays part k rest = ap (finished m) (collected-stays m label h 0 n part rest (λ z. k (rw z)))
 
-  text-apart : (part : List ℕ) → textAt m label false n part ≡ Wait → Apart (textAt m label true n) part
+  -- apart by their endings
+  pub text-endings : (p : ℕ) (part : List ℕ) → textAt m label false n part ≡ Wait
+      → Apart (λ xs. ending p (textAt m label true n xs)) part
   unfolding textAt
-  text-apart part k =
-      let x = collected-waits m label h 0 n part (finished-wait m _ k) in
+  text-endings p part k =
+      let x = collected-waits m label h p 0 n part (finished-wait m _ k) in
       record {
         one = x .one;
         two = x .two;
         one-bytes = x .one-bytes;
         two-bytes = x .two-bytes;
-        apart = λ e. x .apart (sym (ending-finished m _) ∙ ap ending e ∙ ending-finished m _);
+        apart = λ e. x .apart (sym (ending-finished p m _) ∙ e ∙ ending-finished p m _);
+      }
+
+  text-apart : (part : List ℕ) → textAt m label false n part ≡ Wait → Apart (textAt m label true n) part
+  text-apart part k =
+      let x = text-endings n part k in
+      record {
+        one = x .one;
+        two = x .two;
+        one-bytes = x .one-bytes;
+        two-bytes = x .two-bytes;
+        apart = λ e. x .apart (ap (ending n) e);
       }
 
   -- demand 3, from the position n on
-  pub text-waits : Waits Wait (textAt m label false n) (textAt m label true n)
-  text-waits = waits Wait _ _ is-wait text-stays text-apart
+  pub text-waits : (part : List ℕ) → Waits Wait (textAt m label false n) (textAt m label true n) part
+  text-waits part = waits Wait _ _ part (is-wait _) (text-stays part) (text-apart part)
 
 -- ---- with the end announced nothing waits
 

@@ -12,6 +12,7 @@ use Prim.Native.Nat.{ℕ, zero, suc, _+_, _-_, _*_, _≤_, _<_}
 use native.Mathlib.Omega.{arith}
 use lib.Dec.{ltb, eqb}
 use lib.ListN.{length, drop, length-append}
+use Rattle.source.specs.Refusals.{wait}
 use Rattle.source.specs.Words.{if_then_else_, _is_}
 use Rattle.source.specs.Bytes.{isStart, isIdentifier, isBlank}
 use Rattle.source.proofs.Tests.{choice}
@@ -19,6 +20,7 @@ use Rattle.unit.specs.declared.Indentation.{Indentation}
 use Rattle.unit.specs.declared.Look.{Look}
 use Rattle.unit.specs.declared.Match.{Match}
 use Rattle.unit.specs.declared.Mode.{Mode}
+use Rattle.unit.specs.declared.Stop.{Stop}
 use Rattle.unit.specs.declared.TextUnit.{TextUnit}
 use Rattle.unit.specs.Digits.{digitValue, isScalar, utf8}
 use Rattle.unit.specs.Escapes.{letterValue, fitted, digits, hex, codePoint, braced, escape, quoteEscape}
@@ -35,12 +37,24 @@ pub record TextInside (n hi width after : ℕ) : Type 0 where
   pub inside : after ≤ hi
   pub narrow : n + width ≤ after
 
-pub record StopInside (n hi from after : ℕ) : Type 0 where
+-- the amount of indentation before a stop
+abbrev pub amountOf : Stop → ℕ
+amountOf (Stop.Label ind amount) = amount
+amountOf Stop.Quote = 0
+amountOf Stop.Interpolation = 0
+amountOf Stop.DollarLeftBrace = 0
+amountOf Stop.LeftBrace = 0
+amountOf (Stop.Variable f) = 0
+
+pub record StopInside (n hi amount from after : ℕ) : Type 0 where
   pub on : n ≤ from
+  pub indented : amount ≤ from
   pub order : from ≤ after
   pub inside : after ≤ hi
 
-pub record FaultInside (n hi place : ℕ) : Type 0 where
+-- a refusal, which is not the wait
+pub record FaultInside (n hi number place : ℕ) : Type 0 where
+  pub told : eqb number wait ≡ false
   pub on : n ≤ place
   pub inside : place ≤ hi
 
@@ -48,8 +62,8 @@ pub record FaultInside (n hi place : ℕ) : Type 0 where
 abbrev pub Inside : ℕ → ℕ → TextUnit → Type 0
 Inside n hi (TextUnit.Byte value after) = TextInside n hi 1 after
 Inside n hi (TextUnit.Point code after) = TextInside n hi (length (utf8 code)) after
-Inside n hi (TextUnit.Ends stop from after) = StopInside n hi from after
-Inside n hi (TextUnit.Fault number place) = FaultInside n hi place
+Inside n hi (TextUnit.Ends stop from after) = StopInside n hi (amountOf stop) from after
+Inside n hi (TextUnit.Fault number place) = FaultInside n hi number place
 Inside n hi TextUnit.Undecided = Unit {0}
 
 abbrev AtMostFour : List ℕ → Type 0
@@ -82,17 +96,20 @@ module _ (n hi : ℕ) where
   byte-inside : {after : ℕ} → n < after → after ≤ hi → TextInside n hi 1 after
   byte-inside x y = record { on = x; inside = y; narrow = omega arith }
 
-  stop-inside : {from after : ℕ} → n ≤ from → from ≤ after → after ≤ hi → StopInside n hi from after
-  stop-inside x y z = record { on = x; order = y; inside = z }
+  stop-inside : {from after : ℕ} → n ≤ from → from ≤ after → after ≤ hi → StopInside n hi 0 from after
+  stop-inside x y z = record { on = x; indented = omega arith; order = y; inside = z }
 
-  fault-inside : {place : ℕ} → n ≤ place → place ≤ hi → FaultInside n hi place
-  fault-inside x y = record { on = x; inside = y }
+  label-inside : {amount from after : ℕ} → n ≤ from → amount ≤ from → from ≤ after → after ≤ hi → StopInside n hi amount from after
+  label-inside x w y z = record { on = x; indented = w; order = y; inside = z }
+
+  fault-inside : {number place : ℕ} → eqb number wait ≡ false → n ≤ place → place ≤ hi → FaultInside n hi number place
+  fault-inside k x y = record { told = k; on = x; inside = y }
 
   -- ---- escapes
 
   fitted-inside : (value p : ℕ) → n < p → p ≤ hi → Inside n hi (fitted value p)
   unfolding fitted
-  fitted-inside value p x y = if-inside (ltb value 256) _ _ (byte-inside x y) (fault-inside (omega arith) y)
+  fitted-inside value p x y = if-inside (ltb value 256) _ _ (byte-inside x y) (fault-inside refl (omega arith) y)
 
   digits-inside : (end : Bool) (base left value p : ℕ) (xs : List ℕ) → n < p → p + length xs ≤ hi
       → Inside n hi (digits end base left value p xs)
@@ -115,15 +132,15 @@ module _ (n hi : ℕ) where
   codePoint-inside : (end some : Bool) (value p : ℕ) (xs : List ℕ) → n + 3 ≤ p → p + length xs ≤ hi
       → Inside n hi (codePoint end some value p xs)
   unfolding codePoint
-  codePoint-inside end some value p [] x y = if-inside end _ _ (fault-inside (omega arith) (omega arith)) tt
+  codePoint-inside end some value p [] x y = if-inside end _ _ (fault-inside refl (omega arith) (omega arith)) tt
   codePoint-inside end some value p (b ∷ xs) x y =
       if-inside (ltb (digitValue b) 16) _ _
       (codePoint-inside end true (value * 16 + digitValue b) (suc p) xs (omega arith) (omega arith))
       (if-inside (some && b is "}") _ _
       (if-inside (isScalar value) _ _
       (record { on = omega arith; inside = omega arith; narrow = omega (arith, utf8-length value) })
-      (fault-inside (omega arith) (omega arith)))
-      (fault-inside (omega arith) (omega arith)))
+      (fault-inside refl (omega arith) (omega arith)))
+      (fault-inside refl (omega arith) (omega arith)))
 
   braced-inside : (end : Bool) (p : ℕ) (xs : List ℕ) → n < p → suc p + length xs ≤ hi → Inside n hi (braced end p xs)
   unfolding braced
@@ -195,13 +212,13 @@ module _ (n hi : ℕ) where
 
   -- ---- closers
 
-  closer-inside : (size : ℕ) (ind : Indentation) (amount p : ℕ) → n ≤ p → p + size ≤ hi
+  closer-inside : (size : ℕ) (ind : Indentation) (amount p : ℕ) → n ≤ p → amount ≤ p → p + size ≤ hi
       → Inside n hi (closer size ind amount p)
   unfolding closer
-  closer-inside size Indentation.None amount p x y = stop-inside x (omega arith) y
-  closer-inside size Indentation.Space amount p x y = stop-inside x (omega arith) y
-  closer-inside size Indentation.Tab amount p x y = stop-inside x (omega arith) y
-  closer-inside size Indentation.Mixed amount p x y = fault-inside x (omega arith)
+  closer-inside size Indentation.None amount p x w y = label-inside x w (omega arith) y
+  closer-inside size Indentation.Space amount p x w y = label-inside x w (omega arith) y
+  closer-inside size Indentation.Tab amount p x w y = label-inside x w (omega arith) y
+  closer-inside size Indentation.Mixed amount p x w y = fault-inside refl x (omega arith)
 
   module _ (label : List ℕ) (end : Bool) where
     judged-inside : (ind : Indentation) (amount : ℕ) (ys : List ℕ) → suc n + amount + length ys ≤ hi
@@ -211,7 +228,7 @@ module _ (n hi : ℕ) where
       where
         go : (m : Match) → (m ≡ Match.Whole → length label ≤ length ys)
             → Inside n hi (judged m end n (closer (length label) ind amount (suc n + amount)))
-        go Match.Whole h = closer-inside (length label) ind amount (suc n + amount) (omega arith) (omega (arith, h refl))
+        go Match.Whole h = closer-inside (length label) ind amount (suc n + amount) (omega arith) (omega arith) (omega (arith, h refl))
         go Match.Other h = byte-inside (omega arith) (omega arith)
         go Match.Undecided h = if-inside end _ _ (byte-inside (omega arith) (omega arith)) tt
 
@@ -233,7 +250,7 @@ module _ (n b : ℕ) (rest : List ℕ) where
   itself : TextInside n (n + 1 + length rest) 1 (suc n)
   itself = byte-inside n (n + 1 + length rest) (omega arith) (omega arith)
 
-  quote-inside : StopInside n (n + 1 + length rest) n (suc n)
+  quote-inside : StopInside n (n + 1 + length rest) 0 n (suc n)
   quote-inside = stop-inside n (n + 1 + length rest) (omega arith) (omega arith) (omega arith)
 
   pub unit-inside : (m : Mode) (label : List ℕ) (end : Bool) → Inside n (n + 1 + length rest) (unitAt m label end n b rest)
@@ -298,15 +315,16 @@ module _ (m : Mode) (label : List ℕ) (end : Bool) where
       go (TextUnit.Fault number place) x = refl
       go TextUnit.Undecided x = refl
 
--- a text that is read from n on, and what ends it, lie before hi; it has no more bytes than stand between n and what ends it
-pub record ReadInside (n hi : ℕ) (text : List ℕ) (from after : ℕ) : Type 0 where
+-- a text that is read from n on, and what ends it behind so much indentation, lie before hi; it has no more bytes than stand between n and what ends it
+pub record ReadInside (n hi amount : ℕ) (text : List ℕ) (from after : ℕ) : Type 0 where
+  pub indented : amount ≤ from
   pub narrow : n + length text ≤ from
   pub order : from ≤ after
   pub inside : after ≤ hi
 
 abbrev pub InsideReading : ℕ → ℕ → Reading → Type 0
-InsideReading n hi (Text text stop from after) = ReadInside n hi text from after
-InsideReading n hi (Refused number place) = FaultInside n hi place
+InsideReading n hi (Text text stop from after) = ReadInside n hi (amountOf stop) text from after
+InsideReading n hi (Refused number place) = FaultInside n hi number place
 InsideReading n hi Wait = Unit {0}
 
 -- bytes before a text, of a unit that has as many or more
@@ -314,8 +332,8 @@ onto-inside : (n after hi : ℕ) (vs : List ℕ) (r : Reading) → n + length vs
     → InsideReading n hi (onto vs r)
 unfolding onto
 onto-inside n after hi vs (Text text stop from to) h x =
-    record { narrow = omega (arith, length-append vs text); order = x .order; inside = x .inside }
-onto-inside n after hi vs (Refused number place) h x = record { on = omega arith; inside = x .inside }
+    record { indented = x .indented; narrow = omega (arith, length-append vs text); order = x .order; inside = x .inside }
+onto-inside n after hi vs (Refused number place) h x = record { told = x .told; on = omega arith; inside = x .inside }
 onto-inside n after hi vs Wait h x = tt
 
 module _ (m : Mode) (label : List ℕ) (end : Bool) (hi : ℕ) where
@@ -323,7 +341,7 @@ module _ (m : Mode) (label : List ℕ) (end : Bool) (hi : ℕ) where
       → InsideReading (n + skip) hi (collected m label end skip n xs)
   unfolding collected taken afterOf
   collected-inside skip n [] h y =
-      choice (InsideReading (n + skip) hi) end _ _ (λ e. record { on = omega arith; inside = omega arith }) (λ e. tt)
+      choice (InsideReading (n + skip) hi) end _ _ (λ e. record { told = refl; on = omega arith; inside = omega arith }) (λ e. tt)
   collected-inside (suc k) n (b ∷ xs) h y =
       let z : suc n + k ≡ n + suc k = omega arith in
       rw z at (collected-inside k (suc n) xs (omega arith) (omega arith))
@@ -341,8 +359,8 @@ module _ (m : Mode) (label : List ℕ) (end : Bool) (hi : ℕ) where
           → InsideReading (n + 0) hi (taken u (collected m label end (afterOf u - suc n) (suc n) xs))
       go (TextUnit.Byte value after) x ih = later (value ∷ []) after x ih
       go (TextUnit.Point code after) x ih = later (utf8 code) after x ih
-      go (TextUnit.Ends stop from after) x ih = record { narrow = omega arith; order = x .order; inside = omega arith }
-      go (TextUnit.Fault number place) x ih = record { on = omega arith; inside = omega arith }
+      go (TextUnit.Ends stop from after) x ih = record { indented = x .indented; narrow = omega arith; order = x .order; inside = omega arith }
+      go (TextUnit.Fault number place) x ih = record { told = x .told; on = omega arith; inside = omega arith }
       go TextUnit.Undecided x ih = tt
 
 trimmed-length : (text : List ℕ) → length (trimmed text) ≤ length text
@@ -354,8 +372,8 @@ trimmed-length (b ∷ c ∷ text) = omega (arith, trimmed-length (c ∷ text))
 finished-inside : (m : Mode) (n hi : ℕ) (r : Reading) → InsideReading n hi r → InsideReading n hi (finished m r)
 unfolding finished
 finished-inside m n hi (Text text stop from after) x =
-    choice (λ vs. ReadInside n hi vs from after) (losesBreak m stop) _ _
-    (λ e. record { narrow = omega (arith, trimmed-length text); order = x .order; inside = x .inside })
+    choice (λ vs. ReadInside n hi (amountOf stop) vs from after) (losesBreak m stop) _ _
+    (λ e. record { indented = x .indented; narrow = omega (arith, trimmed-length text); order = x .order; inside = x .inside })
     (λ e. x)
 finished-inside m n hi (Refused number place) x = x
 finished-inside m n hi Wait x = tt

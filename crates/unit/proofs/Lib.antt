@@ -3,6 +3,8 @@ pub mod Inside
 pub mod Openings
 pub mod Opens
 pub mod Demand
+pub mod Stops
 pub mod Manual
 pub mod Differences
 pub mod Literals
+pub mod Progress

@@ -1,4 +1,5 @@
 -- The escapes as the PHP manual tells them ("Strings": "Single quoted", "Double quoted"): two tables, a list of entries each.
+-- Written without the manual's pages at hand, its words in quotes too (docs/DECISIONS.md, 32).
 -- An entry is asked with the bytes behind the backslash. Digits and UTF-8 are those of specs/Digits.antt.
 --   Said            what an entry answers
 --   digitsOf, allDigits   the digits of a base that come first, by their values: at most so many, or all
