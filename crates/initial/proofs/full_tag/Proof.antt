@@ -1,0 +1,13 @@
+-- `initial::full_tag` meets its contract: each return is one law of `Tags`. Assumes nothing.
+use borrow.Author.Needs.{needs}
+use Rattle.source.specs.Words.{bytes}
+use Rattle.initial.proofs.Tags.{fullTags}
+use Rattle.initial.proofs.full_tag.Statement.{statement}
+use Rattle.initial.proofs.full_tag.Tie as tie
+
+pub full-tag-spec : {M : Type 1} → statement M
+unfolding bytes
+full-tag-spec =
+    tie.close
+    (tie.spec (λ c κs. search needs) (λ c. search fullTags) (λ c. search needs) (λ c κs. search needs)
+    (λ c. search needs) (λ c κs. search needs) (λ c. search fullTags) (λ c. search fullTags))

@@ -1,0 +1,11 @@
+-- `initial::tag_plan` meets its contract: the plan is the definition's. Assumes nothing.
+use borrow.Author.Needs.{needs}
+use Rattle.initial.proofs.Initials.{plans}
+use Rattle.initial.proofs.tag_plan.Statement.{statement}
+use Rattle.initial.proofs.tag_plan.Tie as tie
+
+pub tag-plan-spec : {M : Type 1} → statement M
+tag-plan-spec =
+    tie.close
+    (tie.spec (λ c κs. search needs) (λ c. search needs) (λ c κs. search needs) (λ c κs. search needs)
+    (λ c κs. search needs) (λ c κs. search needs) (λ c. search plans))

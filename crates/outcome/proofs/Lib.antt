@@ -1,0 +1,12 @@
+pub mod Initials
+pub mod Openings
+pub mod Insides
+pub mod Changes
+pub mod Demand
+pub mod TextDemand
+pub mod LookingDemand
+pub mod InitialDemand
+pub mod OpeningDemand
+pub mod ScriptDemand
+pub mod StepDemand
+pub mod Progress

@@ -1,0 +1,256 @@
+-- Demand 3 for what is made of a text, a sheet and a number. Assumes nothing.
+--   textMode-demands, nowdoc-demands    the text modes, from any position on
+--   literal-demands, numbered-demands   the readings
+-- A wait's two continuations are the reading's own, and the outcome tells them apart: of a text by its ending, of a sheet by the
+-- place of its refusal, of a number altogether.
+use mathlib.Core.Path.{_≡_, refl, sym, ap, _∙_}
+use mathlib.Core.Bool.{Bool, true, false}
+use mathlib.Core.List.{List, [], _∷_, _++_, append-nil}
+use Prim.Native.Nat.{ℕ, _+_, _-_, _≤_}
+use native.Mathlib.Omega.{arith}
+use lib.Dec.{eqb}
+use lib.ListN.{length, drop, length-drop, length-append}
+use lib.Seq.{take-append-le, drop-append-le}
+use Rattle.source.specs.Words.{if_then_else_, every}
+use Rattle.state.specs.declared.Frame.{Frame}
+use Rattle.state.specs.declared.Reading as state
+use Rattle.token.specs.Kinds.{literalInteger, stringPart}
+use Rattle.unit.specs.declared.Follow.{Follow}
+use Rattle.unit.specs.declared.Mode.{Mode}
+use Rattle.unit.specs.declared.Stop.{Stop}
+use Rattle.unit.specs.Labels.{Label, Labelled}
+use Rattle.unit.specs.Readings as unit
+use Rattle.unit.proofs.Stays.{Stays, clash}
+use Rattle.unit.proofs.Openings.{oneMore}
+use Rattle.unit.proofs.Inside as within
+use Rattle.unit.proofs.Demand.{ending, text-stays, text-endings, text-never-waits}
+use Rattle.unit.proofs.Stops.{Literal, ReadStops, literal-stops}
+use Rattle.number.specs.declared.Literal as kind
+use Rattle.number.specs.Numbers as number
+use Rattle.number.proofs.Values.{numberAt-ends}
+use Rattle.number.proofs.Waiting.{number-waits}
+use Rattle.sheet.specs.Sheets as sheet
+use Rattle.sheet.proofs.Inside as sheetWithin
+use Rattle.sheet.proofs.Demand.{sheet-stays, sheet-open, sheet-missing, sheet-never-waits}
+use Rattle.outcome.specs.declared.Change.{Change}
+use Rattle.outcome.specs.Outcomes.{Piece, Outcome, piece, limited}
+use Rattle.outcome.specs.Texts.{slice, stopChange, variableChange, texted, sheeted, isLeft}
+use Rattle.outcome.specs.Texts.{literal, numberKind, numbered}
+use Rattle.outcome.specs.Steps.{textMode, nowdoc}
+use Rattle.outcome.proofs.Demand.{apart-by, closed, Splits, splits, Demands, told-waits, refused-waits}
+
+-- bytes that a part has are those of a longer text
+pub slice-append : (n : ℕ) (part rest : List ℕ) (from after : ℕ) → n ≤ from → from ≤ after → after ≤ n + length part
+    → slice n (part ++ rest) from after ≡ slice n part from after
+unfolding slice
+slice-append n part rest from after low order high =
+    let a : from - n ≤ length part = omega arith in
+    let size : length (drop (from - n) part) ≡ length part - (from - n) = length-drop (from - n) part in
+    let b : after - from ≤ length (drop (from - n) part) = omega arith in
+    rw (drop-append-le (from - n) part rest a, take-append-le (after - from) (drop (from - n) part) rest b)
+
+-- ---- texts
+
+texted-wait : (m : Mode) (n : ℕ) (xs : List ℕ) (r : unit.Reading) → texted m n xs r ≡ Outcome.Wait → r ≡ unit.Wait
+unfolding texted
+texted-wait m n xs (unit.Text value stop from after) e = told-waits e
+texted-wait m n xs (unit.Refused number place) e = refused-waits e
+texted-wait m n xs unit.Wait e = refl
+
+texted-append : (m : Mode) (n : ℕ) (part rest : List ℕ) (r : unit.Reading) → within.InsideReading n (n + length part) r
+    → texted m n (part ++ rest) r ≡ texted m n part r
+unfolding texted
+texted-append m n part rest (unit.Text value stop from after) x =
+    rw (slice-append n part rest from after (omega (arith, x .narrow)) (x .order) (x .inside))
+texted-append m n part rest (unit.Refused number place) x = refl
+texted-append m n part rest unit.Wait x = refl
+
+-- what an outcome tells of the reading's ending
+abbrev ended : Outcome → unit.Reading
+ended (Outcome.Told pieces after change finished) = unit.Text [] Stop.Quote 0 0
+ended (Outcome.Refused number place) = unit.Refused number place
+ended Outcome.Wait = unit.Wait
+
+texted-ended : (p : ℕ) (m : Mode) (n : ℕ) (xs : List ℕ) (r : unit.Reading) → ended (closed p (texted m n xs r)) ≡ ending p r
+unfolding texted stopChange variableChange limited
+texted-ended p m n xs (unit.Text value Stop.Quote from after) = refl
+texted-ended p m n xs (unit.Text value Stop.Interpolation from after) = refl
+texted-ended p m n xs (unit.Text value Stop.DollarLeftBrace from after) = refl
+texted-ended p m n xs (unit.Text value Stop.LeftBrace from after) = refl
+texted-ended p m n xs (unit.Text value (Stop.Variable Follow.Other) from after) = refl
+texted-ended p m n xs (unit.Text value (Stop.Variable Follow.Offset) from after) = refl
+texted-ended p m n xs (unit.Text value (Stop.Variable Follow.Property) from after) = refl
+texted-ended p m n xs (unit.Text value (Stop.Label ind amount) from after) = refl
+texted-ended p m n xs (unit.Refused number place) = refl
+texted-ended p m n xs unit.Wait = refl
+
+module _ (m : Mode) (label : List ℕ) (h : Labelled m label) (n : ℕ) where
+  textMode-stays : (part rest : List ℕ) → Stays Outcome.Wait (textMode m label false n part) (textMode m label true n (part ++ rest))
+  unfolding textMode texted
+  textMode-stays part rest k =
+      ap (texted m n (part ++ rest)) (text-stays m label h n part (λ z. k (ap (texted m n part) z)) rest)
+      ∙ texted-append m n part rest (unit.textAt m label false n part) (within.text-inside m label false n part)
+
+  textMode-splits : (p : ℕ) (part : List ℕ) → textMode m label false n part ≡ Outcome.Wait
+      → Splits p (λ c. textMode m label true n (part ++ c))
+  unfolding textMode
+  textMode-splits p part k =
+      apart-by (λ xs. ending p (unit.textAt m label true n xs)) (λ c. closed p (textMode m label true n (part ++ c))) part []
+      (λ one two e. sym (texted-ended p m n (part ++ one) _) ∙ ap ended e ∙ texted-ended p m n (part ++ two) _)
+      (text-endings m label h n p part (texted-wait m n part _ k))
+
+  pub textMode-demands : (p : ℕ) → Demands p (λ end. textMode m label end n)
+  unfolding textMode
+  textMode-demands p =
+      record {
+        stays = textMode-stays;
+        splits = textMode-splits p;
+        told = λ xs e. text-never-waits m label h n xs (texted-wait m n xs _ e);
+      }
+
+-- ---- sheets
+
+sheeted-wait : (n : ℕ) (xs : List ℕ) (r : sheet.Reading) → sheeted n xs r ≡ Outcome.Wait → r ≡ sheet.Wait
+unfolding sheeted
+sheeted-wait n xs (sheet.Sheet value ind amount from after) e = told-waits e
+sheeted-wait n xs (sheet.Refused number place) e = refused-waits e
+sheeted-wait n xs sheet.Wait e = refl
+
+sheeted-append : (n : ℕ) (part rest : List ℕ) (r : sheet.Reading) → sheetWithin.InsideReading n (n + length part) r
+    → sheeted n (part ++ rest) r ≡ sheeted n part r
+unfolding sheeted
+sheeted-append n part rest (sheet.Sheet value ind amount from after) x =
+    rw (slice-append n part rest from after (omega (arith, x .narrow)) (x .order) (x .inside))
+sheeted-append n part rest (sheet.Refused number place) x = refl
+sheeted-append n part rest sheet.Wait x = refl
+
+-- an outcome that is a refusal is the reading's
+sheeted-refused : (p n : ℕ) (xs : List ℕ) (r : sheet.Reading) (number place : ℕ)
+    → closed p (sheeted n xs r) ≡ Outcome.Refused number place → r ≡ sheet.Refused number place
+unfolding sheeted limited
+sheeted-refused p n xs (sheet.Sheet value ind amount from after) number place e = clash cc
+sheeted-refused p n xs (sheet.Refused number′ place′) number place e =
+    let a : number′ ≡ number = cc in
+    let b : place′ ≡ place = cc in
+    rw (a, b)
+sheeted-refused p n xs sheet.Wait number place e = clash cc
+
+module _ (label : List ℕ) (h : Label label) (n : ℕ) where
+  sheeted-stays : (part rest : List ℕ)
+      → Stays Outcome.Wait (sheeted n part (sheet.sheetAt label false n part))
+      (sheeted n (part ++ rest) (sheet.sheetAt label true n (part ++ rest)))
+  unfolding sheeted
+  sheeted-stays part rest k =
+      ap (sheeted n (part ++ rest)) (sheet-stays label h n part (λ z. k (ap (sheeted n part) z)) rest)
+      ∙ sheeted-append n part rest (sheet.sheetAt label false n part) (sheetWithin.sheet-inside label false n part)
+
+  sheeted-splits : (p : ℕ) (part : List ℕ) → sheeted n part (sheet.sheetAt label false n part) ≡ Outcome.Wait
+      → Splits p (λ c. sheeted n (part ++ c) (sheet.sheetAt label true n (part ++ c)))
+  unfolding sheeted limited every
+  sheeted-splits p part k =
+      splits p (λ c. sheeted n (part ++ c) (sheet.sheetAt label true n (part ++ c))) oneMore (Outcome.Refused 1 (n + length part)) _
+      refl
+      (rw (append-nil part, sheet-open label h n part (sheeted-wait n part _ k)))
+      refl
+      (λ e. omega (
+        arith,
+        sheet-missing label h n (part ++ oneMore) (n + length part) (sheeted-refused p n (part ++ oneMore) _ 1 (n + length part) (sym e)),
+        length-append part oneMore,
+      ))
+
+  pub nowdoc-demands : (p : ℕ) (nowdocs : state.Reading) → Demands p (λ end. nowdoc nowdocs label end n)
+  unfolding nowdoc
+  nowdoc-demands p state.Reading.Ported = textMode-demands Mode.Nowdoc label h n p
+  nowdoc-demands p state.Reading.Sheet =
+      record {
+        stays = sheeted-stays;
+        splits = sheeted-splits p;
+        told = λ xs e. sheet-never-waits label n xs (sheeted-wait n xs _ e);
+      }
+
+-- ---- literals
+
+module _ (form place : ℕ) where
+  literal-wait : (r : unit.Reading) → literal form place r ≡ Outcome.Wait → r ≡ unit.Wait
+  unfolding literal
+  literal-wait (unit.Text value stop from after) e = go (isLeft stop) e
+    where
+      go : (t : Bool)
+          → (if t then Outcome.Told (piece stringPart place value ∷ []) after (Change.Swap Frame.DoubleQuote) false
+          else Outcome.Told (piece form place value ∷ []) after Change.Keep false) ≡ Outcome.Wait
+          → unit.Text value stop from after ≡ unit.Wait
+      go true z = told-waits z
+      go false z = told-waits z
+  literal-wait (unit.Refused number fault) e = refused-waits e
+  literal-wait unit.Wait e = refl
+
+  literal-ended : (p : ℕ) (r : unit.Reading) → ReadStops r → ended (closed p (literal form place r)) ≡ ending p r
+  unfolding literal isLeft limited
+  literal-ended p (unit.Text value Stop.Quote from after) x = refl
+  literal-ended p (unit.Text value Stop.Interpolation from after) x = refl
+  literal-ended p (unit.Text value Stop.DollarLeftBrace from after) x = clash cc
+  literal-ended p (unit.Text value Stop.LeftBrace from after) x = clash cc
+  literal-ended p (unit.Text value (Stop.Variable Follow.Other) from after) x = refl
+  literal-ended p (unit.Text value (Stop.Variable Follow.Offset) from after) x = clash cc
+  literal-ended p (unit.Text value (Stop.Variable Follow.Property) from after) x = clash cc
+  literal-ended p (unit.Text value (Stop.Label ind amount) from after) x = refl
+  literal-ended p (unit.Refused number fault) x = refl
+  literal-ended p unit.Wait x = refl
+
+  -- a literal has no label
+  module _ (m : Mode) (l : Literal m) (h : Labelled m []) (n : ℕ) where
+    read-ended : (p : ℕ) (xs : List ℕ)
+        → ended (closed p (literal form place (unit.textAt m [] true n xs))) ≡ ending p (unit.textAt m [] true n xs)
+    read-ended p xs = literal-ended p (unit.textAt m [] true n xs) (literal-stops true m l [] n xs)
+
+    pub literal-demands : (p : ℕ) → Demands p (λ end xs. literal form place (unit.textAt m [] end n xs))
+    unfolding literal
+    literal-demands p =
+        record {
+          stays = λ part rest k.
+              ap (literal form place) (text-stays m [] h n part (λ z. k (ap (literal form place) z)) rest);
+          splits = λ part k.
+              apart-by (λ xs. ending p (unit.textAt m [] true n xs))
+              (λ c. closed p (literal form place (unit.textAt m [] true n (part ++ c)))) part []
+              (λ one two e. sym (read-ended p (part ++ one)) ∙ ap ended e ∙ read-ended p (part ++ two))
+              (text-endings m [] h n p part (literal-wait _ k));
+          told = λ xs e. text-never-waits m [] h n xs (literal-wait _ e);
+        }
+
+-- ---- numbers
+
+-- the number that an outcome tells
+abbrev kindOf : ℕ → kind.Literal
+kindOf k = if eqb k literalInteger then kind.Literal.Integer else kind.Literal.Float
+
+abbrev numberIn : List Piece → ℕ → number.Reading
+numberIn [] after = number.Reading.Wait
+numberIn (one ∷ more) after = number.Reading.Number (kindOf (one .kind)) (one .value) after
+
+abbrev numberOf : Outcome → number.Reading
+numberOf (Outcome.Told pieces after change finished) = numberIn pieces after
+numberOf (Outcome.Refused refusal place) = number.Reading.Wait
+numberOf Outcome.Wait = number.Reading.Wait
+
+numbered-told : (p place : ℕ) (r : number.Reading) → numberOf (closed p (numbered place r)) ≡ r
+unfolding numbered numberKind limited
+numbered-told p place (number.Reading.Number kind.Literal.Integer value after) = refl
+numbered-told p place (number.Reading.Number kind.Literal.Float value after) = refl
+numbered-told p place number.Reading.Wait = refl
+
+pub numbered-wait : (place : ℕ) (r : number.Reading) → numbered place r ≡ Outcome.Wait → r ≡ number.Reading.Wait
+unfolding numbered
+numbered-wait place (number.Reading.Number literal value after) e = told-waits e
+numbered-wait place number.Reading.Wait e = refl
+
+pub numbered-demands : (place n p : ℕ) → Demands p (λ end xs. numbered place (number.numberAt end n xs))
+unfolding numbered
+numbered-demands place n p =
+    record {
+      stays = λ part rest k. ap (numbered place) (number-waits n part .settled (λ z. k (ap (numbered place) z)) rest);
+      splits = λ part k.
+          apart-by (number.numberAt true n) (λ c. closed p (numbered place (number.numberAt true n (part ++ c)))) part []
+          (λ one two e. sym (numbered-told p place _) ∙ ap numberOf e ∙ numbered-told p place _)
+          (number-waits n part .exactly .0 (numbered-wait place _ k));
+      told = λ xs e. numberAt-ends n xs (numbered-wait place _ e);
+    }

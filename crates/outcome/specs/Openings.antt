@@ -1,0 +1,80 @@
+-- The opening of a text block (document 01, the row `<<<'L'` or `<<<L`, then LF or CRLF): L is an identifier of 1 to 64 bytes, and
+-- its run is looked at no further than the 65th. n is the position of the text's head, `end` says that the text is all there.
+--   docBreak, lineFeed   behind the label: LF, or CR and LF
+--   docQuote             behind a label in quotes
+--   docName, docStart    in the label, so long already; at its first byte
+--   docLabel             behind `<<<`
+--   opening              behind the first `<`
+--   opened               what contracts cite: the step at that `<`
+use Prim.Native.Nat.{ℕ, suc}
+use mathlib.Core.Bool.{Bool, true, false}
+use mathlib.Core.List.{List, [], _∷_}
+use mathlib.Core.Path.{_≡_, refl}
+use lib.Dec.{ltb}
+use Rattle.source.specs.Words.{if_then_else_, _is_, bytes}
+use Rattle.source.specs.Bytes.{isStart, isIdentifier, isLetter, isDigit}
+use Rattle.state.specs.declared.Frame.{Frame}
+use Rattle.state.specs.declared.Label.{Label}
+use Rattle.outcome.specs.declared.Change.{Change}
+use Rattle.outcome.specs.declared.DocStringKind.{DocStringKind}
+use Rattle.outcome.specs.declared.Opening.{Opening}
+use Rattle.outcome.specs.Outcomes.{Outcome, goes}
+
+-- nothing is left
+abbrev pub lastOpening : Bool → Opening
+lastOpening end = if end then Opening.Other else Opening.Undecided
+
+unfoldable pub lineFeed : DocStringKind → ℕ → ℕ → Bool → ℕ → List ℕ → Opening
+lineFeed kind start len end n [] = lastOpening end
+lineFeed kind start len end n (b ∷ rest) = if b is "\n" then Opening.Block kind start len (suc n) else Opening.Other
+
+unfoldable pub docBreak : DocStringKind → ℕ → ℕ → Bool → ℕ → List ℕ → Opening
+docBreak kind start len end n [] = lastOpening end
+docBreak kind start len end n (b ∷ rest) =
+    if b is "\r" then lineFeed kind start len end (suc n) rest else lineFeed kind start len end n (b ∷ rest)
+
+unfoldable pub docQuote : ℕ → ℕ → Bool → ℕ → List ℕ → Opening
+docQuote start len end n [] = lastOpening end
+docQuote start len end n (b ∷ rest) =
+    if b is "'" then docBreak DocStringKind.Nowdoc start len end (suc n) rest else Opening.Other
+
+unfoldable pub docEnd : DocStringKind → ℕ → ℕ → Bool → ℕ → List ℕ → Opening
+docEnd DocStringKind.Heredoc start len end n xs = docBreak DocStringKind.Heredoc start len end n xs
+docEnd DocStringKind.Nowdoc start len end n xs = docQuote start len end n xs
+
+unfoldable pub docName : DocStringKind → ℕ → ℕ → Bool → ℕ → List ℕ → Opening
+docName kind start len end n [] = lastOpening end
+docName kind start len end n (b ∷ rest) =
+    if isIdentifier b then (if ltb len 64 then docName kind start (suc len) end (suc n) rest else Opening.Other)
+    else docEnd kind start len end n (b ∷ rest)
+
+unfoldable pub docStart : DocStringKind → Bool → ℕ → List ℕ → Opening
+docStart kind end n [] = lastOpening end
+docStart kind end n (b ∷ rest) = if isStart b then docName kind n 1 end (suc n) rest else Opening.Other
+
+unfoldable pub docLabel : Bool → ℕ → List ℕ → Opening
+docLabel end n [] = lastOpening end
+docLabel end n (b ∷ rest) =
+    if b is "'" then docStart DocStringKind.Nowdoc end (suc n) rest else docStart DocStringKind.Heredoc end n (b ∷ rest)
+
+unfoldable pub thirdLess : Bool → ℕ → List ℕ → Opening
+thirdLess end n [] = lastOpening end
+thirdLess end n (b ∷ rest) = if b is "<" then docLabel end (suc n) rest else Opening.Other
+
+unfoldable pub opening : Bool → ℕ → List ℕ → Opening
+opening end n [] = lastOpening end
+opening end n (b ∷ rest) = if b is "<" then thirdLess end (suc n) rest else Opening.Other
+
+unfoldable pub docFrame : DocStringKind → Label → Frame
+docFrame DocStringKind.Heredoc label = Frame.Heredoc label
+docFrame DocStringKind.Nowdoc label = Frame.Nowdoc label
+
+-- the `<` at n
+unfoldable pub opened : ℕ → Opening → Outcome
+opened n (Opening.Block kind start len after) = goes after (Change.Swap (docFrame kind (record { start = start; len = len })))
+opened n Opening.Other = goes (suc n) Change.Keep
+opened n Opening.Undecided = Outcome.Wait
+
+quoted-label : opening true 1 (bytes "<<'EOT'\r\na") ≡ Opening.Block DocStringKind.Nowdoc 4 3 10
+unfolding opening thirdLess docLabel docStart docName docEnd docQuote docBreak lineFeed isStart isIdentifier isLetter isDigit bytes
+quoted-label = refl

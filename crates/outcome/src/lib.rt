@@ -1,0 +1,64 @@
+// What a step comes to: the words in which the modes, the step and the three readings are told.
+// The definitions and theorems over them stand in specs/ and proofs/; the code that follows them in the crates modes and lexer.
+use state::Frame;
+
+// What a step does to the mode stack.
+pub enum Change {
+    Keep,
+    // The top frame becomes this one.
+    Swap(Frame),
+    // This frame comes on top.
+    Enter(Frame),
+    // The top frame goes.
+    Leave,
+}
+
+// The tags that open a script.
+pub enum OpenTagKind {
+    // `<?php` in any letter case.
+    Full,
+    // `<?=`
+    Echo,
+    // `<?`
+    Short,
+}
+
+// What stands at a `<` of inline text.
+pub enum Tag {
+    Open(OpenTagKind),
+    None,
+    // The part ends before it is told.
+    Undecided,
+}
+
+// The first tag of inline text.
+pub enum Tagged {
+    At { kind: OpenTagKind, place: usize },
+    // The text is over and has none.
+    Over,
+    Undecided,
+}
+
+// The text blocks.
+pub enum DocStringKind {
+    Heredoc,
+    Nowdoc,
+}
+
+// What stands at a `<` of a script: a block opens, with its label's range and the place behind its break; or it is another byte.
+pub enum Opening {
+    Block {
+        kind: DocStringKind,
+        start: usize,
+        len: usize,
+        after: usize,
+    },
+    Other,
+    Undecided,
+}
+
+// How many identifier bytes come, if the part does not end with them.
+pub enum Run {
+    Over(usize),
+    Undecided,
+}

@@ -1,0 +1,59 @@
+-- The plans that the modes make, and the outcomes that they stand for. Assumes nothing.
+use Prim.Native.Nat.{ℕ, suc, _-_, _≤_}
+use mathlib.Core.Path.{_≡_, refl, sym, _∙_}
+use mathlib.Core.Bool.{Bool, false}
+use mathlib.Core.List.{List, [], _∷_, _++_}
+use native.Mathlib.Omega.{arith}
+use lib.ListN.{length, drop, length-take, length-drop}
+use borrow.Author.Tests.{eq-eqb, ne-eqb}
+use Rattle.source.specs.Words.{if_then_else_}
+use Rattle.outcome.specs.declared.Change.{Change}
+use Rattle.outcome.specs.Outcomes.{Outcome, unlessEmpty}
+use Rattle.plan.specs.declared.Draft.{Draft}
+use Rattle.plan.specs.declared.Drafts.{Drafts}
+use Rattle.plan.specs.declared.Plan.{Plan}
+use Rattle.plan.specs.Plans.{madeBy, made, pieceOf, piecesOf, outcomeOf, Ready, Plans, copiedDraft}
+use Rattle.plan.specs.Plans.{workPlan, onePlan, partedPlan}
+
+module _ (part d : Draft) (after : ℕ) (change : Change) where
+  pub partedPlan-empty : (r : Plan) → part .len ≡ 0 → r ≡ onePlan d after change → r ≡ partedPlan part d after change
+  partedPlan-empty r z e = e ∙ rw (eq-eqb (part .len) 0 z)
+
+  pub partedPlan-some : (part .len ≡ 0 → ⊥) → workPlan (Drafts.Two part d) after change ≡ partedPlan part d after change
+  partedPlan-some z = rw (ne-eqb (part .len) 0 z)
+
+pub ruleset parting = (partedPlan-empty, partedPlan-some)
+
+-- bytes of the source can be copied
+pub copied-ready : (src : List ℕ) (end : Bool) (kind detail place from to : ℕ) → from ≤ to → to ≤ length src
+    → Ready src end (copiedDraft kind detail place from to)
+unfolding madeBy
+copied-ready src end kind detail place from to h i =
+    record {
+      size = sym (rw (length-take (to - from) (drop from src), length-drop from src) (omega arith));
+      able = record { order = h; inside = i };
+    }
+
+-- a part, if it is not empty, and the token behind it
+module _ (src : List ℕ) (end : Bool) (part d : Draft) (after : ℕ) (change : Change) where
+  parted-value : (value : List ℕ) → made src end part ≡ value → part .detail ≡ 0 → Ready src end part → Ready src end d
+      → Plans src end (Outcome.Told (unlessEmpty (part .kind) (part .place) value ++ pieceOf src end d ∷ []) after change false)
+      (partedPlan part d after change)
+  unfolding outcomeOf piecesOf unlessEmpty
+  parted-value [] v z p q =
+      let e : part .len ≡ 0 = p .size ∙ rw v in
+      rw (eq-eqb (part .len) 0 e) (record { told = refl; ready = q })
+  parted-value (b ∷ rest) v z p q =
+      let e : part .len ≡ suc (length rest) = p .size ∙ rw v in
+      rw (ne-eqb (part .len) 0 (λ y. omega arith)) (record { told = rw (v, z); ready = (p, q) })
+
+  pub parted-plans : part .detail ≡ 0 → Ready src end part → Ready src end d
+      → Plans src end
+      (Outcome.Told (unlessEmpty (part .kind) (part .place) (made src end part) ++ pieceOf src end d ∷ []) after change false)
+      (partedPlan part d after change)
+  parted-plans z p q = parted-value (made src end part) refl z p q
+
+-- plans that meet one statement make one outcome: they may differ in how a value comes about, and in nothing that is written
+pub plans-one : (src : List ℕ) (end : Bool) (o : Outcome) (r r′ : Plan) → Plans src end o r → Plans src end o r′
+    → outcomeOf src end r ≡ outcomeOf src end r′
+plans-one src end o r r′ x y = x .told ∙ sym (y .told)

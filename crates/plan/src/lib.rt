@@ -1,0 +1,113 @@
+// Plans: what a routine answers before anything is written. A plan holds no session and no table.
+// In order: how a value comes about, tokens to be written, the plan; then the plans that the modes make again and again.
+use outcome::Change;
+use state::Label;
+use unit::Mode;
+ghost use mathlib.Core.Path.{_≡_};
+ghost use Prim.Native.Nat.{_-_, _≤_};
+ghost use Rattle.plan.specs.Plans.{noLabel, copiedDraft, goesPlan, onePlan, partedPlan};
+
+// How a token's value comes about.
+pub enum Making {
+    // The source's own bytes.
+    Copied,
+    // The value of a text; a mode without a label has an empty range.
+    Text { mode: Mode, label: Label },
+    Number,
+    Sheet(Label),
+}
+
+// A token to be written: its value has `len` bytes and comes from the source's bytes from `from` up to `to`.
+pub struct Draft {
+    pub kind: u32,
+    pub detail: usize,
+    // The place whose span it bears.
+    pub place: usize,
+    pub making: Making,
+    pub from: usize,
+    pub to: usize,
+    pub len: usize,
+}
+
+// A step writes at most two tokens.
+pub enum Drafts {
+    None,
+    One(Draft),
+    Two(Draft, Draft),
+}
+
+// What a step does: what it writes, the place after, the change of frame, and whether nothing is left to read.
+pub struct Work {
+    pub drafts: Drafts,
+    pub after: usize,
+    pub change: Change,
+    pub finished: bool,
+}
+
+pub enum Plan {
+    Told(Work),
+    Refused { number: u32, place: usize },
+    Wait,
+}
+
+// The range of a mode that has no label.
+pub fn no_label() -> Label
+    ensures { λ r. ⌜ r ≡ noLabel ⌝ }
+{
+    Label { start: 0, len: 0 }
+}
+
+// A token whose value is the source's own bytes.
+pub fn copied(kind: u32, place: usize, from: usize, to: usize) -> Draft
+    requires { ⌜ from ≤ to ⌝ }
+    ensures { λ r. ⌜ r ≡ copiedDraft kind 0 place from to ⌝ }
+{
+    Draft {
+        kind,
+        detail: 0,
+        place,
+        making: Making::Copied,
+        from,
+        to,
+        len: to - from,
+    }
+}
+
+// Nothing is written.
+pub fn goes(after: usize, change: Change) -> Plan
+    ensures { λ r. ⌜ r ≡ goesPlan after change ⌝ }
+{
+    Plan::Told(Work {
+        drafts: Drafts::None,
+        after,
+        change,
+        finished: false,
+    })
+}
+
+// One token is written.
+pub fn one(draft: Draft, after: usize, change: Change) -> Plan
+    ensures { λ r. ⌜ r ≡ onePlan draft after change ⌝ }
+{
+    Plan::Told(Work {
+        drafts: Drafts::One(draft),
+        after,
+        change,
+        finished: false,
+    })
+}
+
+// A text's part, if it is not empty, and the token behind it.
+pub fn parted(part: Draft, draft: Draft, after: usize, change: Change) -> Plan
+    ensures { λ r. ⌜ r ≡ partedPlan part draft after change ⌝ }
+{
+    if part.len == 0 {
+        return one(draft, after, change);
+    }
+    Plan::Told(Work {
+        drafts: Drafts::Two(part, draft),
+        after,
+        change,
+        finished: false,
+    })
+}

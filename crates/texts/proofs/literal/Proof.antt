@@ -1,0 +1,14 @@
+-- `texts::literal` meets its contract: each answer of the scan is one clause of the plan. Assumes nothing.
+use borrow.Author.Needs.{needs}
+use Rattle.texts.specs.Works.{literalWork}
+use Rattle.texts.proofs.Works.{literal-arm}
+use Rattle.texts.proofs.literal.Statement.{statement}
+use Rattle.texts.proofs.literal.Tie as tie
+
+pub literal-spec : {M : Type 1} → statement M
+unfolding literalWork
+literal-spec =
+    tie.close
+    (tie.spec (λ c. search needs) (λ c. search needs) (λ c. search needs) (λ c κs. search needs) (λ c. search needs)
+    (λ c κs. search needs) (λ c. search needs) (λ c. search needs) (λ c. search literal-arm) (λ c. search literal-arm)
+    (λ c. search literal-arm))

@@ -1,0 +1,11 @@
+-- `texts::number` meets its contract: a number is found, or the scan waits. Assumes nothing.
+use borrow.Author.Needs.{needs}
+use Rattle.texts.proofs.Works.{numbering}
+use Rattle.texts.proofs.number.Statement.{statement}
+use Rattle.texts.proofs.number.Tie as tie
+
+pub number-spec : {M : Type 1} → statement M
+number-spec =
+    tie.close
+    (tie.spec (λ c κs. search needs) (λ c. search needs) (λ c κs. search needs) (λ c κs. search needs)
+    (λ c κs. search needs) (λ c. search needs) (λ c. search numbering) (λ c. search numbering))
