@@ -1,0 +1,4 @@
+pub mod Spans
+pub mod Values
+pub mod Records
+pub mod Nexts

@@ -1,0 +1,252 @@
+// From a plan to records, value bytes and numbers, or to a refusal that leaves all as it was. It knows no session.
+// Of the Rust: what `tokenize`'s loop does with a routine's answer. In order: spans; values; records; room and the whole.
+use outcome::Change;
+use plan::Draft;
+use plan::Drafts;
+use plan::Making;
+use plan::Plan;
+use plan::Work;
+use source::Span;
+use state::Answer;
+use state::Label;
+use token::Token;
+use unit::Mode;
+ghost use mathlib.Core.Path.{_≡_};
+ghost use Prim.Native.Nat.{_+_, _*_, _-_, _≤_};
+ghost use lib.ListN.{length, drop};
+ghost use Rattle.source.specs.Laid.{laid};
+ghost use Rattle.state.specs.Bounds.{labelBytes};
+ghost use Rattle.unit.specs.Readings.{textAt};
+ghost use Rattle.text.specs.Scans as text;
+ghost use Rattle.outcome.specs.Outcomes.{limited};
+ghost use Rattle.plan.specs.declared.Drafts.{Drafts};
+ghost use Rattle.plan.specs.declared.Plan.{Plan};
+ghost use Rattle.plan.specs.Plans.{Named, made, pieceOf, piecesOf, outcomeOf};
+ghost use Rattle.commit.specs.Records.{spanAt, draftToken, countOf, totalOf, Behind, Writes, Drawn, DraftFits, DraftPut, DraftsFit, DraftsPut};
+ghost use Rattle.commit.specs.Nexts.{stays, isFull, answerOf, advanced, Advances, Works, Commits, Committed};
+
+// The cursor and the two fill marks.
+pub struct Mark {
+    pub span: Span,
+    pub tokens: u32,
+    pub bytes: u32,
+}
+
+// What a step comes to, without the session: answer, cursor, marks and the change of frame.
+pub struct Next {
+    pub answer: Answer,
+    pub mark: Mark,
+    pub change: Change,
+}
+
+// The span of a place behind the cursor.
+pub fn span_at(src: &[u8], p: Span, place: usize) -> Span
+    requires { ⌜ Behind (now src) p place ⌝ }
+    ensures { λ r. ⌜ r ≡ spanAt (now (src .entry)) p place ⌝ }
+{
+    let at = p.position as usize;
+    source::past(&src[at..place], p)
+}
+
+// A refusal: the numbers are as they were.
+fn stay(number: u32, span: Span, m: Mark) -> Next
+    ensures { λ r. ⌜ r ≡ stays number span m ⌝ }
+{
+    Next {
+        answer: Answer::Refused { number, span },
+        mark: m,
+        change: Change::Keep,
+    }
+}
+
+// The bytes that a label names: that part of the source itself.
+fn label_bytes(src: &[u8], label: Label) -> &[u8]
+    requires { ⌜ Named (now src) label ⌝ }
+    ensures { λ r. ⌜ now r ≡ labelBytes (now (src .entry)) label ⌝ }
+{
+    let start = label.start as usize;
+    let end = start + label.len as usize;
+    &src[start..end]
+}
+
+// The value of a draft, in the pool from the mark on.
+fn write_value(src: &[u8], end: bool, d: Draft, pool: &mut [u8], mark: usize)
+    requires { ⌜ Writes (now src) end d (length (now pool)) mark ⌝ }
+    ensures { λ r. ⌜ now (pool .exit) ≡ laid (now (pool .entry)) mark (made (now (src .entry)) end d) ⌝ }
+{
+    let making = d.making;
+    let from = d.from;
+    let to = d.to;
+    match making {
+        Making::Copied => token::put_value(&src[from..to], pool, mark),
+        Making::Text { mode, label } => {
+            let name = label_bytes(src, label);
+            text::write_text(mode, src, name, from, end, d.len, &mut pool[mark..]);
+        }
+        Making::Number => number::write_number(src, from, to, &mut pool[mark..]),
+        Making::Sheet(label) => {
+            let name = label_bytes(src, label);
+            sheet::write_sheet(src, name, from, end, d.len, &mut pool[mark..]);
+        }
+    }
+}
+
+// The token of a draft whose value stands in the pool from `start` on.
+fn token_of(src: &[u8], p: Span, start: u32, d: Draft) -> Token
+    requires { ⌜ Drawn (now src) p d ⌝ }
+    ensures { λ r. ⌜ r ≡ draftToken (now (src .entry)) p start d ⌝ }
+{
+    Token {
+        kind: d.kind,
+        detail: d.detail as u32,
+        span: span_at(src, p, d.place),
+        start,
+        len: d.len as u32,
+    }
+}
+
+// A draft's value and record, behind the marks.
+fn put_draft(src: &[u8], end: bool, m: Mark, d: Draft, list: &mut [u32], pool: &mut [u8])
+    requires { ⌜ DraftFits (now src) end m d (length (now list)) (length (now pool)) ⌝ }
+    ensures { λ r. ⌜ DraftPut (now (src .entry)) m (pieceOf (now (src .entry)) end d) (now (list .entry)) (now (pool .entry)) (now (list .exit)) (now (pool .exit)) ⌝ }
+{
+    write_value(src, end, d, pool, m.bytes as usize);
+    token::put_token(list, m.tokens as usize, token_of(src, m.span, m.bytes, d));
+}
+
+// How many tokens drafts are.
+fn count(drafts: Drafts) -> u32
+    ensures { λ r. ⌜ r ≡ countOf drafts ⌝ }
+{
+    match drafts {
+        Drafts::None => 0,
+        Drafts::One(_) => 1,
+        Drafts::Two(_, _) => 2,
+    }
+}
+
+// How many value bytes drafts have.
+fn total(drafts: Drafts) -> usize
+    requires { ⌜ totalOf drafts ≤ 65536 ⌝ }
+    ensures { λ r. ⌜ r ≡ totalOf drafts ⌝ }
+{
+    match drafts {
+        Drafts::None => 0,
+        Drafts::One(d) => d.len,
+        Drafts::Two(d, e) => d.len + e.len,
+    }
+}
+
+// The values and records of two drafts, behind the marks.
+fn put_two(src: &[u8], end: bool, m: Mark, d: Draft, e: Draft, list: &mut [u32], pool: &mut [u8])
+    requires { ⌜ DraftsFit (now src) end m (Drafts.Two d e) (length (now list)) (length (now pool)) ⌝ }
+    ensures { λ r. ⌜ DraftsPut (now (src .entry)) m (piecesOf (now (src .entry)) end (Drafts.Two d e)) (now (list .entry)) (now (pool .entry)) (now (list .exit)) (now (pool .exit)) ⌝ }
+{
+    let span = m.span;
+    let behind = Mark {
+        span,
+        tokens: m.tokens + 1,
+        bytes: m.bytes + d.len as u32,
+    };
+    put_draft(src, end, m, d, list, pool);
+    put_draft(src, end, behind, e, list, pool);
+}
+
+// The values and records of drafts, behind the marks.
+fn put_drafts(src: &[u8], end: bool, m: Mark, drafts: Drafts, list: &mut [u32], pool: &mut [u8])
+    requires { ⌜ DraftsFit (now src) end m drafts (length (now list)) (length (now pool)) ⌝ }
+    ensures { λ r. ⌜ DraftsPut (now (src .entry)) m (piecesOf (now (src .entry)) end drafts) (now (list .entry)) (now (pool .entry)) (now (list .exit)) (now (pool .exit)) ⌝ }
+{
+    match drafts {
+        Drafts::None => {}
+        Drafts::One(d) => put_draft(src, end, m, d, list, pool),
+        Drafts::Two(d, e) => put_two(src, end, m, d, e, list, pool),
+    }
+}
+
+// Whether a frame would be the 65th.
+fn is_full(change: Change, depth: u32) -> bool
+    ensures { λ r. ⌜ r ≡ isFull change depth ⌝ }
+{
+    match change {
+        Change::Keep => false,
+        Change::Swap(_) => false,
+        Change::Enter(_) => 64 <= depth,
+        Change::Leave => false,
+    }
+}
+
+// Done, or nothing is left to read.
+fn answer_of(finished: bool) -> Answer
+    ensures { λ r. ⌜ r ≡ answerOf finished ⌝ }
+{
+    if finished {
+        return Answer::Finished;
+    }
+    Answer::Done
+}
+
+// The numbers after `count` tokens with `len` value bytes.
+fn advance(src: &[u8], m: Mark, w: Work, count: u32, len: u32) -> Next
+    requires { ⌜ Advances (now src) m w count len ⌝ }
+    ensures { λ r. ⌜ r ≡ advanced (now (src .entry)) m w count len ⌝ }
+{
+    let answer = answer_of(w.finished);
+    let span = span_at(src, m.span, w.after);
+    let mark = Mark {
+        span,
+        tokens: m.tokens + count,
+        bytes: m.bytes + len,
+    };
+    let change = w.change;
+    Next {
+        answer,
+        mark,
+        change,
+    }
+}
+
+// What a plan tells, where no frame is the 65th: refused where there is no room, else written.
+fn write_work(src: &[u8], end: bool, m: Mark, w: Work, list: &mut [u32], pool: &mut [u8]) -> Next
+    requires { ⌜ Works (now src) end m w (length (now list)) (length (now pool)) ⌝ }
+    ensures { λ r. ⌜ Committed (now (src .entry)) m (now (list .entry)) (now (pool .entry)) (outcomeOf (now (src .entry)) end (Plan.Told w)) r (now (list .exit)) (now (pool .exit)) ⌝ }
+{
+    let drafts = w.drafts;
+    let count = count(drafts);
+    let len = total(drafts) as u32;
+    let number = token::room(list.len(), pool.len(), m.tokens, m.bytes, count, len);
+    if number != 0 {
+        return stay(number, m.span, m);
+    }
+    put_drafts(src, end, m, drafts, list, pool);
+    advance(src, m, w, count, len)
+}
+
+// A plan becomes numbers, records and value bytes, or a refusal. Order: what the plan refuses, 9, 7, 8.
+pub fn commit(
+    src: &[u8],
+    end: bool,
+    m: Mark,
+    depth: u32,
+    plan: Plan,
+    list: &mut [u32],
+    pool: &mut [u8],
+) -> Next
+    requires { ⌜ Commits (now src) end m plan (length (now list)) (length (now pool)) ⌝ }
+    ensures { λ r. ⌜ Committed (now (src .entry)) m (now (list .entry)) (now (pool .entry)) (limited depth (m .span .position) (outcomeOf (now (src .entry)) end plan)) r (now (list .exit)) (now (pool .exit)) ⌝ }
+{
+    match plan {
+        Plan::Told(w) => {
+            let change = w.change;
+            if is_full(change, depth) {
+                return stay(source::STACK_FULL, m.span, m);
+            }
+            write_work(src, end, m, w, list, pool)
+        }
+        Plan::Refused { number, place } => {
+            let span = span_at(src, m.span, place);
+            stay(number, span, m)
+        }
+        Plan::Wait => stay(source::WAIT, m.span, m),
+    }
+}

@@ -1,0 +1,201 @@
+-- A good session stays good under every step and reading, and list and pool keep their lengths. Assumes nothing.
+--   Sound          the session is good, and its marks are not past their tables
+--   settled-sound  of an outcome that lies within the source and changes the stack well
+--   step-sound, number-sound, single-sound, double-sound   of the calls
+use Prim.Native.Nat.{ℕ, zero, suc, _+_, _-_, _*_, _/_, _≤_, _<_}
+use mathlib.Core.Path.{_≡_, refl, sym, ap, subst, _∙_}
+use mathlib.Core.Bool.{Bool, true, false, _&&_, false≢true}
+use mathlib.Core.List.{List, [], _∷_, _++_}
+use native.Mathlib.Omega.{arith}
+use lib.Dec.{eqb, leb}
+use lib.ListN.{length, getD, set, take, drop, length-take, length-drop, length-append}
+use lib.Seq.{getD-set-other}
+use borrow.Author.Tests.{leb-true, leb-false, le-leb, eqb-true}
+use Rattle.source.specs.Words.{if_then_else_, every}
+use Rattle.source.specs.Laid.{laid}
+use Rattle.source.specs.Cursor.{passed, origin}
+use Rattle.source.specs.Refusals.{outOfPlace, wait}
+use Rattle.source.specs.declared.Span.{Span}
+use Rattle.source.proofs.Tests.{choice, &&-left, &&-right, &&-both, unrefused}
+use Rattle.source.proofs.Laid.{length-laid}
+use Rattle.source.proofs.Words.{every-take, every-set}
+use Rattle.state.specs.declared.Frame.{Frame}
+use Rattle.state.specs.declared.Slot.{Slot}
+use Rattle.state.specs.declared.Session.{Session}
+use Rattle.state.specs.Bounds.{isFrame, isBottom, noSlot, isSlot, isStack, isWithin, isGood, fitsTables}
+use Rattle.state.specs.Calls.{spanOf, moved, entered, left}
+use Rattle.state.specs.Gates.{lentRefusal, tablesFit, sourceFits}
+use Rattle.state.proofs.Kept.{good-numbers, good-frames, good-bottom, good-slots, moved-good, entered-good, left-good}
+use Rattle.token.specs.Records.{roomRefusal}
+use Rattle.outcome.specs.declared.Change.{Change}
+use Rattle.outcome.specs.Outcomes.{Piece, Outcome, values}
+use Rattle.outcome.specs.Insides.{Inside}
+use Rattle.outcome.specs.Steps.{topFrame, stepOutcome, numberOutcome, singleOutcome, doubleOutcome}
+use Rattle.outcome.proofs.Insides.{step-inside, number-inside, single-inside, double-inside}
+use Rattle.outcome.proofs.Changes.{Welcome, ChangeGood, Changes, Room, Limited, framed-change, limited-changes, limited-room}
+use Rattle.outcome.proofs.Changes.{literal-changes, literal-room, numbered-changes, numbered-room}
+use Rattle.commit.specs.Records.{spanAt, records}
+use Rattle.lexer.specs.Turns.{After, framesAfter, depthAfter, changed, refusing, room, settled, written}
+use Rattle.lexer.specs.Calls.{gated, isScripting, stepped, reading, readNumber, readSingle, readDouble}
+
+-- with a list of so many numbers and a pool of so many bytes
+pub record Sound (src : List ℕ) (list pool : ℕ) (s : Session) : Type 0 where
+  pub good : isGood src s ≡ true
+  pub tokens : s .tokens ≤ list / 8
+  pub bytes : s .bytes ≤ pool
+
+-- the session is sound, and list and pool have kept their lengths
+pub record StaysSound (src : List ℕ) (l q : List ℕ) (a : After) : Type 0 where
+  pub sound : Sound src (length l) (length q) (a .turn .session)
+  pub list : length (a .list) ≡ length l
+  pub pool : length (a .pool) ≡ length q
+
+-- ---- the mode stack
+
+module _ (src : List ℕ) (s : Session) (e : isGood src s ≡ true) where
+  -- the session with another frame on top
+  abbrev swapped : Frame → Session
+  swapped f = record {
+    position = s .position;
+    line = s .line;
+    column = s .column;
+    depth = s .depth;
+    tokens = s .tokens;
+    bytes = s .bytes;
+    frames = set (s .frames) (s .depth - 1) (record { frame = f });
+    nowdocs = s .nowdocs;
+  }
+
+  bottom-set : (frames : List Slot) (i : ℕ) (f : Frame) → isBottom f ≡ true → isBottom (getD frames 0 noSlot .frame) ≡ true
+      → isBottom (getD (set frames i (record { frame = f })) 0 noSlot .frame) ≡ true
+  unfolding isBottom
+  bottom-set [] i f h k = k
+  bottom-set (a ∷ frames) zero f h k = h
+  bottom-set (a ∷ frames) (suc i) f h k = k
+
+  swapped-good : (f : Frame) → Welcome src f → isGood src (swapped f) ≡ true
+  unfolding isGood isStack isWithin
+  swapped-good f w =
+      let deep : s .depth - 1 + 1 ≡ s .depth = omega (arith, good-numbers src s e .depth-low) in
+      let below = every-take (isSlot src) (s .frames) (s .depth - 1) (s .depth) (omega arith) (good-slots src s e) in
+      let slots = every-set (isSlot src) (s .frames) (s .depth - 1) (record { frame = f }) below (w .good) in
+      &&-both _ _ (&&-left (isWithin (length src) s) (isStack src s) e)
+      (&&-both _ _ (bottom-set (s .frames) (s .depth - 1) f (w .bottom) (good-bottom src s e)) (rw deep at slots))
+
+module _ (src : List ℕ) (s : Session) (e : isGood src s ≡ true) where
+  module _ (after tokens bytes : ℕ) (low : s .position ≤ after) (high : after ≤ length src) where
+    abbrev there : Session
+    there = moved s (spanAt src (spanOf s) after)
+
+    there-good : isGood src there ≡ true
+    there-good = moved-good src s e (after - s .position) (omega arith)
+
+    changed-good : (change : Change) → ChangeGood src (s .depth) change → Room (s .depth) change
+        → isGood src (changed s (spanAt src (spanOf s) after) tokens bytes change) ≡ true
+    unfolding isGood isStack isWithin framesAfter depthAfter
+    changed-good Change.Keep c r = there-good
+    changed-good (Change.Swap f) c r = swapped-good src there there-good f c
+    changed-good (Change.Enter f) c r = entered-good src there there-good f c r
+    changed-good Change.Leave c r = left-good src there there-good c
+
+-- ---- the tables
+
+pub records-length : (src : List ℕ) (p : Span) (start : ℕ) (pieces : List Piece) → length (records src p start pieces) ≡ length pieces * 8
+unfolding records
+records-length src p start [] = refl
+records-length src p start (piece ∷ more) =
+    let later = records-length src p (start + length (piece .value)) more in
+    omega (arith, later)
+
+pub room-facts : (list pool tokens bytes count len : ℕ) → roomRefusal list pool tokens bytes count len ≡ 0
+    → (tokens + count ≤ list / 8) × (bytes + len ≤ pool)
+unfolding roomRefusal
+room-facts list pool tokens bytes count len e =
+    let first = unrefused (leb (tokens + count) (list / 8)) _ 6 e in
+    let second = unrefused (leb (bytes + len) pool) 0 7 (first .1) in
+    (leb-true _ _ (first .0), leb-true _ _ (second .0))
+
+module _ (src : List ℕ) (s : Session) (l q : List ℕ) (h : Sound src (length l) (length q) s) where
+  same-sound : (number : ℕ) (span : Span) → StaysSound src l q (refusing number span s l q)
+  same-sound number span = record { sound = h; list = refl; pool = refl }
+
+  written-sound : (pieces : List Piece) (after : ℕ) (change : Change) (finished : Bool) → s .position ≤ after
+      → after ≤ length src → ChangeGood src (s .depth) change → Room (s .depth) change → room s l q pieces ≡ 0
+      → StaysSound src l q (written src s l q pieces after change finished)
+  written-sound pieces after change finished low high c r e =
+      let fits = room-facts (length l) (length q) (s .tokens) (s .bytes) (length pieces) (length (values pieces)) e in
+      let size = records-length src (spanOf s) (s .bytes) pieces in
+      record {
+        sound =
+            record {
+              good = changed-good src s (h .good) after _ _ low high change c r;
+              tokens = fits .0;
+              bytes = fits .1;
+            };
+        list = length-laid l (s .tokens * 8) _ (omega (arith, fits .0, size));
+        pool = length-laid q (s .bytes) _ (fits .1);
+      }
+
+  pub settled-sound : (o : Outcome) → Inside (s .position) (length src) o → Changes src (s .depth) o → Limited (s .depth) o
+      → StaysSound src l q (settled src s l q o)
+  unfolding settled
+  settled-sound (Outcome.Told pieces after change finished) i c r =
+      choice (StaysSound src l q) (eqb (room s l q pieces) 0) _ _
+      (λ e. written-sound pieces after change finished (i .order) (i .inside) c r (eqb-true _ _ e))
+      (λ e. same-sound _ (spanOf s))
+  settled-sound (Outcome.Refused number place) i c r = same-sound number _
+  settled-sound Outcome.Wait i c r = same-sound wait (spanOf s)
+
+  gated-sound : (a : After) → StaysSound src l q a → StaysSound src l q (gated src s l q a)
+  gated-sound a k =
+      choice (StaysSound src l q) (eqb (lentRefusal src (length l) (length q) s) 0) _ _ (λ e. k) (λ e. same-sound _ origin)
+
+  pub position-inside : s .position ≤ length src
+  position-inside = good-numbers src s (h .good) .position
+
+  -- a frame that is left by its own routine is not the bottom one
+  top-deep : isBottom (topFrame s) ≡ false → 2 ≤ s .depth
+  top-deep k = go (leb 2 (s .depth)) refl
+    where
+      go : (t : Bool) → leb 2 (s .depth) ≡ t → 2 ≤ s .depth
+      go true e = leb-true 2 (s .depth) e
+      go false e =
+          let one : s .depth - 1 ≡ 0 = omega (arith, leb-false 2 (s .depth) e) in
+          let bottom = subst (λ (i : ℕ). isBottom (getD (s .frames) i noSlot .frame) ≡ false) one k in
+          absurd (false≢true (sym bottom ∙ good-bottom src s (h .good)))
+
+  pub step-sound : (end : Bool) → StaysSound src l q (stepped src end s l q)
+  unfolding stepped stepOutcome
+  step-sound end =
+      gated-sound _
+      (settled-sound (stepOutcome src end s) (step-inside src end s position-inside)
+      (limited-changes src (s .depth) (s .position) _ (framed-change src (s .depth) (topFrame s) (s .nowdocs) end (s .position) position-inside top-deep))
+      (limited-room (s .depth) (s .position) _))
+
+  reading-sound : (o : Outcome) → Inside (s .position) (length src) o → Changes src (s .depth) o → Limited (s .depth) o
+      → StaysSound src l q (reading o src s l q)
+  unfolding reading
+  reading-sound o i c r =
+      gated-sound _
+      (choice (StaysSound src l q) (isScripting (topFrame s)) _ _ (λ e. settled-sound o i c r) (λ e. same-sound outOfPlace (spanOf s)))
+
+  pub number-sound : (end : Bool) → StaysSound src l q (readNumber src end s l q)
+  unfolding numberOutcome
+  number-sound end =
+      reading-sound (numberOutcome src end s) (number-inside src end s position-inside)
+      (numbered-changes src (s .depth) (s .position) _)
+      (numbered-room (s .depth) (s .position) _)
+
+  pub single-sound : (end : Bool) → StaysSound src l q (readSingle src end s l q)
+  unfolding singleOutcome
+  single-sound end =
+      reading-sound (singleOutcome src end s) (single-inside src end s position-inside)
+      (literal-changes src (s .depth) _ (s .position) _)
+      (literal-room (s .depth) _ (s .position) _)
+
+  pub double-sound : (end : Bool) → StaysSound src l q (readDouble src end s l q)
+  unfolding doubleOutcome
+  double-sound end =
+      reading-sound (doubleOutcome src end s) (double-inside src end s position-inside)
+      (literal-changes src (s .depth) _ (s .position) _)
+      (literal-room (s .depth) _ (s .position) _)

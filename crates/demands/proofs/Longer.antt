@@ -1,0 +1,73 @@
+-- A part and what comes behind it: an outcome within the part makes the same of a session, for the part and for the longer source.
+-- Assumes nothing.
+--   settled-append   what an outcome comes to
+--   gate-open        the gate, for a sound session and tables that are not too large
+use Prim.Native.Nat.{ℕ, _+_, _-_, _*_, _/_, _≤_}
+use mathlib.Core.Path.{_≡_, refl, sym, ap, _∙_}
+use mathlib.Core.Bool.{Bool, true, false, _&&_}
+use mathlib.Core.List.{List, [], _∷_, _++_}
+use native.Mathlib.Omega.{arith}
+use lib.Dec.{eqb, leb}
+use lib.ListN.{length, take, drop, length-drop}
+use lib.Seq.{take-append-le, drop-append-le}
+use borrow.Author.Tests.{le-leb}
+use Rattle.source.specs.Words.{if_then_else_}
+use Rattle.source.specs.Laid.{laid}
+use Rattle.source.specs.Cursor.{passed}
+use Rattle.source.specs.Refusals.{wait}
+use Rattle.source.specs.declared.Span.{Span}
+use Rattle.source.proofs.Tests.{&&-both}
+use Rattle.state.specs.declared.Session.{Session}
+use Rattle.state.specs.Bounds.{isGood, fitsTables}
+use Rattle.state.specs.Calls.{spanOf}
+use Rattle.state.specs.Gates.{checked, lentRefusal, tablesFit, sourceFits}
+use Rattle.state.proofs.Longer.{good-append}
+use Rattle.token.specs.Records.{recordOf}
+use Rattle.outcome.specs.declared.Change.{Change}
+use Rattle.outcome.specs.Outcomes.{Piece, Outcome, values}
+use Rattle.outcome.specs.Insides.{AllInside, Inside}
+use Rattle.commit.specs.Records.{spanAt, records}
+use Rattle.lexer.specs.Turns.{After, changed, refusing, room, settled, written}
+use Rattle.demands.proofs.Good.{Sound}
+
+module _ (part rest : List ℕ) where
+  slice-append : (from to : ℕ) → from ≤ length part → to ≤ length part
+      → take (to - from) (drop from (part ++ rest)) ≡ take (to - from) (drop from part)
+  slice-append from to h k =
+      rw (drop-append-le from part rest h)
+      (take-append-le (to - from) (drop from part) rest (omega (arith, length-drop from part)))
+
+  module _ (p : Span) (h : p .position ≤ length part) where
+    spanAt-append : (place : ℕ) → place ≤ length part → spanAt (part ++ rest) p place ≡ spanAt part p place
+    spanAt-append place k = ap (passed p) (slice-append (p .position) place h k)
+
+    records-append : (start n after : ℕ) (pieces : List Piece) → after ≤ length part → AllInside n after pieces
+        → records (part ++ rest) p start pieces ≡ records part p start pieces
+    unfolding records
+    records-append start n after [] k i = refl
+    records-append start n after (piece ∷ more) k i =
+        rw (
+          spanAt-append (piece .place) (omega (arith, i .0 .high)),
+          records-append (start + length (piece .value)) (piece .place) after more k (i .1),
+        )
+
+  module _ (s : Session) (l q : List ℕ) (h : s .position ≤ length part) where
+    pub settled-append : (o : Outcome) → Inside (s .position) (length part) o
+        → settled (part ++ rest) s l q o ≡ settled part s l q o
+    unfolding settled
+    settled-append (Outcome.Told pieces after change finished) i =
+        rw (spanAt-append (spanOf s) h after (i .inside), records-append (spanOf s) h (s .bytes) (s .position) after pieces (i .inside) (i .all))
+    settled-append (Outcome.Refused number place) i = rw (spanAt-append (spanOf s) h place (i .high))
+    settled-append Outcome.Wait i = refl
+
+pub gate-open : (src : List ℕ) (list pool : ℕ) (s : Session) → Sound src list pool s → length src ≤ 65536
+    → tablesFit list pool ≡ true → lentRefusal src list pool s ≡ 0
+unfolding lentRefusal sourceFits fitsTables
+gate-open src list pool s h short fit =
+    let marks = &&-both _ _ (le-leb (s .tokens) (list / 8) (h .tokens)) (le-leb (s .bytes) pool (h .bytes)) in
+    rw (fit, le-leb (length src) 65536 short, h .good, marks)
+
+-- a session that is sound over a part is sound over a longer source
+pub sound-append : (part rest : List ℕ) (list pool : ℕ) (s : Session) → Sound part list pool s → Sound (part ++ rest) list pool s
+sound-append part rest list pool s h =
+    record { good = good-append part rest s (h .good); tokens = h .tokens; bytes = h .bytes }

@@ -1,0 +1,178 @@
+-- Positions of records never fall: a step writes its records behind the cursor, and the cursor never goes back. Assumes nothing.
+--   step-rising     where the records before have positions up to the cursor, so have the records after, up to the cursor after
+--   walk-rising     so from an empty list on, after any number of steps
+use Prim.Native.Nat.{ℕ, zero, suc, _+_, _-_, _*_, _/_, _≤_}
+use mathlib.Core.Path.{_≡_, refl, sym, ap, subst, _∙_}
+use mathlib.Core.Bool.{Bool, true, false}
+use mathlib.Core.List.{List, [], _∷_, _++_, append-assoc}
+use native.Mathlib.Omega.{arith}
+use native.Mathlib.Nat.{zero-add, suc-add}
+use lib.Dec.{eqb}
+use lib.ListN.{length, getD, take, drop, length-take, length-drop}
+use lib.Seq.{drop-drop, drop-nil, take-nil, getD-take, take-at, drop-at, length-take-le}
+use borrow.Author.Tests.{eqb-true}
+use Rattle.source.specs.Words.{if_then_else_}
+use Rattle.source.specs.Laid.{laid}
+use Rattle.source.specs.Refusals.{wait}
+use Rattle.source.specs.Cursor.{origin}
+use Rattle.source.specs.declared.Span.{Span}
+use Rattle.source.proofs.Tests.{choice}
+use Rattle.source.proofs.Cursor.{passed-position}
+use Rattle.state.specs.declared.Answer.{Answer}
+use Rattle.state.specs.declared.Session.{Session}
+use Rattle.state.specs.Calls.{spanOf}
+use Rattle.state.specs.Gates.{lentRefusal}
+use Rattle.token.specs.Records.{recordOf}
+use Rattle.outcome.specs.declared.Change.{Change}
+use Rattle.outcome.specs.Outcomes.{Piece, Outcome, values}
+use Rattle.outcome.specs.Insides.{AllInside, Inside}
+use Rattle.outcome.specs.Steps.{stepOutcome}
+use Rattle.outcome.proofs.Insides.{step-inside}
+use Rattle.commit.specs.Records.{spanAt, records}
+use Rattle.lexer.specs.Turns.{After, refusing, room, settled, written}
+use Rattle.lexer.specs.Calls.{gated, stepped}
+use Rattle.demands.specs.Walks.{goOn, walked}
+use Rattle.demands.specs.Records.{positions, Rising}
+use Rattle.demands.proofs.Good.{Sound, StaysSound, step-sound, position-inside, room-facts, records-length}
+
+-- ---- positions of a list in two parts
+
+eight-on : (m : ℕ) → 8 + m * 8 ≡ suc m * 8
+eight-on m = omega arith
+
+positions-sum : (m k : ℕ) (zs : List ℕ) → positions (m + k) zs ≡ positions m zs ++ positions k (drop (m * 8) zs)
+unfolding positions
+positions-sum zero k zs = rw (zero-add k)
+positions-sum (suc m) k zs =
+    let more = positions-sum m k (drop 8 zs) in
+    let there : drop (m * 8) (drop 8 zs) ≡ drop (suc m * 8) zs = drop-drop (m * 8) 8 zs ∙ ap (λ (i : ℕ). drop i zs) (eight-on m) in
+    rw (suc-add m k, more, there)
+
+drop-take : (n k : ℕ) (l : List ℕ) → drop n (take (n + k) l) ≡ take k (drop n l)
+drop-take zero k l = rw (zero-add k)
+drop-take (suc n) k [] = rw (take-nil {A = ℕ} (suc n + k), drop-nil {A = ℕ} (suc n), take-nil {A = ℕ} k)
+drop-take (suc n) k (x ∷ l) = rw (suc-add n k) (drop-take n k l)
+
+-- lists that begin alike have the same positions
+positions-same : (m : ℕ) (zs ws : List ℕ) → take (m * 8) zs ≡ take (m * 8) ws → positions m zs ≡ positions m ws
+unfolding positions
+positions-same zero zs ws e = refl
+positions-same (suc m) zs ws e =
+    let first : getD zs 4 0 ≡ getD ws 4 0 =
+    sym (getD-take (suc m * 8) zs 4 0 (omega arith))
+    ∙ ap (λ (l : List ℕ). getD l 4 0) e
+    ∙ getD-take (suc m * 8) ws 4 0 (omega arith) in
+    let f : take (8 + m * 8) zs ≡ take (8 + m * 8) ws = rw (eight-on m) e in
+    let more : take (m * 8) (drop 8 zs) ≡ take (m * 8) (drop 8 ws) =
+    sym (drop-take 8 (m * 8) zs) ∙ ap (drop 8) f ∙ drop-take 8 (m * 8) ws in
+    rw (first, positions-same m (drop 8 zs) (drop 8 ws) more)
+
+-- what stands before a write, and from it on
+laid-front : (l : List ℕ) (i : ℕ) (vs : List ℕ) → i ≤ length l → take i (laid l i vs) ≡ take i l
+unfolding laid
+laid-front l i vs h = rw (append-assoc (take i l) vs (drop (i + length vs) l)) (take-at (take i l) _ i (length-take-le i l h))
+
+laid-back : (l : List ℕ) (i : ℕ) (vs : List ℕ) → i ≤ length l → drop i (laid l i vs) ≡ vs ++ drop (i + length vs) l
+unfolding laid
+laid-back l i vs h = rw (append-assoc (take i l) vs (drop (i + length vs) l)) (drop-at (take i l) _ i (length-take-le i l h))
+
+-- ---- what a step writes
+
+places : List Piece → List ℕ
+places [] = []
+places (piece ∷ more) = piece .place ∷ places more
+
+module _ (src : List ℕ) (p : Span) where
+  pub span-place : (place : ℕ) → p .position ≤ place → place ≤ length src → spanAt src p place .position ≡ place
+  span-place place h k =
+      passed-position p (take (place - p .position) (drop (p .position) src))
+      ∙ omega (arith, length-drop (p .position) src, length-take-le (place - p .position) (drop (p .position) src) (omega (arith, length-drop (p .position) src)))
+
+  records-positions : (start n after : ℕ) (pieces : List Piece) (more : List ℕ) → p .position ≤ n → after ≤ length src
+      → AllInside n after pieces
+      → positions (length pieces) (records src p start pieces ++ more) ≡ places pieces
+  unfolding positions records places
+  records-positions start n after [] more h k i = refl
+  records-positions start n after (piece ∷ pieces) more h k i =
+      rw (span-place (piece .place) (omega (arith, i .0 .low)) (omega (arith, i .0 .high)))
+      (ap (λ (l : List ℕ). piece .place ∷ l)
+      (records-positions (start + length (piece .value)) (piece .place) after pieces more (omega (arith, i .0 .low)) k (i .1)))
+
+places-rising : (n after : ℕ) (pieces : List Piece) → n ≤ after → AllInside n after pieces → Rising n (places pieces) after
+unfolding places
+places-rising n after [] h i = h
+places-rising n after (piece ∷ pieces) h i = (i .0 .low, places-rising (piece .place) after pieces (i .0 .high) (i .1))
+
+rising-append : (low mid high : ℕ) (xs ys : List ℕ) → Rising low xs mid → Rising mid ys high → Rising low (xs ++ ys) high
+rising-append low mid high [] ys x y = lower ys y
+  where
+    lower : (zs : List ℕ) → Rising mid zs high → Rising low zs high
+    lower [] z = omega (arith, x, z)
+    lower (a ∷ zs) z = (omega (arith, x, z .0), z .1)
+rising-append low mid high (a ∷ xs) ys x y = (x .0, rising-append a mid high xs ys (x .1) y)
+
+-- ---- a step, and many
+
+-- records up to the mark have positions up to the cursor
+pub record Ordered (l : List ℕ) (s : Session) : Type 0 where
+  pub rising : Rising 0 (positions (s .tokens) l) (s .position)
+
+abbrev pub OrderedAfter : After → Type 0
+OrderedAfter a = Ordered (a .list) (a .turn .session)
+
+module _ (src : List ℕ) (s : Session) (l q : List ℕ) (h : Sound src (length l) (length q) s) (o : Ordered l s) where
+  written-rising : (pieces : List Piece) (after : ℕ) (change : Change) (finished : Bool)
+      → Inside (s .position) (length src) (Outcome.Told pieces after change finished) → room s l q pieces ≡ 0
+      → OrderedAfter (written src s l q pieces after change finished)
+  written-rising pieces after change finished i e =
+      let fits = room-facts (length l) (length q) (s .tokens) (s .bytes) (length pieces) (length (values pieces)) e in
+      let m = s .tokens * 8 in
+      let rs = records src (spanOf s) (s .bytes) pieces in
+      let before : positions (s .tokens) (laid l m rs) ≡ positions (s .tokens) l =
+      positions-same (s .tokens) (laid l m rs) l (laid-front l m rs (omega (arith, fits .0))) in
+      let behind : drop m (laid l m rs) ≡ rs ++ drop (m + length rs) l = laid-back l m rs (omega (arith, fits .0)) in
+      let new = records-positions src (spanOf s) (s .bytes) (s .position) after pieces (drop (m + length rs) l) (omega arith) (i .inside) (i .all) in
+      let all : positions (s .tokens + length pieces) (laid l m rs) ≡ positions (s .tokens) l ++ places pieces =
+      rw (positions-sum (s .tokens) (length pieces) (laid l m rs), before, behind, new) in
+      let there = span-place src (spanOf s) after (i .order) (i .inside) in
+      record {
+        rising =
+            rw (all, there)
+            (rising-append 0 (s .position) after (positions (s .tokens) l) (places pieces) (o .rising)
+            (places-rising (s .position) after pieces (i .order) (i .all)));
+      }
+
+  settled-rising : (u : Outcome) → Inside (s .position) (length src) u → OrderedAfter (settled src s l q u)
+  unfolding settled
+  settled-rising (Outcome.Told pieces after change finished) i =
+      choice OrderedAfter (eqb (room s l q pieces) 0) _ _ (λ e. written-rising pieces after change finished i (eqb-true _ _ e)) (λ e. o)
+  settled-rising (Outcome.Refused number place) i = o
+  settled-rising Outcome.Wait i = o
+
+  pub step-rising : (end : Bool) → OrderedAfter (stepped src end s l q)
+  unfolding stepped
+  step-rising end =
+      choice OrderedAfter (eqb (lentRefusal src (length l) (length q) s) 0) _ _
+      (λ e. settled-rising (stepOutcome src end s) (step-inside src end s (position-inside src s l q h))) (λ e. o)
+
+pub walk-rising : (n : ℕ) (src : List ℕ) (end : Bool) (s : Session) (l q : List ℕ) → Sound src (length l) (length q) s → Ordered l s
+    → OrderedAfter (walked n src end s l q)
+unfolding walked goOn
+walk-rising zero src end s l q h o = o
+walk-rising (suc n) src end s l q h o =
+    let now = stepped src end s l q in
+    let sound = step-sound src s l q h end in
+    let next = step-rising src s l q h o end in
+    go (now .turn .answer) _ _ next
+    (walk-rising n src end (now .turn .session) (now .list) (now .pool) (rw (sound .list, sound .pool) (sound .sound)) next)
+  where
+    go : (a : Answer) (now later : After) → OrderedAfter now → OrderedAfter later
+        → OrderedAfter (goOn a now later)
+    go Answer.Done now later x y = y
+    go Answer.Finished now later x y = x
+    go (Answer.Refused number span) now later x y = x
+
+-- an empty list is in order
+pub empty-ordered : (l : List ℕ) (s : Session) → s .tokens ≡ 0 → Ordered l s
+unfolding positions
+empty-ordered l s e = record { rising = rw e (omega arith) }

@@ -1,0 +1,261 @@
+-- Step and the readings on each way through them. Assumes nothing.
+--   Lent, lent-opened   what an open gate tells
+--   settles             from a plan to a turn, behind the gate
+--   steps, reads        the step; the three readings, told over the outcome that the reading has
+use Prim.Native.Nat.{ℕ, _+_, _-_, _/_, _≤_, _<_}
+use mathlib.Core.Path.{_≡_, refl, sym, ap, _∙_}
+use mathlib.Core.Bool.{Bool, true, false, not, _&&_}
+use mathlib.Core.List.{List, []}
+use native.Mathlib.Omega.{arith}
+use lib.Dec.{eqb, leb, ltb}
+use lib.ListN.{length, drop}
+use borrow.Author.Tests.{leb-true, eq-eqb, ne-eqb, lt-ltb, not-true, not-false}
+use Rattle.source.specs.Words.{if_then_else_}
+use Rattle.source.specs.Cursor.{origin}
+use Rattle.source.specs.declared.Span.{Span}
+use Rattle.source.proofs.Tests.{&&-left, &&-right, unrefused}
+use Rattle.state.specs.declared.Frame.{Frame}
+use Rattle.state.specs.declared.Session.{Session}
+use Rattle.state.specs.declared.Turn.{Turn}
+use Rattle.state.specs.Bounds.{isFrame, isWithin, isStack, isGood, fitsTables}
+use Rattle.state.specs.Gates.{sourceFits, tablesFit, lentRefusal}
+use Rattle.state.specs.Calls.{spanOf, refused}
+use Rattle.state.proofs.Bounds.{Within, isWithin-facts}
+use Rattle.state.proofs.Longer.{top-good}
+use Rattle.token.specs.Kinds.{literalSingleQuotedString, literalDoubleQuotedString}
+use Rattle.unit.specs.declared.Mode.{Mode}
+use Rattle.unit.specs.Readings.{textAt}
+use Rattle.number.specs.Numbers.{numberAt}
+use Rattle.outcome.specs.declared.Change.{Change}
+use Rattle.outcome.specs.Outcomes.{Outcome, limited}
+use Rattle.outcome.specs.Insides.{Inside}
+use Rattle.outcome.specs.Texts.{literal, numbered}
+use Rattle.outcome.specs.Steps.{topFrame, framed, rest, stepOutcome, numberOutcome, singleOutcome, doubleOutcome}
+use Rattle.outcome.proofs.Insides.{frame-inside, number-inside, single-inside, double-inside}
+use Rattle.outcome.proofs.Changes.{Limited, literal-room, numbered-room}
+use Rattle.plan.specs.declared.Plan.{Plan}
+use Rattle.plan.specs.Plans.{outcomeOf, PlanReady, Plans, Here}
+use Rattle.commit.specs.declared.Next.{Next}
+use Rattle.commit.specs.declared.Mark.{Mark}
+use Rattle.commit.specs.Records.{Cursor, Marked}
+use Rattle.commit.specs.Nexts.{nextOf, listAfter, poolAfter, Commits, Committed}
+use Rattle.lexer.specs.Turns.{After, Gives, refusing, settled}
+use Rattle.lexer.specs.Calls.{isScripting, gated, stepped, reading, readNumber, readSingle, readDouble}
+use Rattle.lexer.specs.Nexts.{markOf, turnOf, Stacked, Turning, Settles}
+use Rattle.lexer.proofs.Nexts.{limited-free, settled-next, settled-list, settled-pool}
+
+-- what an open gate tells
+record Lent (src : List ℕ) (s : Session) (list pool : ℕ) : Type 0 where
+  source : length src ≤ 65536
+  numbers : Within (length src) s
+  good : isGood src s ≡ true
+  tokens : s .tokens ≤ list / 8
+  bytes : s .bytes ≤ pool
+  places : list / 8 ≤ 65537
+  room : pool ≤ 65536
+
+lent-opened : (src : List ℕ) (s : Session) (list pool : ℕ) → lentRefusal src list pool s ≡ 0 → Lent src s list pool
+unfolding lentRefusal tablesFit sourceFits isGood fitsTables
+lent-opened src s list pool e =
+    let tables = leb pool 65536 && leb (list / 8) 65537 in
+    let good = isWithin (length src) s && isStack src s in
+    let marks = leb (s .tokens) (list / 8) && leb (s .bytes) pool in
+    let large = unrefused (tables && leb (length src) 65536) _ 10 e in
+    let bad = unrefused (good && marks) 0 11 (large .1) .0 in
+    let fits = &&-left tables (leb (length src) 65536) (large .0) in
+    record {
+      source = leb-true _ _ (&&-right tables (leb (length src) 65536) (large .0));
+      numbers = isWithin-facts (length src) s (&&-left (isWithin (length src) s) (isStack src s) (&&-left good marks bad));
+      good = &&-left good marks bad;
+      tokens = leb-true _ _ (&&-left (leb (s .tokens) (list / 8)) (leb (s .bytes) pool) (&&-right good marks bad));
+      bytes = leb-true _ _ (&&-right (leb (s .tokens) (list / 8)) (leb (s .bytes) pool) (&&-right good marks bad));
+      places = leb-true _ _ (&&-right (leb pool 65536) (leb (list / 8) 65537) fits);
+      room = leb-true _ _ (&&-left (leb pool 65536) (leb (list / 8) 65537) fits);
+    }
+
+-- ---- from a plan to a turn
+
+module _ (src : List ℕ) (end : Bool) (s : Session) (plan : Plan) (l q : List ℕ)
+    (f : Settles src end s plan (length l) (length q)) (m : Mark) (e : m ≡ markOf s) where
+  pub settle-commits : Commits src end m plan (length l) (length q)
+  settle-commits =
+      let o = lent-opened src s (length l) (length q) (f .gate) in
+      rw e
+      (record {
+        marked = record {
+          cursor = record {
+            short = o .source;
+            inside = o .numbers .position;
+            line = o .numbers .line-high;
+            column = o .numbers .column-high;
+          };
+          tokens = o .tokens;
+          bytes = o .bytes;
+          places = o .places;
+          room = o .room;
+        };
+        ready = f .ready;
+        inside = f .inside;
+      })
+
+  module _ (x : Next) (l′ q′ : List ℕ)
+      (c : Committed src m l q (limited (s .depth) (m .span .position) (outcomeOf src end plan)) x l′ q′) where
+    pub settle-turning : Turning s x
+    settle-turning =
+        let o = lent-opened src s (length l) (length q) (f .gate) in
+        record {
+          stacked = record { low = o .numbers .depth-low; high = o .numbers .depth-high };
+          free = rw (c .next) (limited-free src m (length l) (length q) (s .depth) (m .span .position) (outcomeOf src end plan));
+        }
+
+    pub settle-gives : (r : Turn) → r ≡ turnOf s x
+        → Gives (settled src s l q (limited (s .depth) (s .position) (outcomeOf src end plan))) r l′ q′
+    settle-gives r h =
+        let o = limited (s .depth) (s .position) (outcomeOf src end plan) in
+        let same : Committed src (markOf s) l q o x l′ q′ = rw e at c in
+        record {
+          turn = h ∙ ap (turnOf s) (same .next) ∙ sym (settled-next src s l q o);
+          list = same .list ∙ sym (settled-list src s l q o);
+          pool = same .pool ∙ sym (settled-pool src s l q o);
+        }
+
+pub ruleset settles = (settle-commits, settle-turning, settle-gives)
+
+-- ---- the gate
+
+module _ (src : List ℕ) (s : Session) (l q : List ℕ) (shut : ℕ) (e : shut ≡ lentRefusal src (length l) (length q) s) where
+  shut-gives : (a : After) (r : Turn) → (shut ≡ 0 → ⊥) → r ≡ refused shut origin s → Gives (gated src s l q a) r l q
+  shut-gives a r n h =
+      rw (← e, ne-eqb shut 0 n) (record { turn = h; list = refl; pool = refl })
+
+  open-gives : (a : After) (r : Turn) (l′ q′ : List ℕ) → shut ≡ 0 → Gives a r l′ q′ → Gives (gated src s l q a) r l′ q′
+  open-gives a r l′ q′ z g = rw (← e, eq-eqb shut 0 z) g
+
+  module _ (z : shut ≡ 0) where
+    abbrev opened : Lent src s (length l) (length q)
+    opened = lent-opened src s (length l) (length q) (sym e ∙ z)
+
+    pub open-stacked : Stacked s
+    open-stacked = record { low = opened .numbers .depth-low; high = opened .numbers .depth-high }
+
+    pub open-here : Here src (s .position)
+    open-here = record { inside = opened .numbers .position; short = opened .source }
+
+-- ---- the step
+
+module _ (src : List ℕ) (end : Bool) (s : Session) (l q : List ℕ) (shut : ℕ)
+    (e : shut ≡ lentRefusal src (length l) (length q) s) where
+  pub step-shut : (r : Turn) → (shut ≡ 0 → ⊥) → r ≡ refused shut origin s → Gives (stepped src end s l q) r l q
+  unfolding stepped
+  step-shut r n h = shut-gives src s l q shut e _ r n h
+
+  module _ (z : shut ≡ 0) (f : Frame) (t : f ≡ topFrame s) where
+    pub step-top : isFrame src f ≡ true
+    step-top = rw t (top-good src s (lent-opened src s (length l) (length q) (sym e ∙ z) .good))
+
+    module _ (plan : Plan)
+        (p : Plans src end (framed f src (s .nowdocs) (s .depth) end (s .position) (rest src s)) plan) where
+      pub step-settles : Settles src end s plan (length l) (length q)
+      step-settles = record {
+        gate = sym e ∙ z;
+        ready = p .ready;
+        inside = rw (p .told) (frame-inside src end s (open-here src s l q shut e z .inside) f);
+      }
+
+      pub step-gives : (r : Turn) (l′ q′ : List ℕ)
+          → Gives (settled src s l q (limited (s .depth) (s .position) (outcomeOf src end plan))) r l′ q′
+          → Gives (stepped src end s l q) r l′ q′
+      unfolding stepped stepOutcome
+      step-gives r l′ q′ g = open-gives src s l q shut e _ r l′ q′ z (rw (p .told, t) at g)
+
+pub ruleset steps = (open-stacked, open-here, step-shut, step-top, step-settles, step-gives)
+
+-- ---- the readings
+
+-- what enters no frame is not limited
+limited-same : (depth n : ℕ) (o : Outcome) → Limited depth o → limited depth n o ≡ o
+unfolding limited
+limited-same depth n (Outcome.Told pieces after Change.Keep finished) h = refl
+limited-same depth n (Outcome.Told pieces after (Change.Swap f) finished) h = refl
+limited-same depth n (Outcome.Told pieces after (Change.Enter f) finished) h = rw (lt-ltb depth 64 h)
+limited-same depth n (Outcome.Told pieces after Change.Leave finished) h = refl
+limited-same depth n (Outcome.Refused number place) h = refl
+limited-same depth n Outcome.Wait h = refl
+
+-- an outcome of a reading: it lies within the source, and enters no frame
+pub record Readable (src : List ℕ) (s : Session) (o : Outcome) : Type 0 where
+  pub inside : s .position ≤ length src → Inside (s .position) (length src) o
+  pub room : Limited (s .depth) o
+
+module _ (src : List ℕ) (end : Bool) (s : Session) where
+  pub number-readable : Readable src s (numberOutcome src end s)
+  unfolding numberOutcome
+  number-readable = record { inside = number-inside src end s; room = numbered-room (s .depth) (s .position) _ }
+
+  pub single-readable : Readable src s (singleOutcome src end s)
+  unfolding singleOutcome
+  single-readable = record { inside = single-inside src end s; room = literal-room (s .depth) literalSingleQuotedString (s .position) _ }
+
+  pub double-readable : Readable src s (doubleOutcome src end s)
+  unfolding doubleOutcome
+  double-readable = record { inside = double-inside src end s; room = literal-room (s .depth) literalDoubleQuotedString (s .position) _ }
+
+module _ (src : List ℕ) (end : Bool) (s : Session) (l q : List ℕ) (o : Outcome)
+    (w : Readable src s o) (shut : ℕ) (e : shut ≡ lentRefusal src (length l) (length q) s) where
+  pub read-shut : (r : Turn) → (shut ≡ 0 → ⊥) → r ≡ refused shut origin s → Gives (reading o src s l q) r l q
+  unfolding reading
+  read-shut r n h = shut-gives src s l q shut e _ r n h
+
+  module _ (z : shut ≡ 0) (f : Frame) (t : f ≡ topFrame s) (flag : Bool) (b : flag ≡ isScripting f) where
+    pub read-elsewhere : (r : Turn) (p : Span) → not flag ≡ true → p ≡ spanOf s → r ≡ refused 10 p s
+        → Gives (reading o src s l q) r l q
+    unfolding reading
+    read-elsewhere r p n here h =
+        let k : isScripting (topFrame s) ≡ false = rw t at (sym b) ∙ not-true flag n in
+        open-gives src s l q shut e _ r l q z (rw k (record { turn = h ∙ rw here; list = refl; pool = refl }))
+
+    module _ (n : not flag ≡ false) (plan : Plan) (p : Plans src end o plan) where
+      pub read-gives : (r : Turn) (l′ q′ : List ℕ)
+          → Gives (settled src s l q (limited (s .depth) (s .position) (outcomeOf src end plan))) r l′ q′
+          → Gives (reading o src s l q) r l′ q′
+      unfolding reading
+      read-gives r l′ q′ g =
+          let k : isScripting (topFrame s) ≡ true = rw t at (sym b) ∙ not-false flag n in
+          let same = limited-same (s .depth) (s .position) o (w .room) in
+          open-gives src s l q shut e _ r l′ q′ z (rw k (rw (p .told, same) at g))
+
+-- the plan of a reading can be settled
+module _ (src : List ℕ) (end : Bool) (s : Session) (l q : List ℕ) (shut : ℕ)
+    (e : shut ≡ lentRefusal src (length l) (length q) s) (z : shut ≡ 0) (plan : Plan) where
+  read-settles : (o : Outcome) → Readable src s o → Plans src end o plan → Settles src end s plan (length l) (length q)
+  read-settles o w p = record {
+    gate = sym e ∙ z;
+    ready = p .ready;
+    inside = rw (p .told) (w .inside (open-here src s l q shut e z .inside));
+  }
+
+  pub number-settles : Plans src end (numbered (s .position) (numberAt end (s .position) (drop (s .position) src))) plan
+      → Settles src end s plan (length l) (length q)
+  unfolding numberOutcome
+  number-settles p = read-settles _ (number-readable src end s) p
+
+  pub single-settles :
+      Plans src end (literal literalSingleQuotedString (s .position) (textAt Mode.Single [] end (s .position) (rest src s))) plan
+      → Settles src end s plan (length l) (length q)
+  unfolding singleOutcome
+  single-settles p = read-settles _ (single-readable src end s) p
+
+  pub double-settles :
+      Plans src end (literal literalDoubleQuotedString (s .position) (textAt Mode.Double [] end (s .position) (rest src s))) plan
+      → Settles src end s plan (length l) (length q)
+  unfolding doubleOutcome
+  double-settles p = read-settles _ (double-readable src end s) p
+
+pub isScripting-arm : (f arm : Frame) (r : Bool) → f ≡ arm → r ≡ isScripting arm → r ≡ isScripting f
+isScripting-arm f arm r e h = rw e h
+
+pub ruleset numbers = (open-stacked, open-here, number-settles, number-readable, read-shut, read-elsewhere, read-gives)
+
+pub ruleset singles = (open-stacked, open-here, single-settles, single-readable, read-shut, read-elsewhere, read-gives)
+
+pub ruleset doubles = (open-stacked, open-here, double-settles, double-readable, read-shut, read-elsewhere, read-gives)

@@ -1,0 +1,16 @@
+-- `lexer::is_scripting` meets its contract: each arm of the match is one frame. Assumes nothing.
+use borrow.Author.Needs.{needs}
+use Rattle.lexer.specs.Calls.{isScripting}
+use Rattle.lexer.proofs.Calls.{isScripting-arm}
+use Rattle.lexer.proofs.is_scripting.Statement.{statement}
+use Rattle.lexer.proofs.is_scripting.Tie as tie
+
+pub is-scripting-spec : {M : Type 1} → statement M
+unfolding isScripting
+is-scripting-spec =
+    tie.close
+    (tie.spec (λ c. search needs) (λ c. search needs) (λ c. search needs) (λ c. search needs) (λ c. search needs)
+    (λ c. search needs) (λ c. search needs) (λ c. search needs) (λ c. search needs) (λ c. search isScripting-arm)
+    (λ c. search isScripting-arm) (λ c. search isScripting-arm) (λ c. search isScripting-arm)
+    (λ c. search isScripting-arm) (λ c. search isScripting-arm) (λ c. search isScripting-arm)
+    (λ c. search isScripting-arm) (λ c. search isScripting-arm))

@@ -1,0 +1,175 @@
+// The lexer: step and the three public readings. The gate, the plan of the top frame or of the reading, and the session after it.
+// Of the Rust: `tokenize`'s loop, one turn at a time. Only this crate knows sessions and tables together.
+use commit::Mark;
+use commit::Next;
+use outcome::Change;
+use plan::Plan;
+use state::Frame;
+use state::Session;
+use state::Slot;
+use state::Turn;
+use unit::Mode;
+ghost use mathlib.Core.Path.{_≡_};
+ghost use lib.ListN.{length};
+ghost use Rattle.outcome.specs.Outcomes.{limited};
+ghost use Rattle.outcome.specs.Steps.{topFrame};
+ghost use Rattle.plan.specs.Plans.{outcomeOf};
+ghost use Rattle.lexer.specs.Turns.{Gives, settled};
+ghost use Rattle.lexer.specs.Calls.{isScripting, stepped, readNumber, readSingle, readDouble};
+ghost use Rattle.lexer.specs.Nexts.{markOf, turnOf, Stacked, Turning, Settles};
+
+// The session's cursor and marks.
+fn mark_of(s: Session) -> Mark
+    ensures { λ r. ⌜ r ≡ markOf s ⌝ }
+{
+    let span = state::span_of(s);
+    Mark {
+        span,
+        tokens: s.tokens,
+        bytes: s.bytes,
+    }
+}
+
+// The session's top frame.
+fn top_frame(s: Session) -> Frame
+    requires { ⌜ Stacked s ⌝ }
+    ensures { λ r. ⌜ r ≡ topFrame s ⌝ }
+{
+    let top = s.depth as usize - 1;
+    let slot = s.frames[top];
+    slot.frame
+}
+
+// The session behind a step: other numbers, and the change of frame.
+fn turned(mut s: Session, x: Next) -> Turn
+    requires { ⌜ Turning s x ⌝ }
+    ensures { λ r. ⌜ r ≡ turnOf s x ⌝ }
+{
+    let answer = x.answer;
+    let m = x.mark;
+    let change = x.change;
+    let depth = s.depth;
+    s.position = m.span.position;
+    s.line = m.span.line;
+    s.column = m.span.column;
+    s.tokens = m.tokens;
+    s.bytes = m.bytes;
+    match change {
+        Change::Keep => {}
+        Change::Swap(f) => {
+            let top = depth as usize - 1;
+            s.frames[top] = Slot { frame: f };
+        }
+        Change::Enter(f) => {
+            let next = depth as usize;
+            s.frames[next] = Slot { frame: f };
+            s.depth = depth + 1;
+        }
+        Change::Leave => {
+            s.depth = depth - 1;
+        }
+    }
+    Turn { answer, session: s }
+}
+
+// A plan becomes a turn, behind the gate.
+fn settle(src: &[u8], end: bool, s: Session, plan: Plan, list: &mut [u32], pool: &mut [u8]) -> Turn
+    requires { ⌜ Settles (now src) end s plan (length (now list)) (length (now pool)) ⌝ }
+    ensures { λ r. ⌜ Gives (settled (now (src .entry)) s (now (list .entry)) (now (pool .entry)) (limited (s .depth) (s .position) (outcomeOf (now (src .entry)) end plan))) r (now (list .exit)) (now (pool .exit)) ⌝ }
+{
+    let x = commit::commit(src, end, mark_of(s), s.depth, plan, list, pool);
+    turned(s, x)
+}
+
+// One step: the routine of the top frame reads on from the cursor. 11 and 12 come first, then what the routine refuses, 9, 7, 8.
+pub fn step(src: &[u8], end: bool, s: Session, list: &mut [u32], pool: &mut [u8]) -> Turn
+    ensures { λ r. ⌜ Gives (stepped (now (src .entry)) end s (now (list .entry)) (now (pool .entry))) r (now (list .exit)) (now (pool .exit)) ⌝ }
+{
+    let shut = state::gate_with_tables(src, list.len(), pool.len(), s);
+    if shut != 0 {
+        return state::refuse_at_gate(shut, s);
+    }
+    let f = top_frame(s);
+    let nowdocs = s.nowdocs;
+    let plan = modes::plan_at(src, end, f, nowdocs, s.depth, s.position as usize);
+    settle(src, end, s, plan, list, pool)
+}
+
+// Whether a frame is Scripting.
+fn is_scripting(f: Frame) -> bool
+    ensures { λ r. ⌜ r ≡ isScripting f ⌝ }
+{
+    match f {
+        Frame::Initial => false,
+        Frame::Scripting => true,
+        Frame::DoubleQuote => false,
+        Frame::ShellExec => false,
+        Frame::Heredoc(_) => false,
+        Frame::Nowdoc(_) => false,
+        Frame::LookingForVarname => false,
+        Frame::LookingForProperty => false,
+        Frame::VarOffset => false,
+    }
+}
+
+// The number at the cursor. Refused without Scripting on top (10), behind 11 and 12.
+pub fn read_number(src: &[u8], end: bool, s: Session, list: &mut [u32], pool: &mut [u8]) -> Turn
+    ensures { λ r. ⌜ Gives (readNumber (now (src .entry)) end s (now (list .entry)) (now (pool .entry))) r (now (list .exit)) (now (pool .exit)) ⌝ }
+{
+    let shut = state::gate_with_tables(src, list.len(), pool.len(), s);
+    if shut != 0 {
+        return state::refuse_at_gate(shut, s);
+    }
+    if !is_scripting(top_frame(s)) {
+        return state::refuse(source::OUT_OF_PLACE, state::span_of(s), s);
+    }
+    let at = s.position as usize;
+    let plan = texts::number(at, src, at, end);
+    settle(src, end, s, plan, list, pool)
+}
+
+// The single-quoted string whose text starts at the cursor. Refused as `read_number` is.
+pub fn read_single(src: &[u8], end: bool, s: Session, list: &mut [u32], pool: &mut [u8]) -> Turn
+    ensures { λ r. ⌜ Gives (readSingle (now (src .entry)) end s (now (list .entry)) (now (pool .entry))) r (now (list .exit)) (now (pool .exit)) ⌝ }
+{
+    let shut = state::gate_with_tables(src, list.len(), pool.len(), s);
+    if shut != 0 {
+        return state::refuse_at_gate(shut, s);
+    }
+    if !is_scripting(top_frame(s)) {
+        return state::refuse(source::OUT_OF_PLACE, state::span_of(s), s);
+    }
+    let at = s.position as usize;
+    let plan = texts::literal(
+        token::LITERAL_SINGLE_QUOTED_STRING,
+        at,
+        Mode::Single,
+        src,
+        at,
+        end,
+    );
+    settle(src, end, s, plan, list, pool)
+}
+
+// The double-quoted string whose text starts at the cursor. Refused as `read_number` is.
+pub fn read_double(src: &[u8], end: bool, s: Session, list: &mut [u32], pool: &mut [u8]) -> Turn
+    ensures { λ r. ⌜ Gives (readDouble (now (src .entry)) end s (now (list .entry)) (now (pool .entry))) r (now (list .exit)) (now (pool .exit)) ⌝ }
+{
+    let shut = state::gate_with_tables(src, list.len(), pool.len(), s);
+    if shut != 0 {
+        return state::refuse_at_gate(shut, s);
+    }
+    if !is_scripting(top_frame(s)) {
+        return state::refuse(source::OUT_OF_PLACE, state::span_of(s), s);
+    }
+    let at = s.position as usize;
+    let plan = texts::literal(
+        token::LITERAL_DOUBLE_QUOTED_STRING,
+        at,
+        Mode::Double,
+        src,
+        at,
+        end,
+    );
+    settle(src, end, s, plan, list, pool)
+}

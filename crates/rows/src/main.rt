@@ -1,0 +1,96 @@
+// Reads a script from standard input and prints its tokens, a row each: kind, line, column, position, detail, value length.
+// Then `end` and the position, or `refused`, the number and its line, column and position.
+use libc::STDIN_FILENO;
+use libc::STDOUT_FILENO;
+use source::Span;
+use state::Answer;
+use state::Reading;
+
+// A number, and a byte behind it.
+fn print_number(n: u32, after: u8) {
+    io::print_decimal(STDOUT_FILENO, n as u64);
+    let sign = [after];
+    io::write_all(STDOUT_FILENO, &sign);
+}
+
+// The row of the token at a place of the list.
+fn print_row(list: &[u32], place: u32) {
+    let at = place as usize * 8;
+    if list.len() < at + 8 {
+        return;
+    }
+    print_number(list[at], b' ');
+    print_number(list[at + 2], b' ');
+    print_number(list[at + 3], b' ');
+    print_number(list[at + 4], b' ');
+    print_number(list[at + 1], b' ');
+    print_number(list[at + 6], b'\n');
+}
+
+// The rows of the first `count` tokens.
+fn print_rows(list: &[u32], count: u32) {
+    let mut place = 0;
+    while place < count {
+        print_row(list, place);
+        place += 1;
+    }
+}
+
+// The end of the script.
+fn print_end(position: u32) {
+    io::write_all(STDOUT_FILENO, b"end ");
+    print_number(position, b'\n');
+}
+
+// A refusal's number and its span.
+fn print_refusal(number: u32, span: Span) {
+    io::write_all(STDOUT_FILENO, b"refused ");
+    print_number(number, b' ');
+    print_number(span.line, b' ');
+    print_number(span.column, b' ');
+    print_number(span.position, b'\n');
+}
+
+// Steps to the script's end; list and pool are emptied after each step, and have room for any. A step that is done moves the cursor
+// on or is the one behind a `${`, so there are no more than two to a byte.
+fn walk(src: &[u8]) {
+    let mut list = [0u32; 16];
+    let mut pool = [0u8; 16384];
+    let mut s = state::fresh(Reading::Ported);
+    let mut left: u32 = 32770;
+    while 0 < left {
+        let t = lexer::step(src, true, s, &mut list, &mut pool);
+        s = t.session;
+        print_rows(&list, s.tokens);
+        let a = t.answer;
+        match a {
+            Answer::Done => {}
+            Answer::Finished => {
+                print_end(s.position);
+                return;
+            }
+            Answer::Refused { number, span } => {
+                print_refusal(number, span);
+                return;
+            }
+        }
+        s.tokens = 0;
+        s.bytes = 0;
+        left -= 1;
+    }
+}
+
+fn main() {
+    let mut buffer = [0u8; 16385];
+    let n = io::read_full(STDIN_FILENO, &mut buffer);
+    if 16384 < n {
+        let first = Span {
+            line: 1,
+            column: 1,
+            position: 0,
+        };
+        print_refusal(source::TOO_LARGE, first);
+        return;
+    }
+    walk(&buffer[..n]);
+}

@@ -1,0 +1,206 @@
+// Runs every worked sheet of document 01, starred or not, through step or a reading, and prints what came of it: a line a text.
+// A line is the letter, then each token (kind, line, column, position, detail, length, and the value's bytes in hexadecimal),
+// then `end` or `finished` and the position, or `refused`, the number and its line, column and position.
+use libc::STDOUT_FILENO;
+use source::Span;
+use state::Answer;
+use state::Frame;
+use state::Label;
+use state::Reading;
+use state::Session;
+use state::Slot;
+use state::Turn;
+
+// A space and a number.
+fn print_number(n: u32) {
+    io::write_all(STDOUT_FILENO, b" ");
+    io::print_decimal(STDOUT_FILENO, n as u64);
+}
+
+// One byte, as two digits.
+fn print_byte(b: u8) {
+    io::print_hex(STDOUT_FILENO, b as u64, 2);
+}
+
+// The bytes of a value.
+fn print_bytes(value: &[u8]) {
+    let mut i = 0;
+    while i < value.len() {
+        print_byte(value[i]);
+        i += 1;
+    }
+}
+
+// A value in brackets: `len` bytes of the pool from `start` on.
+fn print_value(pool: &[u8], start: u32, len: u32) {
+    let start = start as usize;
+    let len = len as usize;
+    if pool.len() < start {
+        return;
+    }
+    if pool.len() - start < len {
+        return;
+    }
+    let to = start + len;
+    io::write_all(STDOUT_FILENO, b" (");
+    print_bytes(&pool[start..to]);
+    io::write_all(STDOUT_FILENO, b");");
+}
+
+// The token at a place of the list.
+fn print_token(list: &[u32], place: u32, pool: &[u8]) {
+    let at = place as usize * 8;
+    if list.len() < at + 8 {
+        return;
+    }
+    print_number(list[at]);
+    print_number(list[at + 2]);
+    print_number(list[at + 3]);
+    print_number(list[at + 4]);
+    print_number(list[at + 1]);
+    print_number(list[at + 6]);
+    print_value(pool, list[at + 5], list[at + 6]);
+}
+
+// The first `count` tokens of the list.
+fn print_tokens(list: &[u32], count: u32, pool: &[u8]) {
+    let mut place = 0;
+    while place < count {
+        print_token(list, place, pool);
+        place += 1;
+    }
+}
+
+// A refusal's number and its span.
+fn print_refusal(number: u32, span: Span) {
+    io::write_all(STDOUT_FILENO, b" refused");
+    print_number(number);
+    print_number(span.line);
+    print_number(span.column);
+    print_number(span.position);
+}
+
+// The answer, and the position after it where the call was done.
+fn print_answer(answer: Answer, position: u32) {
+    match answer {
+        Answer::Done => {
+            io::write_all(STDOUT_FILENO, b" end");
+            print_number(position);
+        }
+        Answer::Finished => {
+            io::write_all(STDOUT_FILENO, b" finished");
+            print_number(position);
+        }
+        Answer::Refused { number, span } => print_refusal(number, span),
+    }
+}
+
+// The line of a text: its sheet's letter, the tokens written, and the answer.
+fn print_turn(letter: u8, t: Turn, list: &[u32], pool: &[u8]) {
+    let answer = t.answer;
+    let s = t.session;
+    let name = [letter, b':'];
+    io::write_all(STDOUT_FILENO, &name);
+    print_tokens(list, s.tokens, pool);
+    print_answer(answer, s.position);
+    io::write_all(STDOUT_FILENO, b"\n");
+}
+
+// A session at the beginning with this frame.
+fn standing(f: Frame, nowdocs: Reading) -> Session {
+    let mut s = state::fresh(nowdocs);
+    s.frames[0] = Slot { frame: f };
+    s
+}
+
+// A step over a text, with room for three tokens and thirty-two value bytes.
+fn step(letter: u8, f: Frame, nowdocs: Reading, src: &[u8], end: bool) {
+    let mut list = [0u32; 24];
+    let mut pool = [0u8; 32];
+    let t = lexer::step(src, end, standing(f, nowdocs), &mut list, &mut pool);
+    print_turn(letter, t, &list, &pool);
+}
+
+// The number at a text's beginning.
+fn number(letter: u8, src: &[u8], end: bool) {
+    let mut list = [0u32; 24];
+    let mut pool = [0u8; 32];
+    let s = standing(Frame::Scripting, Reading::Ported);
+    let t = lexer::read_number(src, end, s, &mut list, &mut pool);
+    print_turn(letter, t, &list, &pool);
+}
+
+// The single-quoted string that a text is the rest of.
+fn single(letter: u8, src: &[u8]) {
+    let mut list = [0u32; 24];
+    let mut pool = [0u8; 32];
+    let s = standing(Frame::Scripting, Reading::Ported);
+    let t = lexer::read_single(src, true, s, &mut list, &mut pool);
+    print_turn(letter, t, &list, &pool);
+}
+
+// The double-quoted string that a text is the rest of.
+fn double(letter: u8, src: &[u8]) {
+    let mut list = [0u32; 24];
+    let mut pool = [0u8; 32];
+    let s = standing(Frame::Scripting, Reading::Ported);
+    let t = lexer::read_double(src, true, s, &mut list, &mut pool);
+    print_turn(letter, t, &list, &pool);
+}
+
+// Sheets a to c: the mode Initial.
+fn initial_sheets() {
+    step(b'a', Frame::Initial, Reading::Ported, b"", true);
+    step(b'b', Frame::Initial, Reading::Ported, b"a<?PHPx", true);
+    step(b'c', Frame::Initial, Reading::Ported, b"<?p", false);
+    step(b'c', Frame::Initial, Reading::Ported, b"<?px", false);
+}
+
+// Sheets d to h: quoted strings.
+fn quoted_sheets() {
+    single(b'd', b"a\\'b\\n'");
+    double(b'e', b"\\377\"");
+    double(b'f', b"\\400\"");
+    double(b'g', b"\\u{20AC}\"");
+    double(b'h', b"\\u{}\"");
+    double(b'h', b"\\u{110000}\"");
+}
+
+// Sheets i to k: numbers.
+fn number_sheets() {
+    number(b'i', b"1__0", true);
+    number(b'i', b"0x", true);
+    number(b'j', b"1E5", true);
+    number(b'j', b"1.5e+x", true);
+    number(b'k', b"1e", false);
+    number(b'k', b"1e+x", false);
+}
+
+// A nowdoc block whose label EOT starts at this place of the text.
+fn nowdoc(start: u16) -> Frame {
+    Frame::Nowdoc(Label { start, len: 3 })
+}
+
+// Sheets l to p: text blocks, the last two as sheets.
+fn block_sheets() {
+    let x = Label { start: 3, len: 1 };
+    step(b'l', nowdoc(4), Reading::Ported, b"a\n  EOTX", true);
+    step(b'm', nowdoc(4), Reading::Ported, b"a\n \tEOT", true);
+    step(b'n', Frame::Heredoc(x), Reading::Ported, b"a\n$x;", true);
+    step(
+        b'o',
+        nowdoc(13),
+        Reading::Sheet,
+        b"  ab\n   c\n\n  EOT",
+        true,
+    );
+    step(b'p', nowdoc(5), Reading::Sheet, b" a\n  EOT", true);
+}
+
+// Every sheet, in the order of document 01.
+fn main() {
+    initial_sheets();
+    quoted_sheets();
+    number_sheets();
+    block_sheets();
+}

@@ -1,0 +1,56 @@
+-- The worked sheets of document 01 hold: each row of the table finds what it says, by computing the definitions. Assumes nothing.
+use mathlib.Core.Path.{_≡_, refl}
+use mathlib.Core.Bool.{true, false}
+use Rattle.source.specs.Words.{bytes, every, run}
+use Rattle.source.specs.Bytes.{isDigit, isOctal, isHex, isLetter, isStart, isIdentifier, isBlank}
+use Rattle.source.specs.Cursor.{passedByte, passed}
+use Rattle.source.specs.Laid.{laid}
+use Rattle.state.specs.Bounds.{isLabel, isFrame, isBottom, isStack, isWithin, isGood, fitsTables}
+use Rattle.state.specs.Gates.{sourceFits, tablesFit, gateRefusal, lentRefusal}
+use Rattle.token.specs.Records.{roomRefusal}
+use Rattle.unit.specs.Digits.{digitValue, isScalar, utf8}
+use Rattle.unit.specs.Escapes.{letterValue, fitted, digits, hex, codePoint, braced, escape, quoteEscape}
+use Rattle.unit.specs.Interpolations as interpolations
+use Rattle.unit.specs.Closers.{matched, indented, closer, judged, line}
+use Rattle.unit.specs.Units.{unitAt}
+use Rattle.unit.specs.Readings.{onto, taken, afterOf, collected, trimmed, losesBreak, finished, textAt}
+use Rattle.number.specs.Numbers as number
+use Rattle.sheet.specs.Bodies as bodies
+use Rattle.sheet.specs.Sheets.{judgedLine, lineKind, withLine, told, block, filled, stripped, answered, sheetAt}
+use Rattle.outcome.specs.Outcomes.{unlessEmpty, values, limited}
+use Rattle.outcome.specs.Initials.{lower, fullTag, openTag, tag, orLater, tagged, tagKind, tagLength, inlined, initial}
+use Rattle.outcome.specs.Openings.{lineFeed, docBreak, docQuote, docEnd, docName, docStart, docLabel, thirdLess, opening, docFrame}
+use Rattle.outcome.specs.Openings.{opened}
+use Rattle.outcome.specs.Texts.{slice, docKind, quoteKind, stopKind, stopDetail, variableChange, stopChange, texted, sheeted}
+use Rattle.outcome.specs.Texts.{isLeft, literal, numberKind, numbered}
+use Rattle.outcome.specs.Lookings.{named, isBracketed, varname, lookingForVarname, property, arrowHead, questioned, lookingForProperty}
+use Rattle.outcome.specs.Lookings.{varOffset}
+use Rattle.outcome.specs.Scripts.{point, word, closeTag, scripting}
+use Rattle.outcome.specs.Steps.{textMode, nowdoc, framed, stepOutcome, numberOutcome, singleOutcome, doubleOutcome}
+use Rattle.commit.specs.Records.{records}
+use Rattle.lexer.specs.Turns.{framesAfter, depthAfter, settled}
+use Rattle.lexer.specs.Calls.{isScripting, stepped, reading}
+use Rattle.worked.specs.Sheets.{standing, called, tokensIn, found, table}
+use Rattle.worked.specs.Sheets.{AllHold}
+
+pub sheets-hold : AllHold table
+unfolding bytes every run isDigit isOctal isHex isLetter isStart isIdentifier isBlank passedByte passed laid isLabel
+    isFrame isBottom isStack isWithin isGood fitsTables sourceFits tablesFit gateRefusal lentRefusal roomRefusal
+    unlessEmpty values limited lower fullTag openTag tag orLater tagged tagKind tagLength inlined initial lineFeed
+    docBreak docQuote docEnd docName docStart docLabel thirdLess opening docFrame opened slice docKind quoteKind
+    stopKind stopDetail variableChange stopChange texted sheeted isLeft literal numberKind numbered named
+    isBracketed varname lookingForVarname property arrowHead questioned lookingForProperty varOffset point word
+    closeTag scripting textMode nowdoc framed stepOutcome numberOutcome singleOutcome doubleOutcome records
+    framesAfter depthAfter settled isScripting stepped reading standing called tokensIn found table digitValue
+    isScalar utf8 letterValue fitted digits hex codePoint braced escape quoteEscape interpolations.property
+    interpolations.arrow interpolations.questionArrow interpolations.follow interpolations.variable
+    interpolations.name interpolations.dollar interpolations.brace interpolations.findDollar
+    interpolations.findBrace matched indented closer judged line unitAt onto taken afterOf collected trimmed
+    losesBreak finished textAt number.isOne number.baseNamed number.baseOf number.isExponent number.isSign
+    number.before number.last number.digitsMore number.digits number.signed number.onto number.closing
+    number.followed number.power number.exponent number.fraction number.digitAhead number.powerAhead
+    number.decided number.marked number.tail number.decimal number.prefixed number.numberIn number.numberAt
+    number.scanned number.lowerExponent number.spelling number.spelled number.valueOf bodies.inFront bodies.lines
+    bodies.isBreak bodies.isOver bodies.unindented bodies.followed bodies.bodyText bodies.unbroken judgedLine
+    lineKind withLine told block filled stripped answered sheetAt
+sheets-hold = (refl, (refl, (refl, (refl, (refl, (refl, (refl, (refl, (refl, (refl, (refl, (refl, (refl, (refl, (refl, (refl, tt))))))))))))))))

@@ -1,0 +1,158 @@
+-- The starred worked sheets of document 01 as one table: the letter, the reading, the text, and what a host finds after the call.
+-- Text after the opening quote or break, positions from its start; a block's label is a range of the text; ample room.
+--   Call       the step with this top frame and this reading of Nowdoc frames, or one of the readings
+--   Written    a token as a host finds it in list and pool
+--   Found      the answer, the session's position, and the tokens
+--   found      what a host finds after a call
+--   table      the sheets
+-- `sheets-hold` (proofs/Sheets.antt) is the one statement: every row finds what it says.
+use Prim.Native.Nat.{ℕ, zero, suc, _+_}
+use Prim.Native.Char.{Char}
+use Prim.Native.String.{String}
+use mathlib.Core.Bool.{Bool, true, false}
+use mathlib.Core.List.{List, [], _∷_}
+use mathlib.Core.Path.{_≡_}
+use lib.ListN.{getD, set, take, drop, replicate}
+use Rattle.source.specs.Words.{bytes}
+use Rattle.source.specs.Cursor.{origin}
+use Rattle.source.specs.Refusals.{invalidUnicodeEscape, invalidOctalEscape, invalidDocIndentation, wait}
+use Rattle.source.specs.declared.Span.{Span}
+use Rattle.state.specs.declared.Answer.{Answer}
+use Rattle.state.specs.declared.Frame.{Frame}
+use Rattle.state.specs.declared.Reading.{Reading}
+use Rattle.state.specs.declared.Session.{Session}
+use Rattle.token.specs.Kinds.{inlineHtml, openTagFull, openTagShort, stringPart, variable, endDocStringSpace}
+use Rattle.token.specs.Kinds.{literalSingleQuotedString, literalDoubleQuotedString, literalInteger}
+use Rattle.lexer.specs.Turns.{After}
+use Rattle.lexer.specs.Calls.{stepped, readNumber, readSingle, readDouble}
+
+pub data Call : Type 0 where
+  Step : Frame → Reading → Call
+  Number : Call
+  Single : Call
+  Double : Call
+
+pub record Written : Type 0 where
+  pub kind : ℕ
+  pub detail : ℕ
+  pub span : Span
+  pub value : List ℕ
+
+pub record Found : Type 0 where
+  pub answer : Answer
+  pub position : ℕ
+  pub tokens : List Written
+
+pub record Sheet : Type 0 where
+  pub letter : Char
+  pub call : Call
+  pub end : Bool
+  pub text : String
+  pub gives : Found
+
+-- ---- what a host finds
+
+-- a session at the beginning with this frame
+unfoldable pub standing : Frame → Reading → Session
+standing f nowdocs = record {
+  position = 0;
+  line = 1;
+  column = 1;
+  depth = 1;
+  tokens = 0;
+  bytes = 0;
+  frames = replicate 64 (record { frame = f });
+  nowdocs = nowdocs;
+}
+
+-- room for three tokens and thirty-two value bytes
+unfoldable pub called : Call → Bool → List ℕ → After
+called (Step f nowdocs) end src = stepped src end (standing f nowdocs) (replicate 24 0) (replicate 32 0)
+called Number end src = readNumber src end (standing Frame.Scripting Reading.Ported) (replicate 24 0) (replicate 32 0)
+called Single end src = readSingle src end (standing Frame.Scripting Reading.Ported) (replicate 24 0) (replicate 32 0)
+called Double end src = readDouble src end (standing Frame.Scripting Reading.Ported) (replicate 24 0) (replicate 32 0)
+
+-- the first so many tokens of a list, with their values in the pool
+unfoldable pub tokensIn : ℕ → List ℕ → List ℕ → List Written
+tokensIn zero list pool = []
+tokensIn (suc count) list pool =
+    record {
+      kind = getD list 0 0;
+      detail = getD list 1 0;
+      span = record { line = getD list 2 0; column = getD list 3 0; position = getD list 4 0 };
+      value = take (getD list 6 0) (drop (getD list 5 0) pool);
+    }
+    ∷ tokensIn count (drop 8 list) pool
+
+unfoldable pub found : After → Found
+found a = record {
+  answer = a .turn .answer;
+  position = a .turn .session .position;
+  tokens = tokensIn (a .turn .session .tokens) (a .list) (a .pool);
+}
+
+-- ---- the table
+
+abbrev at : ℕ → ℕ → ℕ → Span
+at line column position = record { line = line; column = column; position = position }
+
+abbrev one : ℕ → List ℕ → List Written
+one kind value = record { kind = kind; detail = 0; span = origin; value = value } ∷ []
+
+abbrev done : ℕ → List Written → Found
+done position tokens = record { answer = Answer.Done; position = position; tokens = tokens }
+
+abbrev refused : ℕ → Span → Found
+refused number span = record { answer = Answer.Refused number span; position = 0; tokens = [] }
+
+abbrev label : ℕ → ℕ → Frame
+label start len = Frame.Nowdoc (record { start = start; len = len })
+
+abbrev row : Char → Call → Bool → String → Found → Sheet
+row letter call end text gives = record { letter = letter; call = call; end = end; text = text; gives = gives }
+
+abbrev initial : Call
+initial = Step Frame.Initial Reading.Ported
+
+unfoldable pub table : List Sheet
+table =
+    row "a" initial true "" (record { answer = Answer.Finished; position = 0; tokens = one inlineHtml [] })
+    ∷ row "b" initial true "a<?PHPx"
+    (done 6
+    (record { kind = inlineHtml; detail = 0; span = origin; value = bytes "a" }
+    ∷ record { kind = openTagFull; detail = 0; span = at 1 2 1; value = bytes "<?PHP" }
+    ∷ []))
+    ∷ row "c" initial false "<?p" (refused wait origin)
+    ∷ row "c" initial false "<?px" (done 2 (one openTagShort (bytes "<?")))
+    ∷ row "d" Single true "a\\'b\\n'" (done 7 (one literalSingleQuotedString (bytes "a'b\\n")))
+    ∷ row "e" Double true "\\377\"" (done 5 (one literalDoubleQuotedString (255 ∷ [])))
+    ∷ row "f" Double true "\\400\"" (refused invalidOctalEscape (at 1 5 4))
+    ∷ row "g" Double true "\\u{20AC}\"" (done 9 (one literalDoubleQuotedString (0xE2 ∷ 0x82 ∷ 0xAC ∷ [])))
+    ∷ row "h" Double true "\\u{}\"" (refused invalidUnicodeEscape (at 1 4 3))
+    ∷ row "h" Double true "\\u{110000}\"" (refused invalidUnicodeEscape (at 1 11 10))
+    ∷ row "k" Number false "1e" (refused wait origin)
+    ∷ row "k" Number false "1e+x" (done 1 (one literalInteger (bytes "1")))
+    ∷ row "l" (Step (label 4 3) Reading.Ported) true "a\n  EOTX"
+    (done 7
+    (record { kind = stringPart; detail = 0; span = origin; value = bytes "a" }
+    ∷ record { kind = endDocStringSpace; detail = 2; span = origin; value = bytes "EOT" }
+    ∷ []))
+    ∷ row "m" (Step (label 4 3) Reading.Ported) true "a\n \tEOT" (refused invalidDocIndentation (at 2 3 4))
+    ∷ row "n" (Step (Frame.Heredoc (record { start = 3; len = 1 })) Reading.Ported) true "a\n$x;"
+    (done 4
+    (record { kind = stringPart; detail = 0; span = origin; value = bytes "a" }
+    ∷ record { kind = variable; detail = 0; span = origin; value = bytes "$x" }
+    ∷ []))
+    ∷ row "o" (Step (label 13 3) Reading.Sheet) true "  ab\n   c\n\n  EOT"
+    (done 16
+    (record { kind = stringPart; detail = 0; span = origin; value = bytes "ab\n c\n" }
+    ∷ record { kind = endDocStringSpace; detail = 2; span = origin; value = bytes "EOT" }
+    ∷ []))
+    ∷ []
+
+abbrev pub Holds : Sheet → Type 0
+Holds s = found (called (s .call) (s .end) (bytes (s .text))) ≡ s .gives
+
+abbrev pub AllHold : List Sheet → Type 0
+AllHold [] = Unit {0}
+AllHold (s ∷ more) = Holds s × AllHold more
