@@ -9,15 +9,16 @@ use native.Mathlib.Omega.{arith}
 use native.Mathlib.Nat.{suc-add}
 use lib.Dec.{eqb}
 use lib.ListN.{length, length-append}
+use lib.Seq.{take-append-seam}
 use Rattle.source.specs.Words.{if_then_else_, every}
 use Rattle.source.specs.Demand.{isByte}
-use Rattle.source.proofs.Tests.{&&-left, &&-right, &&-both}
 use Rattle.state.specs.declared.Answer.{Answer}
 use Rattle.state.specs.declared.Reading.{Reading}
 use Rattle.state.specs.declared.Session.{Session}
 use Rattle.state.specs.Calls.{freshSession}
 use Rattle.state.specs.Gates.{tablesFit}
 use Rattle.state.proofs.Kept.{fresh-good}
+use Rattle.state.proofs.Longer.{every-part}
 use Rattle.outcome.specs.Steps.{stepOutcome}
 use Rattle.lexer.specs.Turns.{After}
 use Rattle.lexer.specs.Calls.{stepped}
@@ -177,11 +178,7 @@ joined-later src [] = sym (append-nil src)
 joined-later src (part ∷ more) = joined-later (src ++ part) more ∙ append-assoc src part (later more)
 
 every-front : (test : ℕ → Bool) (xs ys : List ℕ) → every test (xs ++ ys) ≡ true → every test xs ≡ true
-unfolding every
-every-front test [] ys e = refl
-every-front test (x ∷ xs) ys e =
-    &&-both (test x) (every test xs) (&&-left (test x) (every test (xs ++ ys)) e)
-    (every-front test xs ys (&&-right (test x) (every test (xs ++ ys)) e))
+every-front test xs ys e = rw (take-append-seam xs ys) at (every-part test (xs ++ ys) (length xs) 0 e)
 
 pub cuts : (n : ℕ) (src : List ℕ) (parts : List (List ℕ)) (s : Session) (l q : List ℕ)
     → every isByte (joined src parts) ≡ true → length (joined src parts) ≤ 65536 → tablesFit (length l) (length q) ≡ true

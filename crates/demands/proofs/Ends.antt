@@ -5,7 +5,7 @@
 --   walk-ends     enough steps end, from every sound session
 --   cuts-whole    a script in parts gives what the uncut one gives, with enough steps and from a fresh session
 use Prim.Native.Nat.{ℕ, zero, suc, _+_, _-_, _*_, _≤_, _<_}
-use mathlib.Core.Path.{_≡_, refl}
+use mathlib.Core.Path.{sym, _≡_, refl}
 use mathlib.Core.Bool.{Bool, true, false}
 use mathlib.Core.List.{List, [], _∷_}
 use native.Mathlib.Omega.{arith}
@@ -36,6 +36,7 @@ use Rattle.commit.specs.Records.{spanAt}
 use Rattle.lexer.specs.Turns.{After, framesAfter, depthAfter, changed, refusing, room, settled}
 use Rattle.lexer.specs.Calls.{stepped}
 use Rattle.demands.specs.Walks.{goOn, walked, joined, fed}
+use Rattle.demands.proofs.Kept.{done-told}
 use Rattle.demands.proofs.Good.{Sound, step-sound, position-inside}
 use Rattle.demands.proofs.Rising.{span-place}
 use Rattle.demands.proofs.Cuts.{Ended, cuts-fresh}
@@ -78,9 +79,6 @@ scripting-owes (slot ∷ frames) (suc i) = scripting-owes frames i
 
 -- ---- a step
 
-done-told : (number : ℕ) (span : Span) → Answer.Refused number span ≡ Answer.Done → ⊥
-done-told number span e = let y : _≡_ {A = ℕ} 0 1 = cc in omega arith
-
 done-finished : Answer.Finished ≡ Answer.Done → ⊥
 done-finished e = let y : _≡_ {A = ℕ} 0 1 = cc in omega arith
 
@@ -89,7 +87,7 @@ module _ (src : List ℕ) (s : Session) (l q : List ℕ) where
   Falls a = a .turn .answer ≡ Answer.Done → remaining src (a .turn .session) < remaining src s
 
   refusing-falls : (number : ℕ) (span : Span) → Falls (refusing number span s l q)
-  refusing-falls number span e = absurd (done-told number span e)
+  refusing-falls number span e = absurd (done-told (sym e))
 
   module _ (h : Sound src (length l) (length q) s) where
     swapped-falls : (after tokens bytes : ℕ) → s .position ≤ after → after ≤ length src → topFrame s ≡ Frame.LookingForVarname

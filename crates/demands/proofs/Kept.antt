@@ -35,7 +35,7 @@ pub record Kept (s : Session) (l q : List ℕ) (a : After) : Type 0 where
 finished-told : {number : ℕ} {span : Span} → Answer.Finished ≡ Answer.Refused number span → ⊥
 finished-told e = let z : _≡_ {A = ℕ} 0 1 = cc in omega arith
 
-done-told : {number : ℕ} {span : Span} → Answer.Done ≡ Answer.Refused number span → ⊥
+pub done-told : {number : ℕ} {span : Span} → Answer.Done ≡ Answer.Refused number span → ⊥
 done-told e = let z : _≡_ {A = ℕ} 0 1 = cc in omega arith
 
 answer-told : (finished : Bool) (number : ℕ) (span : Span) → answerOf finished ≡ Answer.Refused number span → ⊥

@@ -8,8 +8,7 @@ use mathlib.Core.Bool.{Bool, true, false, _&&_}
 use mathlib.Core.List.{List, [], _∷_, _++_}
 use native.Mathlib.Omega.{arith}
 use lib.Dec.{eqb, leb}
-use lib.ListN.{length, take, drop, length-drop}
-use lib.Seq.{take-append-le, drop-append-le}
+use lib.ListN.{length}
 use borrow.Author.Tests.{le-leb}
 use Rattle.source.specs.Words.{if_then_else_}
 use Rattle.source.specs.Laid.{laid}
@@ -26,29 +25,28 @@ use Rattle.token.specs.Records.{recordOf}
 use Rattle.outcome.specs.declared.Change.{Change}
 use Rattle.outcome.specs.Outcomes.{Piece, Outcome, values}
 use Rattle.outcome.specs.Insides.{AllInside, Inside}
+use Rattle.outcome.specs.Texts.{slice}
+use Rattle.outcome.proofs.TextDemand.{slice-append}
 use Rattle.commit.specs.Records.{spanAt, records}
 use Rattle.lexer.specs.Turns.{After, changed, refusing, room, settled, written}
 use Rattle.demands.proofs.Good.{Sound}
 
 module _ (part rest : List ℕ) where
-  slice-append : (from to : ℕ) → from ≤ length part → to ≤ length part
-      → take (to - from) (drop from (part ++ rest)) ≡ take (to - from) (drop from part)
-  slice-append from to h k =
-      rw (drop-append-le from part rest h)
-      (take-append-le (to - from) (drop from part) rest (omega (arith, length-drop from part)))
-
   module _ (p : Span) (h : p .position ≤ length part) where
-    spanAt-append : (place : ℕ) → place ≤ length part → spanAt (part ++ rest) p place ≡ spanAt part p place
-    spanAt-append place k = ap (passed p) (slice-append (p .position) place h k)
+    spanAt-append : (place : ℕ) → p .position ≤ place → place ≤ length part → spanAt (part ++ rest) p place ≡ spanAt part p place
+    unfolding slice
+    spanAt-append place low k =
+        let z : p .position - 0 ≡ p .position = omega arith in
+        ap (passed p) (rw z at (slice-append 0 part rest (p .position) place (omega arith) low (omega arith)))
 
-    records-append : (start n after : ℕ) (pieces : List Piece) → after ≤ length part → AllInside n after pieces
+    records-append : (start n after : ℕ) (pieces : List Piece) → p .position ≤ n → after ≤ length part → AllInside n after pieces
         → records (part ++ rest) p start pieces ≡ records part p start pieces
     unfolding records
-    records-append start n after [] k i = refl
-    records-append start n after (piece ∷ more) k i =
+    records-append start n after [] low k i = refl
+    records-append start n after (piece ∷ more) low k i =
         rw (
-          spanAt-append (piece .place) (omega (arith, i .0 .high)),
-          records-append (start + length (piece .value)) (piece .place) after more k (i .1),
+          spanAt-append (piece .place) (omega (arith, i .0 .low)) (omega (arith, i .0 .high)),
+          records-append (start + length (piece .value)) (piece .place) after more (omega (arith, i .0 .low)) k (i .1),
         )
 
   module _ (s : Session) (l q : List ℕ) (h : s .position ≤ length part) where
@@ -56,8 +54,11 @@ module _ (part rest : List ℕ) where
         → settled (part ++ rest) s l q o ≡ settled part s l q o
     unfolding settled
     settled-append (Outcome.Told pieces after change finished) i =
-        rw (spanAt-append (spanOf s) h after (i .inside), records-append (spanOf s) h (s .bytes) (s .position) after pieces (i .inside) (i .all))
-    settled-append (Outcome.Refused number place) i = rw (spanAt-append (spanOf s) h place (i .high))
+        rw (
+          spanAt-append (spanOf s) h after (i .order) (i .inside),
+          records-append (spanOf s) h (s .bytes) (s .position) after pieces (omega arith) (i .inside) (i .all),
+        )
+    settled-append (Outcome.Refused number place) i = rw (spanAt-append (spanOf s) h place (i .low) (i .high))
     settled-append Outcome.Wait i = refl
 
 pub gate-open : (src : List ℕ) (list pool : ℕ) (s : Session) → Sound src list pool s → length src ≤ 65536

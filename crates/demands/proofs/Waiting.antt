@@ -57,14 +57,17 @@ module _ (src : List ℕ) (s : Session) (l q : List ℕ) where
   settled-other (Outcome.Refused number place) hi i k = i .told
   settled-other Outcome.Wait hi i k = absurd (k refl)
 
+  settled-wait : (o : Outcome) (hi : ℕ) → Inside (s .position) hi o → isWait (settled src s l q o .turn .answer) ≡ true
+      → o ≡ Outcome.Wait
+  settled-wait (Outcome.Told pieces after change finished) hi i e =
+      absurd (false≢true (sym (settled-other (Outcome.Told pieces after change finished) hi i told-waits) ∙ e))
+  settled-wait (Outcome.Refused number place) hi i e =
+      absurd (false≢true (sym (settled-other (Outcome.Refused number place) hi i refused-waits) ∙ e))
+  settled-wait Outcome.Wait hi i e = refl
+
   settled-six : (o : Outcome) → o ≡ Outcome.Wait → isWait (settled src s l q o .turn .answer) ≡ true
   unfolding settled isWait
   settled-six o e = rw e
-
-is-wait : (o : Outcome) → Dec (o ≡ Outcome.Wait)
-is-wait (Outcome.Told pieces after change finished) = no told-waits
-is-wait (Outcome.Refused number place) = no refused-waits
-is-wait Outcome.Wait = yes refl
 
 -- a call whose gate is open, by its outcome
 module _ (call : List ℕ → Bool → After) (outcome : List ℕ → Bool → Outcome) (part : List ℕ) (s : Session) (l q : List ℕ)
@@ -80,15 +83,9 @@ module _ (call : List ℕ → Bool → After) (outcome : List ℕ → Bool → O
   six : outcome part false ≡ Outcome.Wait → isWait (call part false .turn .answer) ≡ true
   six e = rw (here false) (settled-six part s l q (outcome part false) e)
 
-  other : (outcome part false ≡ Outcome.Wait → ⊥) → isWait (call part false .turn .answer) ≡ false
-  other k = rw (here false) (settled-other part s l q (outcome part false) (length part) (inside part false place) k)
-
   waiting-six : isWait (call part false .turn .answer) ≡ true → outcome part false ≡ Outcome.Wait
-  waiting-six e = go (is-wait (outcome part false))
-    where
-      go : Dec (outcome part false ≡ Outcome.Wait) → outcome part false ≡ Outcome.Wait
-      go (yes h) = h
-      go (no h) = absurd (false≢true (sym (other h) ∙ e))
+  waiting-six e =
+      settled-wait part s l q (outcome part false) (length part) (inside part false place) (rw (here false) at e)
 
   settled-other-wait : isWait (call part false .turn .answer) ≡ false → outcome part false ≡ Outcome.Wait → ⊥
   settled-other-wait e h = false≢true (sym e ∙ six h)
