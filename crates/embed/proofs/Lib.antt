@@ -1,1 +1,3 @@
-pub mod Numbers
+pub mod Places
+pub mod Calls
+pub mod Boundary

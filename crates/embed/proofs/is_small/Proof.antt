@@ -1,6 +1,6 @@
 -- `embed::is_small` meets its contract: the code is the definition. Assumes nothing.
 use mathlib.Core.Path.{refl}
-use Rattle.embed.specs.Numbers.{isSmall}
+use Rattle.embed.specs.Places.{isSmall}
 use Rattle.embed.proofs.is_small.Statement.{statement}
 use Rattle.embed.proofs.is_small.Tie as tie
 

@@ -2,7 +2,7 @@
 use native.Mathlib.Omega.{arith}
 use lib.ListN.{length-set}
 use borrow.Author.Needs.{needs}
-use Rattle.embed.proofs.Numbers.{pasts}
+use Rattle.embed.proofs.Places.{pasts}
 use Rattle.embed.proofs.puretakoi_past.Statement.{statement}
 use Rattle.embed.proofs.puretakoi_past.Tie as tie
 

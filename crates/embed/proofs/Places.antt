@@ -11,7 +11,7 @@ use borrow.Author.Tests.{le-leb, lt-leb, leb-true, eq-eqb, ne-eqb, not-true, not
 use Rattle.source.specs.Cursor.{Reaches, passed}
 use Rattle.source.specs.declared.Span.{Span}
 use Rattle.source.proofs.Tests.{&&-left, &&-right}
-use Rattle.embed.specs.Numbers.{spanIn, numbersOf, isSmall, pastRefusal, Past}
+use Rattle.embed.specs.Places.{spanIn, numbersOf, isSmall, pastRefusal, Past}
 
 module _ (part span : List ℕ) where
   pub past-large : 65536 < length part → Past part span 11 span
@@ -34,7 +34,8 @@ module _ (part span : List ℕ) where
           let e : pastRefusal part span ≡ 12 = rw (le-leb (length part) 65536 p, eq-eqb (length span) 3 n, ← f, not-true flag t) in
           record { answer = sym e; holds = rw e }
 
-      pub past-done : (to : Span) → not flag ≡ false → to ≡ passed (spanIn span) part → Past part span 0 (set (set (set span 0 (to .line)) 1 (to .column)) 2 (to .position))
+      pub past-done : (to : Span) → not flag ≡ false → to ≡ passed (spanIn span) part
+          → Past part span 0 (set (set (set span 0 (to .line)) 1 (to .column)) 2 (to .position))
       unfolding pastRefusal
       past-done to t q =
           let e : pastRefusal part span ≡ 0 = rw (le-leb (length part) 65536 p, eq-eqb (length span) 3 n, ← f, not-false flag t) in
@@ -60,5 +61,6 @@ module _ (part span : List ℕ) where
 pub ruleset pasts = (past-large, past-short, past-wild, past-done, past-reaches)
 
 -- two results that meet one statement are equal
-pub past-one : (part span : List ℕ) (r r′ : ℕ) (after after′ : List ℕ) → Past part span r after → Past part span r′ after′ → (r ≡ r′) × (after ≡ after′)
+pub past-one : (part span : List ℕ) (r r′ : ℕ) (after after′ : List ℕ) → Past part span r after → Past part span r′ after′
+    → (r ≡ r′) × (after ≡ after′)
 past-one part span r r′ after after′ f g = (f .answer ∙ sym (g .answer), f .holds ∙ sym (g .holds))

@@ -1,4 +1,4 @@
--- What crosses to a host as numbers: a place as line, column, position.
+-- A place as numbers: line, column, position.
 --   spanIn, numbersOf   the place in three numbers, and back
 --   isSmall             no number of a place is over 65,537
 --   pastRefusal         11 for a part over 65,536 bytes, 10 for no three numbers, 12 for a number over 65,537, or 0

@@ -1,0 +1,176 @@
+/* Puretakoi for hosts in C: the functions of libembed.a, the layout of a session, and the refusal numbers.
+ *
+ * A slice is a pointer and a length, in bytes for uint8_t and in numbers for uint32_t. Pointer and length must be true, a pointer is
+ * not null and rightly aligned (also with length 0), and slices of one call must not overlap. Any numbers may stand in them: every call
+ * ends with an answer.
+ *
+ * `src` is all of the script so far, from its first byte on: after a wait lend the longer one, never the next piece alone. */
+#ifndef PURETAKOI_H
+#define PURETAKOI_H
+
+#include <stddef.h>
+#include <stdint.h>
+
+#ifdef __cplusplus
+extern "C" {
+#endif
+
+/* ---- Limits */
+
+#define PURETAKOI_MOST_BYTES 65536  /* of a source, and of a pool */
+#define PURETAKOI_MOST_TOKENS 65537 /* places of a list */
+#define PURETAKOI_MOST_FRAMES 64    /* of a mode stack */
+#define PURETAKOI_MOST_LABEL 64     /* bytes of a text block's label */
+
+/* ---- A session: 199 numbers. A longer slice is as good; what lies behind is not touched. Between calls a host may set both marks to
+ * 0: list and pool are then empty. The top frame is session[PURETAKOI_SLOTS + PURETAKOI_SLOT * (session[PURETAKOI_DEPTH] - 1)].
+ * Slots above the depth mean nothing; a call may change them. */
+
+#define PURETAKOI_SESSION 199 /* how many numbers a session has */
+#define PURETAKOI_POSITION 0  /* bytes of the source that are read */
+#define PURETAKOI_LINE 1      /* the cursor's line, from 1 */
+#define PURETAKOI_COLUMN 2    /* the cursor's column in bytes, from 1 */
+#define PURETAKOI_DEPTH 3     /* frames on the mode stack, 1 to 64 */
+#define PURETAKOI_TOKENS 4    /* the list's fill mark: records that are in it */
+#define PURETAKOI_BYTES 5     /* the pool's fill mark: bytes that are in it */
+#define PURETAKOI_READING 6   /* how nowdoc blocks are read: a choice below */
+#define PURETAKOI_SLOTS 7     /* the first of 64 slots, the bottom frame's */
+#define PURETAKOI_SLOT 3      /* numbers of a slot: frame, label start, label length (0, 0 for a frame without a label) */
+
+#define PURETAKOI_READING_PORTED 0 /* as the lexer that was carried over reads them */
+#define PURETAKOI_READING_SHEET 1  /* as a sheet: the closing line's indentation comes off each row */
+
+#define PURETAKOI_FRAME_INITIAL 0              /* inline text up to a tag */
+#define PURETAKOI_FRAME_SCRIPTING 1            /* the script */
+#define PURETAKOI_FRAME_DOUBLE_QUOTE 2         /* a double-quoted string behind its first interpolation */
+#define PURETAKOI_FRAME_SHELL_EXEC 3           /* a command between backticks */
+#define PURETAKOI_FRAME_HEREDOC 4              /* a heredoc block; its label is a range of the source */
+#define PURETAKOI_FRAME_NOWDOC 5               /* a nowdoc block; its label is a range of the source */
+#define PURETAKOI_FRAME_LOOKING_FOR_VARNAME 6  /* behind ${ */
+#define PURETAKOI_FRAME_LOOKING_FOR_PROPERTY 7 /* at an arrow behind a variable */
+#define PURETAKOI_FRAME_VAR_OFFSET 8           /* between [ and ] behind a variable */
+
+/* ---- An answer: 5 numbers. A longer slice is as good. */
+
+#define PURETAKOI_ANSWER 5          /* how many numbers an answer has */
+#define PURETAKOI_ANSWER_WAY 0      /* done, finished or refused, below */
+#define PURETAKOI_ANSWER_REFUSAL 1  /* the refusal's number, or 0 */
+#define PURETAKOI_ANSWER_LINE 2     /* the refusal's line, or 0 */
+#define PURETAKOI_ANSWER_COLUMN 3   /* the refusal's column, or 0 */
+#define PURETAKOI_ANSWER_POSITION 4 /* the refusal's position, or 0 */
+
+#define PURETAKOI_DONE 0     /* done: go on */
+#define PURETAKOI_FINISHED 1 /* done, and nothing is left to read */
+#define PURETAKOI_REFUSED 2  /* refused: session, list and pool are as they were */
+
+/* ---- A token: 8 numbers of the list. As a file: 32 bytes, little-endian. */
+
+#define PURETAKOI_RECORD 8          /* how many numbers a record has */
+#define PURETAKOI_RECORD_KIND 0     /* which token, below */
+#define PURETAKOI_RECORD_DETAIL 1   /* the indentation of an end of a text block, else 0 */
+#define PURETAKOI_RECORD_LINE 2     /* where it stands */
+#define PURETAKOI_RECORD_COLUMN 3   /* in bytes */
+#define PURETAKOI_RECORD_POSITION 4 /* in bytes from the source's start */
+#define PURETAKOI_RECORD_START 5    /* its value: the first byte in the pool */
+#define PURETAKOI_RECORD_LENGTH 6   /* and how many bytes; the eighth number is 0 */
+
+#define PURETAKOI_KIND_INLINE_HTML 1                   /* text outside tags */
+#define PURETAKOI_KIND_OPEN_TAG_FULL 2                 /* <?php, its value in the script's letter case */
+#define PURETAKOI_KIND_OPEN_TAG_ECHO 3                 /* <?= */
+#define PURETAKOI_KIND_OPEN_TAG_SHORT 4                /* <? */
+#define PURETAKOI_KIND_STRING_PART 5                   /* text before an interpolation or a closer */
+#define PURETAKOI_KIND_DOLLAR_LEFT_BRACE 6             /* ${ */
+#define PURETAKOI_KIND_LEFT_BRACE 7                    /* { before a variable */
+#define PURETAKOI_KIND_DOUBLE_QUOTE 8                  /* the closing double quote */
+#define PURETAKOI_KIND_BACKTICK 9                      /* the closing backtick */
+#define PURETAKOI_KIND_VARIABLE 10                     /* $name */
+#define PURETAKOI_KIND_END_DOC_STRING_NONE 11          /* the end of a text block, not indented */
+#define PURETAKOI_KIND_END_DOC_STRING_SPACE 12         /* the end of a text block, indented by spaces */
+#define PURETAKOI_KIND_END_DOC_STRING_TAB 13           /* the end of a text block, indented by tabs */
+#define PURETAKOI_KIND_IDENTIFIER 14                   /* a name */
+#define PURETAKOI_KIND_QUESTION_ARROW 15               /* ?-> */
+#define PURETAKOI_KIND_ARROW 16                        /* -> */
+#define PURETAKOI_KIND_LITERAL_SINGLE_QUOTED_STRING 17 /* '..' */
+#define PURETAKOI_KIND_LITERAL_DOUBLE_QUOTED_STRING 18 /* ".." without interpolation */
+#define PURETAKOI_KIND_LITERAL_INTEGER 19              /* a whole number */
+#define PURETAKOI_KIND_LITERAL_FLOAT 20                /* a number with a point or an exponent */
+
+/* ---- Refusals. Each call gives the number, or 0. */
+
+#define PURETAKOI_UNEXPECTED_END_OF_FILE 1  /* something is still open where the source ends */
+#define PURETAKOI_INVALID_UNICODE_ESCAPE 2  /* \u{..} names no code point */
+#define PURETAKOI_INVALID_OCTAL_ESCAPE 3    /* an octal escape is over 377 */
+#define PURETAKOI_INVALID_DOC_INDENTATION 4 /* a closing line mixes spaces and tabs */
+#define PURETAKOI_NO_PROPERTY 5             /* neither arrow nor name where a property is looked for */
+#define PURETAKOI_WAIT 6                    /* lend more of the script, or announce its end; the open text is then read again */
+#define PURETAKOI_LIST_FULL 7               /* more tokens than places left */
+#define PURETAKOI_POOL_FULL 8               /* more value bytes than pool left */
+#define PURETAKOI_STACK_FULL 9              /* a frame would be the 65th */
+#define PURETAKOI_OUT_OF_PLACE 10           /* the call does not fit, or a slice is too short */
+#define PURETAKOI_TOO_LARGE 11              /* source or pool over 65,536 bytes, or list over 65,537 tokens */
+#define PURETAKOI_BAD_SESSION 12            /* the numbers are no session, or one outside its bounds */
+#define PURETAKOI_STRAY_INDENTATION 13      /* a row of a sheet starts with less than the closing line's indentation */
+
+/* ---- Calls with a session.
+ *
+ * The answer goes to `answer` and its refusal, or 0, is given back. `session` is changed where the answer is done or finished, and
+ * then alone. A session of fewer than 199 numbers or an answer of fewer than 5 is refused first, with 10, and nothing is written, the
+ * answer neither: look at the number given back. `puretakoi_fresh` has no answer. */
+
+/* A session before its script, with the reading of nowdoc blocks. Refused: fewer than 199 numbers (10), no such reading (12). */
+uint32_t puretakoi_fresh(uint32_t reading, uint32_t *session, size_t session_len);
+
+/* One step from the cursor on. `end` is 0 where more of the script may come; any other number announces the end. New records and value
+ * bytes stand behind the marks: at most two records, and no more value bytes than the step passes, so that 16 numbers and a pool as long
+ * as the source are room for any step from marks of 0. */
+uint32_t puretakoi_step(const uint8_t *src, size_t src_len, uint32_t end, uint32_t *session, size_t session_len, uint32_t *list,
+                        size_t list_len, uint8_t *pool, size_t pool_len, uint32_t *answer, size_t answer_len);
+
+/* The number at the cursor. Refused with 10 where Scripting is not on top; so are the next two. */
+uint32_t puretakoi_read_number(const uint8_t *src, size_t src_len, uint32_t end, uint32_t *session, size_t session_len,
+                               uint32_t *list, size_t list_len, uint8_t *pool, size_t pool_len, uint32_t *answer,
+                               size_t answer_len);
+
+/* The single-quoted string whose text starts at the cursor, behind its quote. */
+uint32_t puretakoi_read_single(const uint8_t *src, size_t src_len, uint32_t end, uint32_t *session, size_t session_len,
+                               uint32_t *list, size_t list_len, uint8_t *pool, size_t pool_len, uint32_t *answer,
+                               size_t answer_len);
+
+/* The double-quoted string whose text starts at the cursor, behind its quote, up to its end or its first interpolation. */
+uint32_t puretakoi_read_double(const uint8_t *src, size_t src_len, uint32_t end, uint32_t *session, size_t session_len,
+                               uint32_t *list, size_t list_len, uint8_t *pool, size_t pool_len, uint32_t *answer,
+                               size_t answer_len);
+
+/* The cursor goes on by `count` bytes. Refused past the end (10). */
+uint32_t puretakoi_skip(const uint8_t *src, size_t src_len, size_t count, uint32_t *session, size_t session_len, uint32_t *answer,
+                        size_t answer_len);
+
+/* One frame more: its number, and its label's start and length, which are not looked at for a frame without a label. Refused: no such
+ * frame or no label (10), a 65th frame (9). */
+uint32_t puretakoi_push(const uint8_t *src, size_t src_len, uint32_t frame, uint32_t start, uint32_t len, uint32_t *session,
+                        size_t session_len, uint32_t *answer, size_t answer_len);
+
+/* One frame less. Refused at depth 1 (10). */
+uint32_t puretakoi_pop(const uint8_t *src, size_t src_len, uint32_t *session, size_t session_len, uint32_t *answer,
+                       size_t answer_len);
+
+/* ---- Calls without a session. */
+
+/* How many bytes the identifier at `at` has, 0 for none: it is src[at] up to src[at + length - 1]. */
+size_t puretakoi_peek_identifier(const uint8_t *src, size_t src_len, size_t at);
+
+/* Line, column and position in three numbers, moved past all bytes of a part. Refused: part too large (11), no three numbers (10),
+ * a number over 65,537 (12). */
+uint32_t puretakoi_past(const uint8_t *part, size_t part_len, uint32_t *span, size_t span_len);
+
+/* All records of a list as a file of 32 bytes each: lend 8 * session[PURETAKOI_TOKENS] numbers for those up to the mark. Refused: too many (11), no whole number of records (10), too short a file (8). */
+uint32_t puretakoi_list_to_file(const uint32_t *list, size_t list_len, uint8_t *file, size_t file_len);
+
+/* All records of a file as a list. Refused: too many (11), no whole number of records (10), too short a list (7). */
+uint32_t puretakoi_file_to_list(const uint8_t *file, size_t file_len, uint32_t *list, size_t list_len);
+
+#ifdef __cplusplus
+}
+#endif
+
+#endif
