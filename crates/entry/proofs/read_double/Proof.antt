@@ -1,0 +1,21 @@
+-- `entry::read_double` meets its contract: its code is the shared one with `lexer::read_double` as the callee. Assumes nothing.
+use contract.Running.{givenOf, tables, tablesOf}
+use denote.Triple.Spec.{tripleOf}
+use denote.Triple.Table.{entered, cited}
+use Rattle.lexer.specs.Calls.{readDouble}
+use Rattle.lexer.proofs.read_double.Symbol as callee
+use Rattle.lexer.proofs.read_double.Met as known
+use Rattle.entry.proofs.Walk.{Called, meets}
+use Rattle.entry.proofs.read_double as entry
+use Rattle.entry.proofs.read_double.Key.{name}
+use Rattle.entry.proofs.read_double.Statement.{statement}
+use Rattle.entry.proofs.read_double.Code as code
+
+pub read-double-spec : {M : Type 1} → statement M
+unfolding code.routine tablesOf
+read-double-spec 𝓤 H 𝓜 𝓖 𝓡 =
+    entered 𝓤 H (tripleOf 𝓤 H (𝓖 .A) entry.signature (entry.spec 𝓤 H (𝓖 .A) (𝓜 .mem) (𝓡 .run)))
+    (tables 𝓤 H 𝓜 𝓡 code.env .C) (tables 𝓤 H 𝓜 𝓡 code.env .Λ) name code.function (code.unfolded 𝓤 H 𝓜 𝓡)
+    (meets readDouble callee.name 𝓤 H (𝓖 .A) (givenOf 𝓤 H 𝓜 𝓖) (tablesOf 𝓤 H 𝓜 (tables 𝓤 H 𝓜 𝓡 code.env))
+    (cited 𝓤 H (Called readDouble 𝓤 H (𝓖 .A)) 𝓜 𝓡 code.env callee.name callee.routine code.calls-lexer·read-double
+    (known.met 𝓤 H 𝓜 𝓖 𝓡)))
