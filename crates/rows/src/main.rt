@@ -1,5 +1,6 @@
 // Reads a script from standard input and prints its tokens, a row each: kind, line, column, position, detail, value length.
 // Then `end` and the position, or `refused`, the number and its line, column and position.
+use libc::STDERR_FILENO;
 use libc::STDIN_FILENO;
 use libc::STDOUT_FILENO;
 use source::Span;
@@ -80,6 +81,12 @@ fn walk(src: &[u8]) {
     }
 }
 
+// Whether standard input can't be read: behind its last byte a read fails, and does not end.
+fn is_unreadable() -> bool {
+    let mut space = [0u8; 1];
+    libc::read(STDIN_FILENO, &mut space) < 0
+}
+
 fn main() {
     let mut buffer = [0u8; 16385];
     let n = io::read_full(STDIN_FILENO, &mut buffer);
@@ -90,6 +97,13 @@ fn main() {
             position: 0,
         };
         print_refusal(source::TOO_LARGE, first);
+        return;
+    }
+    if is_unreadable() {
+        io::write_all(
+            STDERR_FILENO,
+            b"rows: standard input can't be read: give it a script, as in rows < sheet.php\n",
+        );
         return;
     }
     walk(&buffer[..n]);
