@@ -8,7 +8,7 @@
 //
 // A token is its kind and its text, or its one sign. In TEXT and tokens the signs below stand for bytes.
 
-const SIGNS = ['⏎' => "\n", '␍' => "\r", '⇥' => "\t", '·' => ' '];
+const SIGNS = ['⏎' => "\n", '␍' => "\r", '⇥' => "\t", '·' => ' ', '␁' => "\x01"];
 
 exit(main($argv[1]));
 

@@ -115,10 +115,6 @@ fn routine_named(word: &[u8]) -> Result<Routine, String> {
     Err(format!("there is no routine `{}`", word.escape_ascii()))
 }
 
-fn number(what: &str, word: &[u8]) -> Result<usize, String> {
-    let wrong = || format!("the {} `{}` is not a number, or too large", what, word.escape_ascii());
-    if word.is_empty() || !word.iter().all(u8::is_ascii_digit) {
-        return Err(wrong());
-    }
-    std::str::from_utf8(word).map_err(|_| wrong())?.parse().map_err(|_| wrong())
+pub(crate) fn number(what: &str, word: &[u8]) -> Result<usize, String> {
+    hex::decimal(word).ok_or_else(|| format!("the {} `{}` is not a number, or too large", what, word.escape_ascii()))
 }

@@ -1,19 +1,35 @@
-//! Files of `CASE => ANSWER` lines: `#` starts a comment line, an empty line says nothing.
+//! Files of `CASE => ANSWER` or `CALL => GIVEN` lines: `#` starts a comment line, an empty line says nothing.
 
 use std::path::Path;
+
+use crate::Call;
 
 /// Says `ok NAME (N cases)`, or `FAILED NAME` and the first difference; true if all is as written.
 /// `answer_to` appends the answer to a case line.
 pub fn compare(name: &str, path: &Path, answer_to: impl FnMut(&[u8], &mut Vec<u8>)) -> bool {
+    said(name, "cases", path, answer_to).is_some()
+}
+
+/// The same for a file of calls; the number of its calls, or none where something is not as written.
+/// `given_by` appends what a call gives.
+pub fn compare_calls(name: &str, path: &Path, mut given_by: impl FnMut(&Call, &mut Vec<u8>)) -> Option<usize> {
+    said(name, "calls", path, |line, out| match Call::read(line) {
+        Ok(call) => given_by(&call, out),
+        Err(wrong) => out.extend_from_slice(format!("fault {}", wrong).as_bytes()),
+    })
+}
+
+/// Compares and says what came of it, with this word for the lines.
+fn said(name: &str, word: &str, path: &Path, answer_to: impl FnMut(&[u8], &mut Vec<u8>)) -> Option<usize> {
     let result = match std::fs::read(path) {
         Ok(text) => first_difference(&text, answer_to),
         Err(error) => Err(format!("  {} can't be read: {}", path.display(), error)),
     };
-    match result {
-        Ok(count) => println!("ok {} ({} cases)", name, count),
-        Err(ref difference) => println!("FAILED {}\n{}", name, difference),
+    match &result {
+        Ok(count) => println!("ok {} ({} {})", name, count, word),
+        Err(difference) => println!("FAILED {}\n{}", name, difference),
     }
-    result.is_ok()
+    result.ok()
 }
 
 /// The number of cases, or what is wrong at the first line that is not as written.

@@ -21,6 +21,17 @@ pub fn run(case: &Case, answer: &mut Answer) {
     RUNNING.with(|running| running.set(false));
 }
 
+/// The whole of a script by the Rust's own `tokenize`, as its users call it.
+#[inline(never)]
+pub fn tokenize(script: &[u8]) -> lexer::error::SyntaxResult<Vec<lexer::token::Token>> {
+    lexer::Lexer::new().tokenize(script)
+}
+
+/// The same tokens, those of a kind that document 01 has.
+pub fn tokens_of(script: &[u8]) -> lexer::error::SyntaxResult<Vec<cases::Token>> {
+    Ok(tokenize(script)?.into_iter().filter_map(|token| lexer::stream::numbered(token).ok()).collect())
+}
+
 /// Keeps panics inside `run` from being printed; all others are printed as before. To be called once.
 pub fn quiet_panics() {
     let before = panic::take_hook();

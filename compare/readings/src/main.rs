@@ -2,7 +2,6 @@
 
 mod check;
 mod library;
-mod pieces;
 mod refusals;
 mod routines;
 mod text;
@@ -12,6 +11,7 @@ use std::collections::HashMap;
 use std::process::exit;
 use std::time::Instant;
 
+use cases::pieces::every_text;
 use cases::random::Random;
 use cases::{Case, Outcome};
 
@@ -113,7 +113,7 @@ impl Tries {
             self.case.label = label.to_vec();
             let closer = (self.reading.closer)(label);
             for (alphabet, most) in [(self.reading.narrow, size.narrow), (self.reading.wide, size.wide)] {
-                texts::every_text(alphabet, most, |text| {
+                every_text(alphabet, most, |text| {
                     self.source(text);
                     self.with_rust()?;
                     self.case.source.extend_from_slice(&closer);
@@ -139,7 +139,7 @@ impl Tries {
         for label in self.reading.labels {
             self.case.label = label.to_vec();
             for (alphabet, most) in [(self.reading.narrow, size.parts), (self.reading.wide, size.parts - 1)] {
-                texts::every_text(alphabet, most, |text| {
+                every_text(alphabet, most, |text| {
                     self.source(text);
                     self.as_part()
                 })?;

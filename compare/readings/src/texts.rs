@@ -1,9 +1,9 @@
 //! The texts that are tried: every short one over an alphabet, every pair of bytes, and random ones.
 
+use cases::pieces::Pieces;
 use cases::random::Random;
 use cases::Case;
 
-use crate::pieces::Pieces;
 use crate::routines::Reading;
 
 /// A script's bound.
@@ -17,25 +17,6 @@ const LABEL_BYTES: &[u8] = b"Ea_\x80E9";
 
 /// Whatever a text ends with here may change what the next piece means.
 const OPEN_ENDS: &[u8] = b"${\\ux";
-
-/// Calls `each` with every text of up to `most` bytes of the alphabet, shorter ones first.
-pub fn every_text<E>(alphabet: &[u8], most: usize, mut each: impl FnMut(&[u8]) -> Result<(), E>) -> Result<(), E> {
-    for length in 0..=most {
-        let mut picks = vec![0; length];
-        let mut text = vec![alphabet[0]; length];
-        loop {
-            each(&text)?;
-            let last = match picks.iter().rposition(|pick| pick + 1 < alphabet.len()) {
-                Some(last) => last,
-                None => break,
-            };
-            picks[last] += 1;
-            picks[last + 1..].iter_mut().for_each(|pick| *pick = 0);
-            (last..length).for_each(|place| text[place] = alphabet[picks[place]]);
-        }
-    }
-    Ok(())
-}
 
 /// Calls `each` with every byte and every pair of bytes behind each prefix, also with the closer behind them.
 pub fn every_pair<E>(prefixes: &[&[u8]], closer: &[u8], mut each: impl FnMut(&[u8]) -> Result<(), E>) -> Result<(), E> {

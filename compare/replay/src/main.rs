@@ -1,83 +1,81 @@
-//! Replays files of stored answers on the proved library: `replay FILE..`.
+//! Replays stored answers on the proved library: `replay FOLDER`. The folder's files hold cases, those of its `calls/` calls.
 
-mod library;
+mod cases_of;
+mod record_files;
 mod refusals;
 
-use std::path::Path;
+use std::path::{Path, PathBuf};
 use std::process::exit;
 
-use cases::{Answer, Case, Change, Outcome, Routine, Span, Token};
+use cases::{Call, Case};
 
-/// Document 01's kind number of an identifier.
-const IDENTIFIER: u32 = 14;
-
-const START: Span = Span { line: 1, column: 1, position: 0 };
+/// The list of calls has at least this many.
+const LEAST_CALLS: usize = 5_000;
 
 fn main() {
-    let mut case = Case::default();
-    let mut good = refusals::all_given();
-    for file in std::env::args().skip(1) {
-        let path = Path::new(&file);
-        let name = path.file_name().unwrap_or_default().to_string_lossy();
-        good &= cases::file::compare(&format!("replay {}", name), path, |line, out| {
-            let answer = match case.read(line) {
-                Ok(()) => answer_to(&case),
-                Err(wrong) => fault(&wrong),
-            };
-            answer.write(out);
-        });
+    let words: Vec<String> = std::env::args().skip(1).collect();
+    let folder = match &words[..] {
+        [folder] => Path::new(folder),
+        _ => {
+            eprintln!("replay FOLDER");
+            exit(2)
+        }
+    };
+    let mut good = refusals::all_given() & record_files::all_given();
+    let files = files_of(folder);
+    if files.is_empty() {
+        println!("FAILED replay\n  {} holds no file of cases", folder.display());
+        good = false;
     }
+    for path in files {
+        good &= replay_cases(&path);
+    }
+    good &= replay_calls(&folder.join("calls"));
     exit(if good { 0 } else { 1 });
 }
 
-fn answer_to(case: &Case) -> Answer {
-    match case.routine {
-        Routine::PeekIdentifier => peeked(case),
-        Routine::Skip => skipped(case),
-        other => fault(&format!("the proved library has no `{}` yet", other.name())),
+/// The files of answers in a folder, by name.
+fn files_of(folder: &Path) -> Vec<PathBuf> {
+    let entries = std::fs::read_dir(folder).map(|entries| entries.flatten().collect()).unwrap_or_else(|_| Vec::new());
+    let mut files: Vec<PathBuf> = entries.iter().map(|entry| entry.path()).collect();
+    files.retain(|path| path.extension().map_or(false, |ending| ending == "txt"));
+    files.sort();
+    files
+}
+
+fn replay_cases(path: &Path) -> bool {
+    let mut case = Case::default();
+    let name = path.file_name().unwrap_or_default().to_string_lossy();
+    cases::file::compare(&format!("replay {}", name), path, |line, out| {
+        let answer = match case.read(line) {
+            Ok(()) => cases_of::answer_to(&case),
+            Err(wrong) => cases_of::fault(&wrong),
+        };
+        answer.write(out);
+    })
+}
+
+/// Replays every group, and sees to it that there are enough calls.
+fn replay_calls(folder: &Path) -> bool {
+    let (mut good, mut count) = (true, 0);
+    for path in files_of(folder) {
+        let group = path.file_stem().unwrap_or_default().to_string_lossy();
+        match cases::file::compare_calls(&format!("replay {}", group), &path, given) {
+            Some(calls) => count += calls,
+            None => good = false,
+        }
     }
-}
-
-fn peeked(case: &Case) -> Answer {
-    let cursor = cursor_at(case);
-    let length = library::peek_identifier(&case.source, case.position);
-    if length == 0 {
-        return accepted(cursor, Vec::new());
+    if good && count < LEAST_CALLS {
+        println!("FAILED replay of calls\n  {} has {} calls, which is too few", folder.display(), count);
+        return false;
     }
-    let end = case.position.saturating_add(length);
-    match case.source.get(case.position..end) {
-        Some(part) => accepted(cursor, vec![identifier(cursor, part)]),
-        None => fault(&format!("an identifier of {} bytes goes past the end", length)),
+    good
+}
+
+/// Appends all that the library gives.
+fn given(call: &Call, out: &mut Vec<u8>) {
+    match host::make(call) {
+        Ok(given) => given.write(call, out),
+        Err(wrong) => out.extend_from_slice(format!("fault {}", wrong).as_bytes()),
     }
-}
-
-fn skipped(case: &Case) -> Answer {
-    let end = case.position.saturating_add(case.count);
-    let part = match case.source.get(case.position..end) {
-        Some(part) => part,
-        None => return fault("the case skips past the end"),
-    };
-    match library::past_span(part, cursor_at(case)) {
-        Ok(cursor) => accepted(cursor, Vec::new()),
-        Err(number) => fault(&format!("the library refused with {}", number)),
-    }
-}
-
-/// The cursor at the case's position; past the end, line and column stay the end's, as in the Rust.
-fn cursor_at(case: &Case) -> Span {
-    let inside = case.position.min(case.source.len());
-    let cursor = library::past_span(&case.source[..inside], START).unwrap_or(START);
-    Span { position: cursor.position + (case.position - inside), ..cursor }
-}
-
-fn identifier(span: Span, part: &[u8]) -> Token {
-    Token { kind: IDENTIFIER, detail: 0, span, value: part.to_vec() }
-}
-
-fn accepted(cursor: Span, tokens: Vec<Token>) -> Answer {
-    Answer { outcome: Outcome::Accepted { cursor, change: Change::Keep }, tokens }
-}
-
-fn fault(text: &str) -> Answer {
-    Answer { outcome: Outcome::Fault(text.to_string()), tokens: Vec::new() }
 }

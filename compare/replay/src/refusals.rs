@@ -1,6 +1,6 @@
 //! Calls that the proved library must refuse, each with what it must answer, from document 01 worked by hand.
 
-use crate::library::past;
+use host::past;
 
 /// A name, the part's length, the numbers lent, the refusal or 0.
 const CALLS: [(&str, usize, &[u32], u32); 9] = [
@@ -22,7 +22,10 @@ pub fn all_given() -> bool {
         let mut numbers = lent.to_vec();
         let number = past(&part, &mut numbers);
         if number != expected || (number != 0 && numbers != lent) {
-            println!("FAILED replay refusals\n  {}: expected {}, got {}, numbers {:?}", name, expected, number, numbers);
+            println!(
+                "FAILED replay refusals\n  {}: expected {}, got {}, numbers {:?}",
+                name, expected, number, numbers
+            );
             return false;
         }
     }

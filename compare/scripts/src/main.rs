@@ -8,21 +8,11 @@ use std::io::Write;
 use std::process::{exit, Command, Stdio};
 
 use cases::hex;
+use cases::pieces;
 use cases::random::Random;
 
 /// The longest script that rows reads.
 const LONGEST: usize = 16_384;
-
-const MOST_PIECES: usize = 16;
-
-/// Pieces of script at which a step decides something.
-const PIECES: [&[u8]; 62] = [
-    b"<?php ", b"<?", b"<?=", b"<?PhP", b"?>", b"?", b"'", b"\"", b"`", b"a", b"E", b"_", b"\x80", b"\xff", b"0", b"1", b"9",
-    b"0x", b"1_0", b".", b".5", b"1e", b"+", b"-", b"$", b"{", b"}", b"[", b"]", b"${", b"${a}", b"{$", b"$a", b"$a[",
-    b"$a->x", b"$a?->x", b"->", b">", b"\\", b"\\n", b"\\x4", b"\\u{41}", b"\\u{", b"\\400", b"<<<E\n", b"<<<'E'\n",
-    b"<<<E\r\n", b"<<<'E\n", b"<<<", b"<", b"\n", b"\nE", b"\n  E", b"\n\tE", b"\n \tE", b"\r", b" ", b"\t", b";", b"=", b"p",
-    b"\\'",
-];
 
 fn main() {
     oracle::quiet_panics();
@@ -58,7 +48,7 @@ fn usage() -> ! {
 fn say() {
     for line in std::io::stdin().lines().map(|line| line.expect("standard input can be read")) {
         let mut script = Vec::new();
-        if hex::read(line.as_bytes(), &mut script).is_err() {
+        if hex::read_repeats(line.as_bytes(), &mut script).is_err() {
             println!("{}", line);
         } else {
             println!("{} => {}", line, said(&script).join(" / "));
@@ -74,7 +64,7 @@ fn compare(rows: &str, count: u64, seed: u64) -> Result<BTreeMap<String, u64>, S
         *ends.entry(hold(rows, &script)?).or_insert(0) += 1;
     }
     for _ in 0..count {
-        *ends.entry(hold(rows, &script(&mut random))?).or_insert(0) += 1;
+        *ends.entry(hold(rows, &pieces::script(&mut random))?).or_insert(0) += 1;
     }
     for number in [1, 2, 3, 4, 9, 11] {
         if !ends.contains_key(&format!("refused {}", number)) {
@@ -90,14 +80,6 @@ fn fixed() -> Vec<Vec<u8>> {
     let label = |count| [b"<?php <<<".to_vec(), vec![b'E'; count], b"\n\n".to_vec(), vec![b'E'; count]].concat();
     let quote = |count: usize| [b"<?php '".to_vec(), vec![b'\n'; count - 8], b"'".to_vec()].concat();
     vec![Vec::new(), quote(LONGEST), quote(LONGEST + 1), deep(63), deep(64), label(64), label(65)]
-}
-
-fn script(random: &mut Random) -> Vec<u8> {
-    let mut script = if random.below(5) == 0 { Vec::new() } else { b"<?php ".to_vec() };
-    for _ in 0..random.below(MOST_PIECES + 1) {
-        script.extend_from_slice(random.pick(&PIECES));
-    }
-    script
 }
 
 /// How the script ends, where rows prints what the Rust says; else both, of a script made as small as it goes.

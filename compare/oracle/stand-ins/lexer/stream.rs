@@ -93,16 +93,22 @@ fn call(case: &Case, state: &mut State, tokens: &mut Vec<Token>) -> SyntaxResult
 /// Hands the tokens over to the answer and tells what became of cursor and stack.
 fn accepted(case: &Case, state: &State, tokens: Vec<Token>, answer: &mut Answer) -> Outcome {
     for token in tokens {
-        match kind_and_detail(&token.kind) {
-            Some((kind, detail)) => {
-                answer.tokens.push(cases::Token { kind, detail, span: place(token.span), value: token.value.bytes })
-            }
-            None => return Outcome::Fault(format!("document 01 has no kind {:?}", token.kind)),
+        match numbered(token) {
+            Ok(token) => answer.tokens.push(token),
+            Err(kind) => return Outcome::Fault(format!("document 01 has no kind {:?}", kind)),
         }
     }
     match change(&own_frame(case), state) {
         Some(change) => Outcome::Accepted { cursor: place(state.source.span()), change },
         None => Outcome::Fault(format!("the stack has become {:?}", state.stack)),
+    }
+}
+
+/// The token with document 01's numbers, or its kind where document 01 has none for it.
+pub fn numbered(token: Token) -> Result<cases::Token, TokenKind> {
+    match kind_and_detail(&token.kind) {
+        Some((kind, detail)) => Ok(cases::Token { kind, detail, span: place(token.span), value: token.value.bytes }),
+        None => Err(token.kind),
     }
 }
 

@@ -1,9 +1,9 @@
 //! The reading of a string in double quotes up to its end, or up to an interpolation, which `double_quote` reads.
 
+use cases::pieces::{ESCAPES, INTERPOLATIONS, NO_LABEL, PREFIXES, PROPERTY};
 use cases::{Answer, Case, Change, Frame, Routine};
 
 use super::Reading;
-use crate::pieces::{ESCAPES, INTERPOLATIONS, NO_LABEL, PREFIXES, PROPERTY};
 use crate::text::{self, Ending, INTERPOLATION, QUOTE};
 
 pub const READING: Reading = Reading {

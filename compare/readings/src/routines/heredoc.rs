@@ -1,9 +1,9 @@
 //! The mode of a heredoc: escapes, interpolations, and the label's line.
 
+use cases::pieces::{BLOCK_PREFIXES, CLOSING_LINES, ESCAPES, INTERPOLATIONS, LINES, PROPERTY, SHORT_LABELS};
 use cases::{Answer, Case, Routine};
 
 use super::Reading;
-use crate::pieces::{BLOCK_PREFIXES, CLOSING_LINES, ESCAPES, INTERPOLATIONS, LINES, PROPERTY, SHORT_LABELS};
 use crate::text::{self, Ending};
 
 pub const READING: Reading = Reading {

@@ -8,9 +8,8 @@ mod number;
 mod shell_exec;
 mod single;
 
+use cases::pieces::Pieces;
 use cases::{Answer, Case, Routine};
-
-use crate::pieces::Pieces;
 
 /// One routine.
 pub struct Reading {

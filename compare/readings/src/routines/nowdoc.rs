@@ -1,9 +1,9 @@
 //! The mode of a nowdoc: the label's line alone.
 
+use cases::pieces::{BLOCK_PREFIXES, CLOSING_LINES, LINES, PROPERTY, SHORT_LABELS};
 use cases::{Answer, Case, Routine};
 
 use super::Reading;
-use crate::pieces::{BLOCK_PREFIXES, CLOSING_LINES, LINES, PROPERTY, SHORT_LABELS};
 use crate::text;
 
 pub const READING: Reading = Reading {

@@ -1,10 +1,10 @@
 //! The reading of a number.
 
+use cases::pieces::NO_LABEL;
 use cases::{Answer, Case, Change, Routine};
 
 use super::Reading;
 use crate::library::NUMBER;
-use crate::pieces::NO_LABEL;
 use crate::text::{self, Ending};
 
 pub const READING: Reading = Reading {
@@ -16,7 +16,8 @@ pub const READING: Reading = Reading {
     continuations: &[b"0", b"+0"],
     calm: &[&[b"0", b"1", b"9", b"7", b"_1", b"_0", b"12", b"345"]],
     ending: &[&[
-        b".", b".5", b"e5", b"E5", b"e+5", b"E-5", b"e", b"e+", b"__", b"_", b"x", b"xE", b"b1", b"o7", b"X_F", b"..", b";",
+        b".", b".5", b"e5", b"E5", b"e+5", b"E-5", b"e", b"e+", b"__", b"_", b"x", b"xE", b"b1", b"o7", b"X_F", b"..",
+        b";",
     ]],
     closer: |_| b";".to_vec(),
     labels: NO_LABEL,

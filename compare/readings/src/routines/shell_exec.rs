@@ -1,9 +1,9 @@
 //! The mode between backticks: interpolations and no escapes.
 
+use cases::pieces::{ESCAPES, INTERPOLATIONS, NO_LABEL, PREFIXES, PROPERTY};
 use cases::{Answer, Case, Change, Frame, Routine};
 
 use super::Reading;
-use crate::pieces::{ESCAPES, INTERPOLATIONS, NO_LABEL, PREFIXES, PROPERTY};
 use crate::text::{self, Ending, QUOTE};
 
 pub const READING: Reading = Reading {

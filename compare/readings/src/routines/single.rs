@@ -1,9 +1,9 @@
 //! The reading of a string in single quotes.
 
+use cases::pieces::{NO_LABEL, PREFIXES, PROPERTY};
 use cases::{Answer, Case, Change, Routine};
 
 use super::Reading;
-use crate::pieces::{NO_LABEL, PREFIXES, PROPERTY};
 use crate::text::{self, Ending, QUOTE};
 
 pub const READING: Reading = Reading {

@@ -1,4 +1,6 @@
-//! Pieces of texts and labels, at which the readings decide something.
+//! Pieces of texts, labels and scripts, at which the readings and steps decide something.
+
+use crate::random::Random;
 
 pub type Pieces = &'static [&'static [u8]];
 
@@ -136,3 +138,100 @@ pub const CLOSING_LINES: Pieces = &[
     b"\\n\nE",
     b"\n\n\nEOT",
 ];
+
+/// Pieces of script at which a step decides something.
+pub const SCRIPT: Pieces = &[
+    b"<?php ",
+    b"<?",
+    b"<?=",
+    b"<?PhP",
+    b"<?pHp",
+    b"?>",
+    b"?",
+    b"'",
+    b"\"",
+    b"`",
+    b"a",
+    b"E",
+    b"_",
+    b"\x80",
+    b"\xff",
+    b"0",
+    b"1",
+    b"9",
+    b"0x",
+    b"1_0",
+    b".",
+    b".5",
+    b"1e",
+    b"+",
+    b"-",
+    b"$",
+    b"{",
+    b"}",
+    b"[",
+    b"]",
+    b"${",
+    b"${a}",
+    b"{$",
+    b"$a",
+    b"$a[",
+    b"$a->x",
+    b"$a?->x",
+    b"->",
+    b">",
+    b"\\",
+    b"\\n",
+    b"\\x4",
+    b"\\u{41}",
+    b"\\u{",
+    b"\\400",
+    b"<<<E\n",
+    b"<<<'E'\n",
+    b"<<<E\r\n",
+    b"<<<'E\n",
+    b"<<<",
+    b"<",
+    b"\n",
+    b"\nE",
+    b"\n  E",
+    b"\n\tE",
+    b"\n \tE",
+    b"\r",
+    b" ",
+    b"\t",
+    b";",
+    b"=",
+    b"p",
+    b"\\'",
+];
+
+const MOST_PIECES: usize = 16;
+
+/// A script of up to 16 pieces; four in five begin with a tag.
+pub fn script(random: &mut Random) -> Vec<u8> {
+    let mut script = if random.below(5) == 0 { Vec::new() } else { b"<?php ".to_vec() };
+    for _ in 0..random.below(MOST_PIECES + 1) {
+        script.extend_from_slice(random.pick(SCRIPT));
+    }
+    script
+}
+
+/// Calls `each` with every text of up to `most` bytes of the alphabet, shorter ones first.
+pub fn every_text<E>(alphabet: &[u8], most: usize, mut each: impl FnMut(&[u8]) -> Result<(), E>) -> Result<(), E> {
+    for length in 0..=most {
+        let mut picks = vec![0; length];
+        let mut text = vec![alphabet[0]; length];
+        loop {
+            each(&text)?;
+            let last = match picks.iter().rposition(|pick| pick + 1 < alphabet.len()) {
+                Some(last) => last,
+                None => break,
+            };
+            picks[last] += 1;
+            picks[last + 1..].iter_mut().for_each(|pick| *pick = 0);
+            (last..length).for_each(|place| text[place] = alphabet[picks[place]]);
+        }
+    }
+    Ok(())
+}

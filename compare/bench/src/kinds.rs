@@ -1,0 +1,174 @@
+//! Scripts of eight kinds, made from a fixed seed, in the words of street maps. No comments: the Rust reads them, the step does not.
+
+use cases::random::Random;
+
+const SEED: u64 = 1;
+
+/// A kind of script: how it begins, and how a piece of some ten to some hundred bytes is put to it.
+pub struct Kind {
+    pub name: &'static str,
+    opening: &'static str,
+    put: fn(&mut Random, &mut String),
+}
+
+pub const KINDS: [Kind; 8] = [
+    Kind { name: "mixed", opening: PHP, put: mixed },
+    Kind { name: "inline text", opening: "", put: inline_text },
+    Kind { name: "single quotes", opening: PHP, put: single_quotes },
+    Kind { name: "double quotes with escapes", opening: PHP, put: double_quotes },
+    Kind { name: "heredoc with variables", opening: PHP, put: heredoc },
+    Kind { name: "nowdoc", opening: PHP, put: nowdoc },
+    Kind { name: "numbers", opening: PHP, put: numbers },
+    Kind { name: "identifiers and punctuation", opening: PHP, put: identifiers },
+];
+
+const PHP: &str = "<?php\n";
+
+pub fn kind_of(name: &str) -> Option<&'static Kind> {
+    KINDS.iter().find(|kind| kind.name == name)
+}
+
+/// As many pieces of a kind as fit in `most` bytes. A shorter script is the beginning of a longer one.
+pub fn script(kind: &Kind, most: usize) -> Vec<u8> {
+    let mut random = Random::new(SEED);
+    let mut script = kind.opening.to_string();
+    loop {
+        let before = script.len();
+        (kind.put)(&mut random, &mut script);
+        if script.len() > most {
+            script.truncate(before);
+            return script.into_bytes();
+        }
+    }
+}
+
+/// One nowdoc block of at most `most` bytes: a single text, as long as the script.
+pub fn one_block(most: usize) -> Vec<u8> {
+    let (open, close) = ("<?php <<<'RELIEF'\n", "RELIEF;\n");
+    let mut random = Random::new(SEED);
+    let mut script = open.to_string();
+    loop {
+        let before = script.len();
+        row(&mut random, &mut script);
+        if script.len() + close.len() > most {
+            script.truncate(before);
+            return (script + close).into_bytes();
+        }
+    }
+}
+
+const WORDS: [&str; 16] = [
+    "kerb", "ramp", "crossing", "the", "street", "of", "harbour", "lane", "steps", "rail", "a", "bench", "to",
+    "platform", "left", "mill",
+];
+
+/// From `least` words to twice as many, with blanks between.
+fn words(least: usize, random: &mut Random, out: &mut String) {
+    for count in 0..least + random.below(least + 1) {
+        if count > 0 {
+            out.push(' ');
+        }
+        out.push_str(random.pick(&WORDS));
+    }
+}
+
+/// A piece of one of the other kinds.
+fn mixed(random: &mut Random, out: &mut String) {
+    let other = &KINDS[1 + random.below(KINDS.len() - 1)];
+    let (open, close) = if other.opening.is_empty() { ("?>\n", PHP) } else { ("$legend = [", "];\n") };
+    out.push_str(open);
+    (other.put)(random, out);
+    out.push_str(close);
+}
+
+/// A paragraph, and in one of four a tag with a name.
+fn inline_text(random: &mut Random, out: &mut String) {
+    out.push_str("<p class=\"legend\">");
+    words(12, random, out);
+    out.push_str("</p>\n");
+    if random.below(4) == 0 {
+        out.push_str("<b><?= $street ?></b>\n");
+    }
+}
+
+fn single_quotes(random: &mut Random, out: &mut String) {
+    out.push('\'');
+    words(6, random, out);
+    out.push_str(random.pick(&["", "", "", " \\'", "\\\\", "\\n"]));
+    out.push_str("',\n");
+}
+
+const ESCAPES: [&str; 12] =
+    ["\\n", "\\t", "\\\"", "\\\\", "\\$", "\\x41", "\\x9", "\\u{20AC}", "\\u{e9}", "\\101", "\\0", "\\e"];
+
+fn double_quotes(random: &mut Random, out: &mut String) {
+    out.push('"');
+    for _ in 0..3 {
+        words(2, random, out);
+        out.push_str(random.pick(&ESCAPES));
+    }
+    out.push_str("\",\n");
+}
+
+const VARIABLES: [&str; 6] = ["$name", "{$street}", "$map->legend", "$rows[kerb]", "${lane}", "$map?->scale"];
+
+fn heredoc(random: &mut Random, out: &mut String) {
+    out.push_str("<<<LEGEND\n");
+    for _ in 0..3 + random.below(4) {
+        out.push_str("  ");
+        words(3, random, out);
+        out.push(' ');
+        out.push_str(random.pick(&VARIABLES));
+        out.push(' ');
+        words(2, random, out);
+        out.push_str(random.pick(&["\n", "\n", "\\n\n"]));
+    }
+    out.push_str("  LEGEND,\n");
+}
+
+fn nowdoc(random: &mut Random, out: &mut String) {
+    out.push_str("<<<'RELIEF'\n");
+    for _ in 0..4 + random.below(8) {
+        out.push_str("    ");
+        row(random, out);
+    }
+    out.push_str("    RELIEF,\n");
+}
+
+/// A row of relief.
+fn row(random: &mut Random, out: &mut String) {
+    for _ in 0..4 + random.below(6) {
+        out.push_str(random.pick(&["####", "o   ", " ..  ", "= = ", "    ", "oooo"]));
+    }
+    out.push('\n');
+}
+
+fn numbers(random: &mut Random, out: &mut String) {
+    let (large, small) = (random.below(1_000_000), random.below(1_000));
+    out.push_str(&match random.below(8) {
+        0 => format!("0x{:X}", large),
+        1 => format!("0b{:b}", small),
+        2 => format!("0{:o}", small),
+        3 => format!("{}_{:03}", small, small),
+        4 => format!("{}.{}", small, large),
+        5 => format!("{}.5E-{}", small, small % 30),
+        6 => format!(".{}", small),
+        _ => large.to_string(),
+    });
+    out.push_str(random.pick(&[", ", ", ", ",\n"]));
+}
+
+const LINES: [&str; 8] = [
+    "if ($kerb !== $ramp && is_open($street)) { return crossing($kerb, $lanes[$index]); }\n",
+    "$map->legend->put($street, $lane ?? $harbour);\n",
+    "foreach ($lanes as $index => $lane) { $width += $lane->width; }\n",
+    "final class StreetMap extends Sheet implements Embossed { private ?Legend $legend; }\n",
+    "$step = static fn (int $row): bool => $row >= $first && $row < $last;\n",
+    "while (!$sheet->ended()) { $sheet->advance(); --$left; }\n",
+    "echo $platform::scale($rail), $bench . $steps;\n",
+    "$corner = ($left + $right) * $scale % $width - $margin;\n",
+];
+
+fn identifiers(random: &mut Random, out: &mut String) {
+    out.push_str(random.pick(&LINES));
+}

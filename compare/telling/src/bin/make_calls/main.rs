@@ -1,0 +1,109 @@
+//! Writes the stored list of calls, a file a group, into a folder: `make_calls FOLDER`. What each call must give is told,
+//! by the Rust's own routines and by document 01, and never by the library that the list is replayed on.
+
+mod edges;
+mod forged;
+mod hosts;
+mod limits;
+mod routines;
+mod sessions;
+
+use std::collections::{BTreeSet, HashSet};
+use std::io;
+use std::path::Path;
+
+use cases::random::Random;
+use cases::{Call, Told};
+use telling::Teller;
+
+/// The lines behind the first of each file.
+const ORIGIN: &str =
+    "# CALL => GIVEN as in compare/README.md, from fixed seeds: what the Rust answers, and where it has no such thing what\n\
+     # compare/telling tells of document 01. The library had no part in it. compare/oracle/make-answers makes it again.";
+
+/// The list has at least and at most this many calls.
+const LEAST: usize = 5_500;
+const MOST: usize = 6_500;
+
+/// A group's name, what it holds, and its calls.
+type Group = (&'static str, &'static str, fn(&mut Random, &mut Teller) -> Vec<Call>);
+
+const EDGES: [Group; 6] = [
+    ("parts", "parts with more announced, which wait or are settled, in each mode and reading", edges::parts),
+    ("tables", "list and pool just large enough, and too small by one, in each mode and reading", edges::tables),
+    (
+        "forged",
+        "sessions at each bound, and past it by one; numbers that are no frame, reading or label",
+        forged::calls,
+    ),
+    ("limits", "65,535 to 65,537 bytes, 63 to 65 frames, labels of 64 and 65 bytes, the largest tables", limits::calls),
+    ("hosts", "fresh, skip, push and pop", hosts::calls),
+    ("slices", "sessions and answers that are too short, which is seen before anything else", hosts::short_slices),
+];
+
+/// What the list as a whole has met.
+#[derive(Default)]
+struct Met {
+    calls: usize,
+    refusals: BTreeSet<u32>,
+    kinds: BTreeSet<u32>,
+}
+
+fn main() -> io::Result<()> {
+    let folder = std::env::args().nth(1).expect("make_calls FOLDER");
+    let folder = Path::new(&folder);
+    oracle::quiet_panics();
+    std::fs::create_dir_all(folder)?;
+    let mut met = Met::default();
+    let mut teller = Teller::default();
+    for (index, mode) in routines::MODES.iter().enumerate() {
+        let calls = mode.calls(&mut Random::new(index as u64 + 1));
+        write_group(folder, mode.name, mode.what, &calls, &mut teller, &mut met)?;
+    }
+    for (index, (name, what, make)) in EDGES.iter().enumerate() {
+        let calls = make(&mut Random::new(index as u64 + 101), &mut teller);
+        write_group(folder, name, what, &calls, &mut teller, &mut met)?;
+    }
+    assert!(met.calls >= LEAST && met.calls <= MOST, "the list has {} calls", met.calls);
+    assert_eq!(met.refusals, (1..=13).collect(), "each refusal is met");
+    assert_eq!(met.kinds, (1..=20).collect(), "each kind is met");
+    Ok(())
+}
+
+/// Writes the calls of a group, each once, with what each must give.
+fn write_group(
+    folder: &Path,
+    name: &str,
+    what: &str,
+    calls: &[Call],
+    teller: &mut Teller,
+    met: &mut Met,
+) -> io::Result<()> {
+    let mut text = format!("# What the calls of the group `{}` must give: {}.\n{}\n", name, what, ORIGIN).into_bytes();
+    let mut seen = HashSet::new();
+    for call in calls {
+        let mut line = Vec::new();
+        call.write(&mut line);
+        if !seen.insert(line.clone()) {
+            continue;
+        }
+        let told = teller.told(call);
+        met.add(&told);
+        text.extend_from_slice(&line);
+        text.extend_from_slice(b" => ");
+        told.write(&mut text);
+        text.push(b'\n');
+    }
+    std::fs::write(folder.join(name).with_extension("txt"), text)
+}
+
+impl Met {
+    fn add(&mut self, told: &Told) {
+        self.calls += 1;
+        match told {
+            Told::Refused { number, .. } => drop(self.refusals.insert(*number)),
+            Told::Short => drop(self.refusals.insert(10)),
+            Told::Done { records, .. } => self.kinds.extend(records.iter().map(|record| record[0])),
+        }
+    }
+}

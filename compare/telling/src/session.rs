@@ -1,0 +1,139 @@
+//! A session, from any numbers at all and back (document 01, "Session"; include/puretakoi.h has the layout).
+
+use cases::call::{BYTES, COLUMN, DEPTH, LINE, POSITION, READING, SLOT, SLOTS, TOKENS};
+use cases::{Change, Frame, Span};
+
+use crate::bytes::{is_identifier, START};
+use crate::table::{Label, NO_LABEL};
+
+/// Document 01's limits.
+pub const MOST_BYTES: usize = 65_536;
+pub const MOST_TOKENS: usize = 65_537;
+pub const MOST_FRAMES: usize = 64;
+pub const MOST_LABEL: usize = 64;
+
+/// The frames in the order of their numbers.
+const FRAMES: [Frame; 9] = [
+    Frame::Initial,
+    Frame::Scripting,
+    Frame::DoubleQuote,
+    Frame::ShellExec,
+    Frame::Heredoc,
+    Frame::Nowdoc,
+    Frame::LookingForVarname,
+    Frame::LookingForProperty,
+    Frame::VarOffset,
+];
+
+/// A session whose depth, reading and frames are such; all else may be out of bounds.
+#[derive(Clone, Debug, PartialEq, Eq)]
+pub struct Session {
+    pub span: Span,
+    pub depth: usize,
+    pub tokens: usize,
+    pub bytes: usize,
+    pub sheet: bool,
+    /// What each slot is written back as: frame, label start, label length.
+    slots: [[u32; SLOT]; MOST_FRAMES],
+}
+
+impl Session {
+    pub fn fresh(sheet: bool) -> Session {
+        let slots = [[Frame::Initial as u32, 0, 0]; MOST_FRAMES];
+        Session { span: START, depth: 1, tokens: 0, bytes: 0, sheet, slots }
+    }
+
+    /// The session in 199 numbers; none where depth, reading or a slot below the depth is no such thing.
+    pub fn read(numbers: &[u32]) -> Option<Session> {
+        let number = |place: usize| numbers[place] as usize;
+        let depth = number(DEPTH);
+        let is_frame = |slot: usize| number(SLOTS + slot * SLOT) < FRAMES.len();
+        if depth == 0 || depth > MOST_FRAMES || number(READING) > 1 || !(0..depth).all(is_frame) {
+            return None;
+        }
+        let mut slots = [[0; SLOT]; MOST_FRAMES];
+        for (slot, lent) in slots.iter_mut().zip(numbers[SLOTS..].chunks_exact(SLOT)) {
+            *slot = written_back(lent);
+        }
+        let span = Span { line: number(LINE), column: number(COLUMN), position: number(POSITION) };
+        Some(Session { span, depth, tokens: number(TOKENS), bytes: number(BYTES), sheet: number(READING) == 1, slots })
+    }
+
+    /// Puts the session's 199 numbers at the start of a slice.
+    pub fn write(&self, numbers: &mut [u32]) {
+        numbers[POSITION] = self.span.position as u32;
+        numbers[LINE] = self.span.line as u32;
+        numbers[COLUMN] = self.span.column as u32;
+        numbers[DEPTH] = self.depth as u32;
+        numbers[TOKENS] = self.tokens as u32;
+        numbers[BYTES] = self.bytes as u32;
+        numbers[READING] = u32::from(self.sheet);
+        for (slot, lent) in self.slots.iter().zip(numbers[SLOTS..].chunks_exact_mut(SLOT)) {
+            lent.copy_from_slice(slot);
+        }
+    }
+
+    pub fn top(&self) -> (Frame, Label) {
+        self.held(self.depth - 1)
+    }
+
+    fn held(&self, slot: usize) -> (Frame, Label) {
+        let [frame, start, len] = self.slots[slot];
+        (FRAMES[frame as usize], (start as usize, len as usize))
+    }
+
+    /// Whether the session is within its bounds (refusal 12), but for the marks.
+    pub fn is_good(&self, source: &[u8]) -> bool {
+        let inside = |number: usize| number >= 1 && number <= self.span.position + 1;
+        let is_bottom = !matches!(self.held(0).0, Frame::VarOffset | Frame::LookingForProperty);
+        let has_label = |slot: usize| match self.held(slot) {
+            (Frame::Heredoc | Frame::Nowdoc, label) => is_label(source, label),
+            _ => true,
+        };
+        self.span.position <= source.len()
+            && inside(self.span.line)
+            && inside(self.span.column)
+            && is_bottom
+            && (0..self.depth).all(has_label)
+    }
+
+    /// Changes the stack, which has room and, for leaving, a frame below; `label` is that of a text block's new frame.
+    pub fn change(&mut self, change: Change, label: Label) {
+        match change {
+            Change::Keep => {}
+            Change::Swap(frame) => self.slots[self.depth - 1] = slot_of(frame, label),
+            Change::Enter(frame) => {
+                self.slots[self.depth] = slot_of(frame, label);
+                self.depth += 1;
+            }
+            Change::Leave => self.depth -= 1,
+        }
+    }
+}
+
+/// Whether a label is 1 to 64 identifier bytes of the source.
+pub fn is_label(source: &[u8], (start, len): Label) -> bool {
+    len >= 1
+        && len <= MOST_LABEL
+        && source.get(start..start + len).map_or(false, |bytes| bytes.iter().all(|byte| is_identifier(*byte)))
+}
+
+/// The frame of a number.
+pub fn frame_of(number: usize) -> Option<Frame> {
+    FRAMES.get(number).copied()
+}
+
+fn slot_of(frame: Frame, label: Label) -> [u32; SLOT] {
+    let (start, len) = if matches!(frame, Frame::Heredoc | Frame::Nowdoc) { label } else { NO_LABEL };
+    [frame as u32, start as u32, len as u32]
+}
+
+/// A slot's numbers as a call that is done leaves them: no frame is a heredoc without a label, and only a text block has one.
+fn written_back(lent: &[u32]) -> [u32; SLOT] {
+    let has_label = lent[1] <= 0xffff && lent[2] <= 0xffff;
+    match lent[0] {
+        4 | 5 if has_label => [lent[0], lent[1], lent[2]],
+        0..=8 => [lent[0], 0, 0],
+        _ => [Frame::Heredoc as u32, 0, 0],
+    }
+}
