@@ -1,0 +1,106 @@
+//! Holds the numbers and the declared functions to include/puretakoi.h.
+
+use crate::numbers::{choices, kinds, layout, limits, refusals};
+
+const HEADER: &str = include_str!("../../../include/puretakoi.h");
+const FOREIGN: &str = include_str!("foreign.rs");
+
+/// Every constant of the wrapper by its name in the header, and its value.
+fn constants() -> Vec<(String, u64)> {
+    let mut all = Vec::new();
+    for (name, value) in limits::NAMED.iter().chain(layout::NAMED) {
+        all.push((format!("PURETAKOI_{}", name), *value as u64));
+    }
+    for (name, value) in refusals::NAMED.iter().chain(choices::NAMED) {
+        all.push((format!("PURETAKOI_{}", name), u64::from(*value)));
+    }
+    for (name, value) in kinds::NAMED {
+        all.push((format!("PURETAKOI_KIND_{}", name), u64::from(*value)));
+    }
+    all.sort();
+    all
+}
+
+/// The names that the header defines as numbers.
+fn defined() -> Vec<(String, u64)> {
+    let mut all = Vec::new();
+    for line in HEADER.lines() {
+        let mut words = line.split_whitespace();
+        if let (Some("#define"), Some(name), Some(value)) = (words.next(), words.next(), words.next()) {
+            all.push((name.to_string(), value.parse().expect("a constant is a number")));
+        }
+    }
+    all.sort();
+    all
+}
+
+#[test]
+fn constants_are_the_headers() {
+    assert_eq!(constants(), defined());
+}
+
+/// A parameter of the header in Rust: `const uint8_t *src` is `src: *const u8`.
+fn parameter(words: &str) -> String {
+    let (of, name) = words.rsplit_once(' ').expect("a parameter has a type and a name");
+    let pointed = name.starts_with('*');
+    let constant = of.starts_with("const ");
+    let pointer = match (pointed, constant) {
+        (true, true) => "*const ",
+        (true, false) => "*mut ",
+        (false, _) => "",
+    };
+    format!("{}: {}{}", name.trim_start_matches('*'), pointer, number_type(of.trim_start_matches("const ")))
+}
+
+fn number_type(word: &str) -> &'static str {
+    match word {
+        "uint8_t" => "u8",
+        "uint32_t" => "u32",
+        "size_t" => "usize",
+        _ => panic!("{} is no type of the header", word),
+    }
+}
+
+/// The functions that the header declares, as Rust declares them, on one line each.
+fn declared() -> Vec<String> {
+    let text = HEADER.split_whitespace().collect::<Vec<_>>().join(" ");
+    let mut all = Vec::new();
+    for part in text.split(';') {
+        if let Some((before, parameters)) = part.trim_end_matches(')').rsplit_once('(') {
+            let mut words = before.rsplit(' ');
+            if let (Some(name), Some(of)) = (words.next(), words.next()) {
+                if name.starts_with("puretakoi_") {
+                    let parameters: Vec<String> = parameters.split(", ").map(parameter).collect();
+                    all.push(format!("fn {}({}) -> {};", name, parameters.join(", "), number_type(of)));
+                }
+            }
+        }
+    }
+    all
+}
+
+/// The functions that the module of foreign calls declares, in the same form.
+fn declared_here() -> Vec<String> {
+    let text = FOREIGN.split_whitespace().collect::<Vec<_>>().join(" ").replace("( ", "(").replace(", )", ")");
+    let all_of =
+        |start| text.match_indices(start).map(|(at, _)| first_declaration(&text[at..])).collect::<Vec<String>>();
+    let one_form = all_of("fn $name(").concat();
+    let mut all = all_of("fn puretakoi_");
+    for (_, name) in FOREIGN.lines().filter_map(|line| line.trim_end_matches(';').split_once(" = puretakoi_")) {
+        all.push(one_form.replace("$name", &format!("puretakoi_{}", name)));
+    }
+    all
+}
+
+fn first_declaration(text: &str) -> String {
+    text.split_inclusive(';').take(1).collect()
+}
+
+#[test]
+fn functions_are_the_headers() {
+    let (mut header, mut here) = (declared(), declared_here());
+    header.sort();
+    here.sort();
+    assert_eq!(header.len(), 12);
+    assert_eq!(header, here);
+}

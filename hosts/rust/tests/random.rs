@@ -1,0 +1,150 @@
+//! Random scripts, sessions and bytes: no call panics, a refused call leaves everything, parts of any size give the same.
+
+use cases::pieces::script;
+use cases::random::Random;
+use puretakoi::{
+    limits, records, refusals, End, Event, Frame, Label, Progress, Reading, Refusal, Session, Span, Stream,
+};
+
+const TRIES: usize = 20_000;
+
+/// What is lent to a call, and what must stay where it is refused.
+#[derive(Clone, Debug, PartialEq)]
+struct Lent {
+    session: Session,
+    list: Vec<u32>,
+    pool: Vec<u8>,
+}
+
+/// One of the calls, with arguments that may be wild.
+fn call(lent: &mut Lent, src: &[u8], random: &mut Random) -> Result<(), Refusal> {
+    let Lent { session, list, pool } = lent;
+    let end = if random.below(2) == 0 { End::More } else { End::Announced };
+    match random.below(7) {
+        0 => session.step(src, end, list, pool).map(drop),
+        1 => session.read_number(src, end, list, pool).map(drop),
+        2 => session.read_single(src, end, list, pool).map(drop),
+        3 => session.read_double(src, end, list, pool).map(drop),
+        4 => session.skip(src, wild(random) as usize),
+        5 => session.push(src, Frame::Nowdoc(Label { start: wild(random), len: wild(random) })),
+        _ => session.pop(src),
+    }
+}
+
+/// A small number, or any.
+fn wild(random: &mut Random) -> u32 {
+    match random.below(4) {
+        0 => random.number() as u32,
+        _ => random.below(12) as u32,
+    }
+}
+
+/// A session that some steps of the script reach; one in two has numbers that are changed by hand.
+fn reached(src: &[u8], random: &mut Random) -> Lent {
+    let reading = if random.below(2) == 0 { Reading::Ported } else { Reading::Sheet };
+    let mut session = Session::fresh(reading);
+    // What no call wrote is no record: there is no such kind.
+    let (mut list, mut pool) = (vec![99; 8 * random.below(20)], vec![3; random.below(100)]);
+    for _ in 0..random.below(8) {
+        if session.step(src, End::Announced, &mut list, &mut pool) != Ok(Progress::Done) {
+            break;
+        }
+    }
+    if random.below(2) == 0 {
+        let mut numbers = *session.numbers();
+        for _ in 0..=random.below(3) {
+            numbers[random.below(16)] = wild(random);
+        }
+        session = Session::from_numbers(numbers);
+    }
+    Lent { session, list, pool }
+}
+
+#[test]
+fn a_refused_call_leaves_everything() {
+    let mut random = Random::new(1);
+    let (mut met, mut written) = ([0; 14], 0);
+    for _ in 0..TRIES {
+        let src = script(&mut random);
+        let mut lent = reached(&src, &mut random);
+        let before = lent.clone();
+        match call(&mut lent, &src, &mut random) {
+            Ok(()) => {
+                assert!(lent.session.position() as usize <= src.len());
+                assert!(lent.session.top().is_some() && lent.session.reading().is_some());
+                met[0] += 1;
+                for record in lent.session.records(&lent.list).skip(before.session.tokens() as usize) {
+                    assert!((1..=20).contains(&record.kind), "{:?} on {:?}", record, src);
+                    written += 1;
+                }
+            }
+            Err(refusal) => {
+                assert_eq!(lent, before, "{} on {:?}", refusal, src);
+                assert!(refusal.number != refusals::BAD_SESSION || refusal.span == Span::START);
+                met[refusal.number as usize] += 1;
+            }
+        }
+    }
+    assert!(written > 0, "no call wrote a record");
+    for number in [0, 1, 6, 7, 8, 10, 12] {
+        assert!(met[number] > 0, "no call gave {}", number);
+    }
+}
+
+/// All events of a script that is fed in parts of random sizes, up to the largest, steps without a token left out.
+fn events(src: &[u8], largest: usize, reading: Reading, random: &mut Random) -> Vec<Event> {
+    let mut stream = Stream::new(reading);
+    let mut rest = src;
+    let mut all = Vec::new();
+    loop {
+        match stream.next() {
+            Event::Step(tokens) if tokens.is_empty() => {}
+            Event::Step(tokens) => all.push(Event::Step(tokens)),
+            Event::Wait if rest.is_empty() => stream.finish(),
+            Event::Wait => {
+                let (part, behind) = rest.split_at(rest.len().min(random.below(largest) + 1));
+                stream.feed(part).unwrap();
+                rest = behind;
+            }
+            last => {
+                all.push(last);
+                return all;
+            }
+        }
+    }
+}
+
+#[test]
+fn parts_of_any_size_give_the_same() {
+    let mut random = Random::new(2);
+    for try_number in 0..TRIES / 10 {
+        let src = match try_number % 4 {
+            0 => (0..random.below(200)).map(|_| random.number() as u8).collect(),
+            _ => [script(&mut random), script(&mut random)].concat(),
+        };
+        for reading in [Reading::Ported, Reading::Sheet] {
+            let whole = events(&src, limits::MOST_BYTES, reading, &mut random);
+            assert_eq!(events(&src, 5, reading, &mut random), whole, "{:?}", src);
+        }
+    }
+}
+
+/// List and pool of a walk hold, one behind another, the tokens that a stream gives.
+#[test]
+fn a_stream_gives_what_a_walk_writes() {
+    let mut random = Random::new(3);
+    for _ in 0..TRIES / 10 {
+        let src = script(&mut random);
+        let (mut session, mut list, mut pool) = (Session::fresh(Reading::Sheet), vec![0; 8 * 500], vec![0; 500]);
+        while session.step(&src, End::Announced, &mut list, &mut pool) == Ok(Progress::Done) {}
+        list.truncate(8 * session.tokens() as usize);
+        let walked = records(&list).map(|record| (record.kind, record.span, record.value(&pool).unwrap().to_vec()));
+        let mut streamed = Vec::new();
+        for event in events(&src, 9, Reading::Sheet, &mut random) {
+            if let Event::Step(tokens) = event {
+                streamed.extend(tokens.into_iter().map(|token| (token.kind, token.span, token.value)));
+            }
+        }
+        assert_eq!(walked.collect::<Vec<_>>(), streamed, "{:?}", src);
+    }
+}

@@ -1,0 +1,96 @@
+//! Scripts that come in parts through a stream.
+
+use puretakoi::{kinds, limits, refusals, Event, Reading, Refusal, Span, Stream, Token};
+
+/// The tokens and the last event of a script that is fed in parts of a size.
+fn read(script: &[u8], size: usize, reading: Reading) -> (Vec<Token>, Event) {
+    let mut stream = Stream::new(reading);
+    let mut parts = script.chunks(size);
+    let mut tokens = Vec::new();
+    loop {
+        match stream.next() {
+            Event::Step(more) => tokens.extend(more),
+            Event::Wait => match parts.next() {
+                Some(part) => stream.feed(part).unwrap(),
+                None => stream.finish(),
+            },
+            last => return (tokens, last),
+        }
+    }
+}
+
+fn refused(number: u32, line: u32, column: u32, position: u32) -> Event {
+    Event::Refused(Refusal { number, span: Span { line, column, position } })
+}
+
+/// The worked sheet o of document 01, in a script: the rows lose the closing line's indentation.
+#[test]
+fn a_sheet_in_parts_of_any_size() {
+    let script = b"<?php <<<'EOT'\n  ab\n   c\n\n  EOT;";
+    for size in [1, 2, 3, 7, 64] {
+        let (tokens, last) = read(script, size, Reading::Sheet);
+        let found: Vec<_> = tokens.iter().map(|token| (token.kind, token.detail, &token.value[..])).collect();
+        let expected = [
+            (kinds::OPEN_TAG_FULL, 0, &b"<?php"[..]),
+            (kinds::STRING_PART, 0, &b"ab\n c\n"[..]),
+            (kinds::END_DOC_STRING_SPACE, 2, &b"EOT"[..]),
+        ];
+        assert_eq!(found, expected, "parts of {}", size);
+        assert_eq!(tokens[1].span, Span { line: 2, column: 1, position: 15 });
+        assert_eq!(tokens[2].kind_name(), "end of text block, indented by spaces");
+        assert_eq!(last, Event::Finished(32));
+    }
+}
+
+/// Like the worked sheet p of document 01, in a script.
+#[test]
+fn a_stray_row_is_refused_in_the_sheet_reading_alone() {
+    let script = b"<?php <<<'EOT'\n  a\n   EOT;";
+    assert_eq!(read(script, 5, Reading::Sheet).1, refused(refusals::STRAY_INDENTATION, 2, 3, 17));
+    assert_eq!(read(script, 5, Reading::Ported).1, Event::Finished(26));
+}
+
+#[test]
+fn the_last_event_comes_again_and_nothing_can_be_added() {
+    let mut stream = Stream::new(Reading::Ported);
+    assert_eq!(stream.next(), Event::Wait);
+    stream.feed(b"row").unwrap();
+    assert_eq!(stream.next(), Event::Wait);
+    stream.finish();
+    assert_eq!(stream.feed(b"s"), Err(Refusal { number: refusals::OUT_OF_PLACE, span: Span::START }));
+    assert_eq!(stream.source(), b"row");
+    match stream.next() {
+        Event::Step(tokens) => assert_eq!(tokens[0].value, b"row"),
+        other => panic!("{:?}", other),
+    }
+    for _ in 0..2 {
+        assert_eq!(stream.next(), Event::Finished(3));
+    }
+    assert_eq!(stream.session().position(), 3);
+}
+
+/// A quoted string of as many bytes as the library takes, and of one more.
+#[test]
+fn the_largest_script_and_one_byte_more() {
+    let script = |size: usize| [&b"<?php '"[..], &vec![b'\n'; size - 8], b"'"].concat();
+    for size in [4_096, limits::MOST_BYTES, usize::MAX] {
+        let (tokens, last) = read(&script(limits::MOST_BYTES), size, Reading::Ported);
+        assert_eq!((tokens.len(), tokens[1].value.len(), last), (2, 65_528, Event::Finished(65_536)));
+        let (tokens, last) = read(&script(limits::MOST_BYTES + 1), size, Reading::Ported);
+        assert_eq!((tokens.len(), last), (1, refused(refusals::TOO_LARGE, 1, 1, 0)));
+    }
+}
+
+/// What is too large by far is not kept, and what stands before is read.
+#[test]
+fn a_script_too_large_by_far() {
+    let script = [&b"<?php 12;"[..], &vec![b';'; 300_000]].concat();
+    for size in [7_000, usize::MAX] {
+        let (tokens, last) = read(&script, size, Reading::Ported);
+        assert_eq!((tokens.len(), last), (2, refused(refusals::TOO_LARGE, 1, 1, 0)));
+    }
+    let mut stream = Stream::new(Reading::Ported);
+    stream.feed(&script).unwrap();
+    stream.feed(&script).unwrap();
+    assert_eq!(stream.source().len(), limits::MOST_BYTES + 1);
+}

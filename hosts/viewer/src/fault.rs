@@ -1,0 +1,200 @@
+//! A refusal as a person is told of it: the lines to mark, what is open or stands there, and what to do.
+
+use puretakoi::{refusals, Frame, Refusal, Session, Span};
+
+use crate::shown::{pieces, shown};
+
+/// A refusal and what is told of it.
+#[derive(Debug)]
+pub struct Fault {
+    /// The refusal.
+    pub refusal: Refusal,
+    /// The line that it stands in; none where it is about the whole script.
+    pub mark: Option<Mark>,
+    /// A sentence on what stands there or is open.
+    pub detail: Option<String>,
+    /// The line where what is open began, if that is what is told.
+    pub opening: Option<Mark>,
+}
+
+/// A line of the script and a place in it.
+#[derive(Debug, PartialEq, Eq)]
+pub struct Mark {
+    /// The line's number.
+    pub line: u32,
+    /// Its bytes without the break.
+    pub text: Vec<u8>,
+    /// The place: so many bytes stand before it.
+    pub at: usize,
+}
+
+/// What was open where a reading was refused.
+struct Open {
+    what: String,
+    missing: String,
+    span: Span,
+}
+
+impl Fault {
+    /// What is told of a refusal, with the session as it is then and where its top frame opened.
+    pub fn new(refusal: Refusal, script: &[u8], session: &Session, opening: Span) -> Fault {
+        let open = open(script, session, opening);
+        let mark = Mark::new(script, refusal.span);
+        match refusal.number {
+            refusals::UNEXPECTED_END_OF_FILE => {
+                let detail = open.as_ref().map(|open| {
+                    format!("The {} that opens at {} is not closed: {}.", open.what, open.span, open.missing)
+                });
+                let opening = open.map(|open| Mark::new(script, open.span));
+                Fault { refusal, mark: Some(mark), detail, opening }
+            }
+            refusals::TOO_LARGE => {
+                let detail = Some("Only its first 65,536 bytes were read.".to_string());
+                Fault { refusal, mark: None, detail, opening: None }
+            }
+            _ => {
+                let detail = detail(refusal, script, session, open, &mark);
+                Fault { refusal, mark: Some(mark), detail, opening: None }
+            }
+        }
+    }
+
+    /// The refusal with its place, what it means and what to do, in one line.
+    pub fn sentence(&self) -> String {
+        format!("{}. {}", self.refusal, self.refusal.advice())
+    }
+}
+
+impl Mark {
+    /// The line of a place.
+    fn new(script: &[u8], span: Span) -> Mark {
+        let place = (span.position as usize).min(script.len());
+        let (front, rest) = script.split_at(place);
+        let start = front.iter().rposition(|byte| *byte == b'\n').map_or(0, |at| at + 1);
+        let end = place + rest.iter().position(|byte| *byte == b'\n').unwrap_or(rest.len());
+        let text = script[start..end].strip_suffix(b"\r").unwrap_or(&script[start..end]).to_vec();
+        Mark { line: span.line, text, at: place - start }
+    }
+
+    /// What stands before the place.
+    fn front(&self) -> &[u8] {
+        self.text.get(..self.at).unwrap_or(&self.text)
+    }
+}
+
+/// What is told of the refusals that stand at a byte of the script.
+fn detail(refusal: Refusal, script: &[u8], session: &Session, open: Option<Open>, mark: &Mark) -> Option<String> {
+    match refusal.number {
+        refusals::INVALID_UNICODE_ESCAPE | refusals::INVALID_OCTAL_ESCAPE => {
+            open.map(|open| format!("It stands in the {} that opens at {}.", open.what, open.span))
+        }
+        refusals::INVALID_DOC_INDENTATION => {
+            Some(format!("Before {} stand {}.", shown(label(session, script)?), blanks(mark.front())))
+        }
+        refusals::STRAY_INDENTATION => {
+            let (line, owed) = closing_line(script, session)?;
+            let there = character_in_words(script.get(refusal.span.position as usize..)?);
+            let has = match blanks(mark.front()) {
+                none if none.is_empty() => format!("starts with {}", there),
+                front => format!("starts with {}, then {}", front, there),
+            };
+            Some(format!("Each row owes the {} of the closing line, line {}; this row {}.", blanks(owed), line, has))
+        }
+        _ => None,
+    }
+}
+
+/// What is open: a string at the cursor, or the top frame.
+fn open(script: &[u8], session: &Session, span: Span) -> Option<Open> {
+    let name = || shown(label(session, script).unwrap_or_default());
+    let quoted = |what: &str, span| (what.to_string(), "the quote at its end is missing".to_string(), span);
+    let (what, missing, span) = match session.top()? {
+        Frame::Scripting => match script.get(session.position() as usize)? {
+            b'\'' => quoted("single-quoted string", session.span()),
+            b'"' => quoted("double-quoted string", session.span()),
+            _ => return None,
+        },
+        Frame::DoubleQuote => quoted("double-quoted string", span),
+        Frame::ShellExec => ("command".to_string(), "the backtick at its end is missing".to_string(), span),
+        Frame::Heredoc(_) => (format!("heredoc block {}", name()), "its closing line is missing".to_string(), span),
+        Frame::Nowdoc(_) => {
+            let near = near_closer(script, session).map_or_else(String::new, |near| format!(", but {}", near));
+            (format!("nowdoc block {}", name()), format!("no line behind it starts with its label{}", near), span)
+        }
+        Frame::VarOffset => ("bracket".to_string(), "the ] is missing".to_string(), span),
+        _ => return None,
+    };
+    Some(Open { what, missing, span })
+}
+
+/// The label of the text block that is being read.
+fn label<'a>(session: &Session, script: &'a [u8]) -> Option<&'a [u8]> {
+    match session.top()? {
+        Frame::Heredoc(label) | Frame::Nowdoc(label) => label.bytes(script),
+        _ => None,
+    }
+}
+
+/// The lines of the block that is being read and of all behind it: number, blanks in front, and what follows them.
+fn lines<'a>(script: &'a [u8], session: &Session) -> impl Iterator<Item = (u32, &'a [u8], &'a [u8])> {
+    let body = script.get(session.position() as usize..).unwrap_or_default();
+    (session.line()..).zip(body.split(|byte| *byte == b'\n')).map(|(number, line)| {
+        let (blanks, rest) = line.split_at(line.iter().take_while(|byte| is_blank(**byte)).count());
+        (number, blanks, rest)
+    })
+}
+
+/// The number and the blanks of the line that closes the block that is being read.
+fn closing_line<'a>(script: &'a [u8], session: &Session) -> Option<(u32, &'a [u8])> {
+    let label = label(session, script)?;
+    let closer = lines(script, session).find(|(_number, _blanks, rest)| rest.starts_with(label));
+    closer.map(|(number, blanks, _rest)| (number, blanks))
+}
+
+/// The first line that would close the block if its label were written or placed rightly, in words.
+fn near_closer(script: &[u8], session: &Session) -> Option<String> {
+    let label = label(session, script).filter(|label| !label.is_empty())?;
+    lines(script, session).find_map(|(number, _blanks, rest)| {
+        if rest.get(..label.len()).map_or(false, |front| front.eq_ignore_ascii_case(label)) {
+            return Some(format!("line {} has it in other letter case", number));
+        }
+        let within = rest.windows(label.len()).any(|part| part == label);
+        within.then(|| format!("line {} has it behind other characters", number))
+    })
+}
+
+/// Whether a byte is a space or a tab.
+pub fn is_blank(byte: u8) -> bool {
+    byte == b' ' || byte == b'\t'
+}
+
+/// Blanks in words: how many of which, in their order; nothing for none.
+fn blanks(bytes: &[u8]) -> String {
+    let mut runs: Vec<(u8, usize)> = Vec::new();
+    for byte in bytes {
+        match runs.last_mut() {
+            Some((kind, count)) if kind == byte => *count += 1,
+            _ => runs.push((*byte, 1)),
+        }
+    }
+    let words = |(kind, count): &(u8, usize)| counted(*count, if *kind == b'\t' { "tab" } else { "space" });
+    let runs: Vec<String> = runs.iter().map(words).collect();
+    match runs.split_last() {
+        Some((last, front)) if !front.is_empty() => format!("{} and {}", front.join(", "), last),
+        _ => runs.concat(),
+    }
+}
+
+/// The character that some bytes begin with, in words.
+fn character_in_words(bytes: &[u8]) -> String {
+    match bytes.first() {
+        Some(b'\t') => "a tab".to_string(),
+        Some(b' ') => "a space".to_string(),
+        _ => format!("\"{}\"", pieces(bytes).next().map_or_else(String::new, |piece| piece.text)),
+    }
+}
+
+/// A number of things, with the thing's name.
+pub fn counted(count: usize, thing: &str) -> String {
+    format!("{} {}{}", count, thing, if count == 1 { "" } else { "s" })
+}

@@ -1,0 +1,1 @@
+<?php "to $kerb[0

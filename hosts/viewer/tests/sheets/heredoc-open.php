@@ -1,0 +1,3 @@
+<?php
+echo <<<ROAD
+  kerb $x

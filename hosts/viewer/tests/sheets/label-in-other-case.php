@@ -1,0 +1,4 @@
+<?php
+f(<<<'ROAD'
+  oo
+  road);

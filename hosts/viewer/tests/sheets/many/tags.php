@@ -1,0 +1,4 @@
+<?php
+<<<'A'
+<script>alert("1")</script> & 'x'
+A;

@@ -1,0 +1,2 @@
+<?php
+echo "a", "kerb \400";

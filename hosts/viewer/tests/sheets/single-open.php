@@ -1,0 +1,2 @@
+<?php
+$kerb = 'no end

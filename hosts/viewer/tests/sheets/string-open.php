@@ -1,0 +1,3 @@
+<?php
+$kerb = "no end;
+$x = 1;

@@ -1,0 +1,3 @@
+<?php
+$a = "two $kerb and
+no end

@@ -1,0 +1,10 @@
+<?php
+$a = <<<'ROAD'
+	ab	c
+	  d
+
+	ROAD;
+f(<<<'EMPTY'
+EMPTY, <<<'ONE'
+
+ONE);
