@@ -22,7 +22,7 @@ make_archive() {
 
 # Builds crates of the workspace, all of them where none is named.
 build() {
-    need cargo cargo rustc || return
+    need cc gcc libc6-dev && need cargo cargo rustc || return
     (cd "$workspace" && cargo build --quiet --offline --locked --release "${@/#/--package=}") >"$log" 2>&1 && return
     count_failure "build of ${*:-all crates}" "$(cat "$log")"
     return 1
