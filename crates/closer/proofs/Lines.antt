@@ -2,13 +2,17 @@
 use Prim.Native.Nat.{ℕ, suc, _+_, _<_, _≤_}
 use mathlib.Core.Path.{_≡_, refl, sym, _∙_}
 use mathlib.Core.Bool.{Bool, true, false, not}
-use mathlib.Core.List.{List}
+use mathlib.Core.List.{List, [], _∷_}
 use native.Mathlib.Omega.{arith}
 use native.Mathlib.Numerals.{add-one}
 use native.Mathlib.Nat.{add-zero}
 use lib.ListN.{length, getD, drop, drop-of-length-le}
+use lib.Seq.{drop-drop}
 use borrow.Author.Tests.{eq-eqb, ne-eqb, not-true, not-false}
 use Rattle.source.specs.Bytes.{isBlank}
+use Rattle.source.specs.Words.{run}
+use Rattle.source.specs.Identifiers.{RunEnd}
+use Rattle.source.proofs.Tests.{choice}
 use Rattle.source.proofs.Words.{drop-one}
 use Rattle.unit.specs.declared.Indentation.{Indentation}
 use Rattle.unit.specs.declared.Match.{Match}
@@ -148,3 +152,19 @@ module _ (label src : List ℕ) (end : Bool) (n : ℕ) where
           record { inside = omega arith; place = omega (arith, l .place); same = l .same ∙ rw (drop-one src i h, ← b, not-false flag t, e, add-one amount) }
 
 pub ruleset indenting = (indenting-first, indenting-start, indenting-end, indenting-label, indenting-on)
+
+-- where the label does not stand behind the blanks, the LF is of the text, whatever the blanks are
+line-other : (label : List ℕ) (end : Bool) (n : ℕ) (ind : Indentation) (amount : ℕ) (xs : List ℕ) → matched label (drop (run isBlank xs) xs) ≡ Match.Other → line label end n ind amount xs ≡ TextUnit.Byte 10 (n + 1)
+unfolding line run judged
+line-other label end n ind amount [] e = rw (e, add-one n)
+line-other label end n ind amount (b ∷ rest) e =
+    choice (λ (u : TextUnit). u ≡ TextUnit.Byte 10 (n + 1)) (isBlank b) (line label end n (indented ind b) (suc amount) rest) (judged (matched label (b ∷ rest)) end n (closer (length label) ind amount (suc n + amount)))
+    (λ t. line-other label end n (indented ind b) (suc amount) rest (rw t at e))
+    (λ t. let other : matched label (b ∷ rest) ≡ Match.Other = rw t at e in rw (other, add-one n))
+
+-- the arms of `line_at`
+module _ (label src : List ℕ) (end : Bool) (n i : ℕ) where
+  pub line-text : (m : Match) → RunEnd isBlank src (n + 1) i → m ≡ matched label (drop i src) → m ≡ Match.Other → TextUnit.Byte 10 (n + 1) ≡ line label end n Indentation.None 0 (drop (n + 1) src)
+  line-text m r f e =
+      let place : drop (run isBlank (drop (n + 1) src)) (drop (n + 1) src) ≡ drop i src = drop-drop (run isBlank (drop (n + 1) src)) (n + 1) src ∙ rw (r .place) in
+      sym (line-other label end n Indentation.None 0 (drop (n + 1) src) (rw place (sym f ∙ e)))

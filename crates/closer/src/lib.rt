@@ -7,6 +7,8 @@ use unit::TextUnit;
 ghost use mathlib.Core.Path.{_≡_};
 ghost use Prim.Native.Nat.{_+_, _≤_, _<_};
 ghost use lib.ListN.{length, drop};
+ghost use Rattle.source.specs.Bytes.{isBlank};
+ghost use Rattle.source.specs.Identifiers.{RunEnd};
 ghost use Rattle.unit.specs.declared.Indentation.{Indentation};
 ghost use Rattle.unit.specs.declared.Stop.{Stop};
 ghost use Rattle.unit.specs.declared.TextUnit.{TextUnit};
@@ -123,8 +125,8 @@ fn label_at(
     judged_as(m, end, n, u)
 }
 
-// The LF at n of a text block.
-pub fn line_at(src: &[u8], label: &[u8], n: usize, end: bool) -> TextUnit
+// The LF at n of a text block, with the indentation of what stands behind it.
+fn closing_line_at(src: &[u8], label: &[u8], n: usize, end: bool) -> TextUnit
     requires { ⌜ (n < length (now src)) × (length (now src) ≤ 65536) × (length (now label) ≤ 64) ⌝ }
     ensures { λ r. ⌜ r ≡ line (now (label .entry)) end n Indentation.None 0 (drop (n + 1) (now (src .entry))) ⌝ }
 {
@@ -141,4 +143,36 @@ pub fn line_at(src: &[u8], label: &[u8], n: usize, end: bool) -> TextUnit
         i += 1;
     }
     label_at(src, label, n, end, ind, amount, i)
+}
+
+// Where the blanks from `at` on end.
+fn blank_end(src: &[u8], at: usize) -> usize
+    requires { ⌜ at ≤ length (now src) ⌝ }
+    ensures { λ r. ⌜ RunEnd isBlank (now (src .entry)) at r ⌝ }
+{
+    let mut i = at;
+    while i < src.len() {
+        if !source::is_blank(src[i]) {
+            return i;
+        }
+        i += 1;
+    }
+    i
+}
+
+// The LF at n of a text block. Only where the label may stand behind its blanks is their kind asked.
+pub fn line_at(src: &[u8], label: &[u8], n: usize, end: bool) -> TextUnit
+    requires { ⌜ (n < length (now src)) × (length (now src) ≤ 65536) × (length (now label) ≤ 64) ⌝ }
+    ensures { λ r. ⌜ r ≡ line (now (label .entry)) end n Indentation.None 0 (drop (n + 1) (now (src .entry))) ⌝ }
+{
+    let i = blank_end(src, n + 1);
+    let m = match_at(src, i, label);
+    match m {
+        Match::Other => TextUnit::Byte {
+            value: b'\n',
+            after: n + 1,
+        },
+        Match::Whole => closing_line_at(src, label, n, end),
+        Match::Undecided => closing_line_at(src, label, n, end),
+    }
 }

@@ -1,6 +1,6 @@
 -- The span of a place behind the cursor. Assumes nothing.
 use Prim.Native.Nat.{ℕ, _-_}
-use mathlib.Core.Path.{_≡_}
+use mathlib.Core.Path.{_≡_, sym}
 use mathlib.Core.List.{List}
 use native.Mathlib.Omega.{arith}
 use Rattle.source.specs.Cursor.{passed}
@@ -13,3 +13,6 @@ unfolding passed
 spanAt-here src p =
     let z : p .position - p .position ≡ 0 = omega arith in
     rw z
+
+pub spanAt-stays : (src : List ℕ) (p : Span) (place : ℕ) → place ≡ p .position → p ≡ spanAt src p place
+spanAt-stays src p place e = rw e (sym (spanAt-here src p))

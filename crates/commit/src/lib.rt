@@ -45,6 +45,9 @@ pub fn span_at(src: &[u8], p: Span, place: usize) -> Span
     ensures { λ r. ⌜ r ≡ spanAt (now (src .entry)) p place ⌝ }
 {
     let at = p.position as usize;
+    if place == at {
+        return p;
+    }
     source::past(&src[at..place], p)
 }
 

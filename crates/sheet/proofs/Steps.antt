@@ -1,5 +1,5 @@
 -- The code of a line on each way through: where it ends, what it is to the block, what comes off it, its break. Assumes nothing.
-use Prim.Native.Nat.{ℕ, zero, suc, _+_, _-_, _<_, _≤_}
+use Prim.Native.Nat.{ℕ, zero, suc, _+_, _-_, _<_, _≤_, min}
 use mathlib.Core.Path.{_≡_, refl, sym, _∙_}
 use mathlib.Core.Bool.{Bool, true, false, not}
 use mathlib.Core.List.{List, [], _∷_}
@@ -10,7 +10,8 @@ use lib.ListN.{length, getD, drop, length-drop, drop-of-length-le}
 use lib.Seq.{getD-drop}
 use borrow.Author.Tests.{eq-eqb, ne-eqb, le-leb, lt-leb, not-true, not-false}
 use Rattle.source.specs.Words.{if_then_else_, _is_, run}
-use Rattle.source.specs.Bytes.{isBlank}
+use Rattle.source.specs.Bytes.{isBlank, isNoBreak}
+use Rattle.source.specs.Identifiers.{RunEnd}
 use Rattle.source.proofs.Words.{drop-one}
 use Rattle.unit.specs.declared.Indentation.{Indentation}
 use Rattle.unit.specs.declared.Match.{Match}
@@ -21,42 +22,27 @@ use Rattle.sheet.specs.Sheets.{judgedLine, lineKind}
 use Rattle.sheet.specs.Scans.{lineLength, LineEnd, offsetOf, isStray, breakOf}
 use Rattle.sheet.proofs.Inside.{run-length}
 
--- no break stands between `at` and i
-pub record Ending (src : List ℕ) (at i : ℕ) : Type 0 where
-  pub inside : i ≤ length src
-  pub start : at ≤ i
-  pub same : at + lineLength (drop at src) ≡ i + lineLength (drop i src)
+-- a line is what stands before its break, and the break where there is one
+lineLength-run : (xs : List ℕ) → lineLength xs ≡ min (suc (run isNoBreak xs)) (length xs)
+unfolding lineLength run isNoBreak
+lineLength-run [] = omega arith
+lineLength-run (b ∷ rest) = go (eqb b 10) (lineLength-run rest)
+  where
+    go : (t : Bool) → lineLength rest ≡ min (suc (run isNoBreak rest)) (length rest) → (if t then 1 else suc (lineLength rest)) ≡ min (suc (if not t then suc (run isNoBreak rest) else 0)) (suc (length rest))
+    go true e = omega arith
+    go false e = omega arith
 
-module _ (src : List ℕ) (at : ℕ) where
-  pub ending-first : at < length src → Ending src at at
-  ending-first h = record { inside = omega arith; start = omega arith; same = refl }
+module _ (src : List ℕ) (at n : ℕ) (h : at < length src) (r : RunEnd isNoBreak src at n) where
+  size : lineLength (drop at src) ≡ min (suc (run isNoBreak (drop at src))) (length src - at)
+  size = rw (← length-drop at src) (lineLength-run (drop at src))
 
-  module _ (i : ℕ) (p : Ending src at i) where
-    pub ending-end : at < length src → length src ≤ i → LineEnd src at i
-    unfolding lineLength
-    ending-end k h =
-        record { place = sym (p .same ∙ rw (drop-of-length-le src h) (omega arith)); inside = p .inside; on = omega arith }
+  pub lineEnd-break : n < length src → LineEnd src at (n + 1)
+  lineEnd-break k = record { place = omega (arith, r .place, size); inside = omega arith; on = omega (arith, r .place) }
 
-    module _ (h : i < length src) where
-      pub ending-break : getD src i 0 ≡ 10 → LineEnd src at (i + 1)
-      unfolding lineLength
-      ending-break e =
-          record {
-            place = sym (p .same ∙ rw (drop-one src i h, eq-eqb (getD src i 0) 10 e));
-            inside = omega arith;
-            on = omega (arith, p .start);
-          }
+  pub lineEnd-end : length src ≤ n → LineEnd src at n
+  lineEnd-end k = record { place = omega (arith, r .place, r .inside, size); inside = r .inside; on = omega arith }
 
-      pub ending-on : (getD src i 0 ≡ 10 → ⊥) → Ending src at (i + 1)
-      unfolding lineLength
-      ending-on e =
-          record {
-            inside = omega arith;
-            start = omega (arith, p .start);
-            same = p .same ∙ rw (drop-one src i h, ne-eqb (getD src i 0) 10 e) (omega arith);
-          }
-
-pub ruleset ending = (ending-first, ending-end, ending-break, ending-on)
+pub ruleset lineEnds = (lineEnd-break, lineEnd-end)
 
 -- a label there, another byte, or the end of the part
 module _ (end : Bool) (ind : Indentation) (amount : ℕ) where

@@ -70,14 +70,11 @@ fn line_end(src: &[u8], at: usize) -> usize
     requires { ⌜ at < length (now src) ⌝ }
     ensures { λ r. ⌜ LineEnd (now (src .entry)) at r ⌝ }
 {
-    let mut i = at;
-    while i < src.len() {
-        if src[i] == b'\n' {
-            return i + 1;
-        }
-        i += 1;
+    let n = source::break_end(src, at);
+    if n < src.len() {
+        return n + 1;
     }
-    i
+    n
 }
 
 // What the label makes of a line.

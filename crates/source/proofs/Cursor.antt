@@ -1,19 +1,17 @@
 -- Laws of the cursor: passing a and then b is passing a + b, its position counts the bytes, and its line and column stay near it.
 -- Assumes nothing.
-use mathlib.Core.Path.{_≡_, refl, sym, _∙_}
+use mathlib.Core.Path.{_≡_, refl, _∙_}
 use mathlib.Core.Bool.{Bool, true, false}
 use mathlib.Core.List.{List, [], _∷_, _++_}
-use Prim.Native.Nat.{ℕ, _+_, _-_, _<_, _≤_}
+use Prim.Native.Nat.{ℕ, _+_, _≤_}
 use native.Mathlib.Omega.{arith}
-use native.Mathlib.Numerals.{unary-clauses}
 use lib.Dec.{eqb}
-use lib.ListN.{length, getD, take, drop, drop-of-length-le}
+use lib.ListN.{length, take, drop}
 use lib.Seq.{take-add, drop-drop}
 use borrow.Author.Tests.{eq-eqb, ne-eqb}
 use Rattle.source.specs.Words.{if_then_else_}
-use Rattle.source.specs.Cursor.{passedByte, passed, Reaches}
+use Rattle.source.specs.Cursor.{passedByte, passed}
 use Rattle.source.specs.declared.Span.{Span}
-use Rattle.source.proofs.Words.{drop-one}
 
 pub passed-append : (p : Span) (xs ys : List ℕ) → passed p (xs ++ ys) ≡ passed (passed p xs) ys
 unfolding passed
@@ -67,33 +65,3 @@ pub passed-placed : (p : Span) (xs : List ℕ) → Placed p → Placed (passed p
 unfolding passed
 passed-placed p [] h = h
 passed-placed p (b ∷ xs) h = passed-placed (passedByte p b) xs (passedByte-moved p b .placed h)
-
--- the loop of `past`: what is left leads to the same end, and its numbers fit
-pub record Walking (part : List ℕ) (p q : Span) (i : ℕ) : Type 0 where
-  pub inside : i ≤ length part
-  pub same : passed p part ≡ passed q (drop i part)
-  pub reaches : Reaches q (length part - i)
-
-module _ (part : List ℕ) (p : Span) where
-  pub walking-first : Reaches p (length part) → Walking part p p 0
-  walking-first h = record { inside = omega arith; same = refl; reaches = simp unary-clauses h }
-
-  module _ (q : Span) (i : ℕ) (w : Walking part p q i) where
-    pub walking-byte : i < length part → Reaches q 1
-    walking-byte h = record { line = omega (arith, w .reaches .line); column = omega (arith, w .reaches .column); position = omega (arith, w .reaches .position) }
-
-    pub walking-end : length part ≤ i → q ≡ passed p part
-    unfolding passed
-    walking-end h = sym (w .same ∙ rw (drop-of-length-le part h))
-
-    pub walking-on : (r : Span) → i < length part → r ≡ passedByte q (getD part i 0) → Walking part p r (i + 1)
-    unfolding passed
-    walking-on r h e =
-        let m = passedByte-moved q (getD part i 0) in
-        record {
-          inside = omega arith;
-          same = w .same ∙ rw (drop-one part i h, e);
-          reaches = rw e (record { line = omega (arith, m .line, w .reaches .line); column = omega (arith, m .column, w .reaches .column); position = omega (arith, m .position, w .reaches .position) });
-        }
-
-pub ruleset walking = (walking-first, walking-byte, walking-end, walking-on)

@@ -1,6 +1,6 @@
--- Laws of runs and of `every`: one byte more, the end, and the loop that walks a run. Assumes nothing.
+-- Laws of runs and of `every`: one byte more, the end, the loop that walks a run, and lists put together. Assumes nothing.
 use mathlib.Core.Path.{_≡_, refl, sym, _∙_}
-use mathlib.Core.Bool.{Bool, true, false, not, _&&_, false≢true}
+use mathlib.Core.Bool.{Bool, true, false, not, _&&_, and-assoc, false≢true}
 use mathlib.Core.List.{List, [], _∷_, _++_}
 use Prim.Native.Nat.{ℕ, zero, suc, _+_, _<_, _≤_}
 use native.Mathlib.Omega.{arith}
@@ -10,18 +10,14 @@ use lib.ListN.{length, getD, set, take, drop, length-take, drop-of-length-le, Li
 use lib.Seq.{drop-cons, getD-take, take-nil, take-all, take-suc-set, set-out}
 use borrow.Author.Tests.{not-true, not-false, ltb-true, ltb-false}
 use Rattle.source.specs.Words.{if_then_else_, run, every}
-use Rattle.source.specs.Identifiers.{RunEnd}
+use Rattle.source.specs.Identifiers.{RunEnd, Passing}
 use Rattle.source.proofs.Tests.{&&-left, &&-right, &&-both}
 
 -- the list from i on, by its byte at i
 pub drop-one : (src : List ℕ) (i : ℕ) → i < length src → drop i src ≡ getD src i 0 ∷ drop (i + 1) src
 drop-one src i h = rw (add-one i, drop-cons src i 0 h)
 
--- the run from `at` on ends where the run from i on does
-pub record Passing (test : ℕ → Bool) (src : List ℕ) (at i : ℕ) : Type 0 where
-  pub inside : i ≤ length src
-  pub same : at + run test (drop at src) ≡ i + run test (drop i src)
-
+-- the loop that walks a run
 module _ (test : ℕ → Bool) (src : List ℕ) (at : ℕ) where
   pub passing-first : at ≤ length src → Passing test src at at
   passing-first h = record { inside = h; same = refl }
@@ -104,10 +100,18 @@ every-take test (a ∷ rest) zero n h e = refl
 every-take test (a ∷ rest) (suc m) zero h e = absurd (omega arith)
 every-take test (a ∷ rest) (suc m) (suc n) h e = &&-both (test a) (every test (take m rest)) (&&-left (test a) (every test (take n rest)) e) (every-take test rest m n (omega arith) (&&-right (test a) (every test (take n rest)) e))
 
-every-append : {A : Type 0} (test : A → Bool) (xs ys : List A) → every test xs ≡ true → every test ys ≡ true → every test (xs ++ ys) ≡ true
+-- where all pass, each does
+pub every-getD : (test : ℕ → Bool) (xs : List ℕ) (i : ℕ) → every test xs ≡ true → i < length xs → test (getD xs i 0) ≡ true
 unfolding every
-every-append test [] ys e f = f
-every-append test (a ∷ rest) ys e f = &&-both (test a) (every test (rest ++ ys)) (&&-left (test a) (every test rest) e) (every-append test rest ys (&&-right (test a) (every test rest) e) f)
+every-getD test [] i e h = absurd (omega arith)
+every-getD test (b ∷ xs) zero e h = &&-left (test b) (every test xs) e
+every-getD test (b ∷ xs) (suc i) e h = every-getD test xs i (&&-right (test b) (every test xs) e) (omega arith)
+
+-- all of two lists pass exactly if all of each do
+pub every-append : {A : Type 0} (test : A → Bool) (xs ys : List A) → every test (xs ++ ys) ≡ (every test xs && every test ys)
+unfolding every
+every-append test [] ys = refl
+every-append test (a ∷ rest) ys = rw (every-append test rest ys) (sym (and-assoc (test a) (every test rest) (every test ys)))
 
 -- and one more does where it is stored behind them
 pub every-set : {A : Type 0} (test : A → Bool) (xs : List A) (n : ℕ) (a : A) → every test (take n xs) ≡ true → test a ≡ true → every test (take (n + 1) (set xs n a)) ≡ true
@@ -115,7 +119,7 @@ unfolding every
 every-set test xs n a e f = rw (add-one n) (go (ltb n (length xs)) refl)
   where
     go : (q : Bool) → ltb n (length xs) ≡ q → every test (take (suc n) (set xs n a)) ≡ true
-    go true h = rw (take-suc-set xs n a (ltb-true n (length xs) h)) (every-append test (take n xs) (a ∷ []) e (rw f))
+    go true h = rw (take-suc-set xs n a (ltb-true n (length xs) h)) (rw (every-append test (take n xs) (a ∷ []), e, f))
     go false h =
         let k : length xs ≤ n = ltb-false n (length xs) h in
         let m : length xs ≤ suc n = omega arith in

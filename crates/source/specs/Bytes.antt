@@ -4,9 +4,10 @@
 --   isStart                   what an identifier starts with: a letter, _ or 0x80 to 0xFF
 --   isIdentifier              what may follow: digits too
 --   isBlank                   a space or a tab, as indentation has them
+--   isNoBreak, isNoneOf       no LF; none of four bytes
 use Prim.Native.Nat.{ℕ}
-use mathlib.Core.Bool.{Bool, _||_}
-use lib.Dec.{leb}
+use mathlib.Core.Bool.{Bool, _||_, _&&_, not}
+use lib.Dec.{leb, eqb}
 use Rattle.source.specs.Words.{_is_, _from_to_}
 
 unfoldable pub isDigit : ℕ → Bool
@@ -29,3 +30,9 @@ isIdentifier b = isDigit b || isStart b
 
 unfoldable pub isBlank : ℕ → Bool
 isBlank b = b is " " || b is "\t"
+
+unfoldable pub isNoBreak : ℕ → Bool
+isNoBreak b = not (b is "\n")
+
+unfoldable pub isNoneOf : ℕ → ℕ → ℕ → ℕ → ℕ → Bool
+isNoneOf w x y z b = not (eqb b w) && not (eqb b x) && not (eqb b y) && not (eqb b z)

@@ -1,6 +1,7 @@
 -- The identifier at a place (document 01, "Identifiers"): a start byte and the identifier bytes behind it.
 --   identifierLength   its length at the head of a text; 0 where there is none
 --   RunEnd, IdentifierEnd   where a run of bytes of one class ends, and where the identifier does
+--   Passing            a place on the way to a run's end
 --   identifierAt       its bytes at a place of the source, a part of the source itself; empty where there is none
 use Prim.Native.Nat.{ℕ, suc, _+_, _≤_}
 use mathlib.Core.Bool.{Bool}
@@ -18,6 +19,11 @@ identifierLength (b ∷ rest) = if isStart b then suc (run isIdentifier rest) el
 pub record RunEnd (test : ℕ → Bool) (src : List ℕ) (at r : ℕ) : Type 0 where
   pub place : r ≡ at + run test (drop at src)
   pub inside : r ≤ length src
+
+-- the run from `at` on ends where the run from i on does
+pub record Passing (test : ℕ → Bool) (src : List ℕ) (at i : ℕ) : Type 0 where
+  pub inside : i ≤ length src
+  pub same : at + run test (drop at src) ≡ i + run test (drop i src)
 
 pub record IdentifierEnd (src : List ℕ) (at r : ℕ) : Type 0 where
   pub place : r ≡ at + identifierLength (drop at src)

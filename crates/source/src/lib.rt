@@ -1,11 +1,14 @@
-// The source: the classes of its bytes, the cursor over them, and the identifier at a place; and the refusal numbers by name.
+// The source: the classes of its bytes, the first break or stop from a place on, the cursor, the identifier at a place; and the
+// refusal numbers by name.
 // Of the Rust: state/source.rs, and `peek_identifier` of mod.rs. A cursor is a value beside the lent bytes.
 ghost use mathlib.Core.Path.{_≡_};
-ghost use Prim.Native.Nat.{_≤_};
-ghost use lib.ListN.{length};
-ghost use Rattle.source.specs.Bytes.{isDigit, isOctal, isHex, isLetter, isStart, isIdentifier, isBlank};
-ghost use Rattle.source.specs.Cursor.{Reaches, passedByte, passed};
-ghost use Rattle.source.specs.Identifiers.{RunEnd, IdentifierEnd, identifierAt};
+ghost use mathlib.Core.Bool.{not};
+ghost use Prim.Native.Nat.{_+_, _<_, _≤_};
+ghost use lib.ListN.{length, take, drop};
+ghost use Rattle.source.specs.Words.{every};
+ghost use Rattle.source.specs.Bytes.{isDigit, isOctal, isHex, isLetter, isStart, isIdentifier, isBlank, isNoBreak, isNoneOf};
+ghost use Rattle.source.specs.Cursor.{Reaches, passedByte, passed, breaks, Unbroken, LineStart};
+ghost use Rattle.source.specs.Identifiers.{RunEnd, Passing, IdentifierEnd, identifierAt};
 
 // Why a call refuses (document 01, "Refusal numbers").
 pub const UNEXPECTED_END_OF_FILE: u32 = 1;
@@ -93,6 +96,109 @@ pub fn is_blank(b: u8) -> bool
     (b == b' ') | (b == b'\t')
 }
 
+// No LF.
+fn is_no_break(b: u8) -> bool
+    ensures { λ r. ⌜ r ≡ isNoBreak b ⌝ }
+{
+    b != b'\n'
+}
+
+// None of four bytes.
+fn is_none_of(w: u8, x: u8, y: u8, z: u8, b: u8) -> bool
+    ensures { λ r. ⌜ r ≡ isNoneOf w x y z b ⌝ }
+{
+    (b != w) & (b != x) & (b != y) & (b != z)
+}
+
+// Whether an LF stands among 8 bytes.
+fn break_in_8(src: &[u8], at: usize) -> bool
+    requires { ⌜ at + 8 ≤ length (now src) ⌝ }
+    ensures { λ r. ⌜ r ≡ not (every isNoBreak (take 8 (drop at (now (src .entry))))) ⌝ }
+{
+    let mut hit = false;
+    let mut j = 0;
+    while j < 8 {
+        hit = hit | (src[at + j] == b'\n');
+        j += 1;
+    }
+    hit
+}
+
+// From `at` on past blocks of 8 bytes, up to one with an LF or to fewer than 8.
+fn break_blocks(src: &[u8], at: usize) -> usize
+    requires { ⌜ at ≤ length (now src) ⌝ }
+    ensures { λ r. ⌜ Passing isNoBreak (now (src .entry)) at r ⌝ }
+{
+    let mut i = at;
+    while 8 <= src.len() - i {
+        if break_in_8(src, i) {
+            return i;
+        }
+        i += 8;
+    }
+    i
+}
+
+// The first LF from `at` on; the end where there is none.
+pub fn break_end(src: &[u8], at: usize) -> usize
+    requires { ⌜ at ≤ length (now src) ⌝ }
+    ensures { λ r. ⌜ RunEnd isNoBreak (now (src .entry)) at r ⌝ }
+{
+    let mut i = break_blocks(src, at);
+    while i < src.len() {
+        if !is_no_break(src[i]) {
+            return i;
+        }
+        i += 1;
+    }
+    i
+}
+
+// Whether one of four bytes stands among 8.
+fn stop_in_8(src: &[u8], at: usize, w: u8, x: u8, y: u8, z: u8) -> bool
+    requires { ⌜ at + 8 ≤ length (now src) ⌝ }
+    ensures { λ r. ⌜ r ≡ not (every (isNoneOf w x y z) (take 8 (drop at (now (src .entry))))) ⌝ }
+{
+    let mut hit = false;
+    let mut j = 0;
+    while j < 8 {
+        let b = src[at + j];
+        hit = hit | (b == w) | (b == x) | (b == y) | (b == z);
+        j += 1;
+    }
+    hit
+}
+
+// From `at` on past blocks of 8 bytes, up to one with one of the four bytes or to fewer than 8.
+fn stop_blocks(src: &[u8], at: usize, w: u8, x: u8, y: u8, z: u8) -> usize
+    requires { ⌜ at ≤ length (now src) ⌝ }
+    ensures { λ r. ⌜ Passing (isNoneOf w x y z) (now (src .entry)) at r ⌝ }
+{
+    let mut i = at;
+    while 8 <= src.len() - i {
+        if stop_in_8(src, i, w, x, y, z) {
+            return i;
+        }
+        i += 8;
+    }
+    i
+}
+
+// The first place from `at` on where one of four bytes stands; the end where there is none.
+pub fn stop_end(src: &[u8], at: usize, w: u8, x: u8, y: u8, z: u8) -> usize
+    requires { ⌜ at ≤ length (now src) ⌝ }
+    ensures { λ r. ⌜ RunEnd (isNoneOf w x y z) (now (src .entry)) at r ⌝ }
+{
+    let mut i = stop_blocks(src, at, w, x, y, z);
+    while i < src.len() {
+        if !is_none_of(w, x, y, z, src[i]) {
+            return i;
+        }
+        i += 1;
+    }
+    i
+}
+
 // The cursor past one byte.
 pub fn past_byte(p: Span, b: u8) -> Span
     requires { ⌜ Reaches p 1 ⌝ }
@@ -112,18 +218,89 @@ pub fn past_byte(p: Span, b: u8) -> Span
     }
 }
 
-// The cursor past all bytes of a part.
+// The LFs among 64 bytes: eight bits hold their number.
+fn breaks_in_64(part: &[u8], at: usize) -> u8
+    requires { ⌜ at + 64 ≤ length (now part) ⌝ }
+    ensures { λ r. ⌜ r ≡ breaks (take 64 (drop at (now (part .entry)))) ⌝ }
+{
+    let mut n = 0u8;
+    let mut j = 0;
+    while j < 64 {
+        if part[at + j] == b'\n' {
+            n += 1;
+        }
+        j += 1;
+    }
+    n
+}
+
+// The LFs of a part, by blocks of 64 bytes and then one by one.
+fn breaks(part: &[u8]) -> u32
+    requires { ⌜ length (now part) < 4294967296 ⌝ }
+    ensures { λ r. ⌜ r ≡ breaks (now (part .entry)) ⌝ }
+{
+    let mut n = 0u32;
+    let mut i = 0;
+    while 64 <= part.len() - i {
+        n += breaks_in_64(part, i) as u32;
+        i += 64;
+    }
+    while i < part.len() {
+        if part[i] == b'\n' {
+            n += 1;
+        }
+        i += 1;
+    }
+    n
+}
+
+// From the end back past blocks of 8 bytes, up to one with an LF or to fewer than 8.
+fn last_block(part: &[u8]) -> usize
+    ensures { λ r. ⌜ Unbroken (now (part .entry)) r ⌝ }
+{
+    let mut i = part.len();
+    while 8 <= i {
+        if break_in_8(part, i - 8) {
+            return i;
+        }
+        i -= 8;
+    }
+    i
+}
+
+// The place behind the last LF of a part; 0 where there is none.
+fn line_start(part: &[u8]) -> usize
+    ensures { λ r. ⌜ LineStart (now (part .entry)) r ⌝ }
+{
+    let mut i = last_block(part);
+    while 0 < i {
+        if part[i - 1] == b'\n' {
+            return i;
+        }
+        i -= 1;
+    }
+    0
+}
+
+// The cursor past all bytes of a part: the LFs are counted, and only the last line's bytes make its column.
 pub fn past(part: &[u8], p: Span) -> Span
     requires { ⌜ Reaches p (length (now part)) ⌝ }
     ensures { λ r. ⌜ r ≡ passed p (now (part .entry)) ⌝ }
 {
-    let mut q = p;
-    let mut i = 0;
-    while i < part.len() {
-        q = past_byte(q, part[i]);
-        i += 1;
+    let len = part.len() as u32;
+    let start = line_start(part);
+    if start == 0 {
+        return Span {
+            line: p.line,
+            column: p.column + len,
+            position: p.position + len,
+        };
     }
-    q
+    Span {
+        line: p.line + breaks(&part[0..start]),
+        column: len - start as u32 + 1,
+        position: p.position + len,
+    }
 }
 
 // Where the run of identifier bytes from `at` on ends, digits in its first place too.

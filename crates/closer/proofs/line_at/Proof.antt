@@ -1,20 +1,11 @@
--- `closer::line_at` meets its contract: the loop keeps `Indenting`. Assumes nothing.
-use Prim.Native.Nat.{_-_}
-use lib.ListN.{length}
+-- `closer::line_at` meets its contract: without the label the LF is text, else the whole line decides. Assumes nothing.
 use borrow.Author.Needs.{needs}
-use Rattle.closer.proofs.Lines.{Indenting, indenting}
+use Rattle.closer.proofs.Lines.{line-text}
 use Rattle.closer.proofs.line_at.Statement.{statement}
 use Rattle.closer.proofs.line_at.Tie as tie
-
-abbrev Inv : tie.InvT-loop
-Inv src label n end i₀ ind₀ amount₀ i ind amount = Indenting label src end n ind amount i
-
-abbrev left : tie.MeasureT-loop
-left src label n end i₀ ind₀ amount₀ i ind amount = length src - i
 
 pub line-at-spec : {M : Type 1} → statement M
 line-at-spec =
     tie.close
-    (tie.spec Inv left (λ c. search needs) (λ c. search indenting) (λ c. search needs) (λ c κs. search (indenting, needs))
-    (λ c κs. search (indenting, needs)) (λ c. search indenting) (λ c κs. search (indenting, needs)) (λ c. search needs) (λ c. search needs)
-    (λ c. search needs) (λ c. search indenting) (λ c κs. search (indenting, needs)) (λ c. search indenting))
+    (tie.spec (λ c. search needs) (λ c κs. search needs) (λ c κs. search needs) (λ c. search needs) (λ c. search needs) (λ c. search needs)
+    (λ c κs. search needs) (λ c. search needs) (λ c κs. search needs) (λ c. search line-text) (λ c. search needs) (λ c. search needs))

@@ -3,7 +3,8 @@ use Prim.Native.Nat.{_-_}
 use lib.ListN.{length}
 use borrow.Author.Needs.{needs}
 use Rattle.source.specs.Bytes.{isIdentifier}
-use Rattle.source.proofs.Words.{Passing, passing}
+use Rattle.source.specs.Identifiers.{Passing}
+use Rattle.source.proofs.Words.{passing}
 use Rattle.source.proofs.run_end.Statement.{statement}
 use Rattle.source.proofs.run_end.Tie as tie
 
