@@ -1,14 +1,15 @@
 -- The scan of a text: what a unit is to the text before it, and the loop. Assumes nothing.
-use Prim.Native.Nat.{ℕ, suc, _+_, _-_, _%_, _<_, _≤_}
+use Prim.Native.Nat.{ℕ, zero, suc, _+_, _-_, _%_, _<_, _≤_}
 use mathlib.Core.Path.{_≡_, refl, sym, ap, _∙_}
 use mathlib.Core.Bool.{Bool, true, false, not}
 use mathlib.Core.List.{List, [], _∷_, _++_}
 use native.Mathlib.Omega.{arith}
-use lib.Dec.{ltb}
-use lib.ListN.{length, getD, drop, length-append, length-drop, drop-of-length-le}
-use lib.Seq.{drop-drop}
+use lib.Dec.{ltb, eqb}
+use lib.ListN.{length, getD, take, drop, length-append, length-drop, drop-of-length-le}
+use lib.Seq.{take-suc, getD-drop, drop-drop}
 use borrow.Author.Tests.{ne-eqb, ltb-false, not-true, not-false}
 use Rattle.source.specs.Words.{if_then_else_, _is_}
+use Rattle.source.specs.Identifiers.{RunEnd}
 use Rattle.source.proofs.Tests.{choice}
 use Rattle.source.proofs.Words.{drop-one}
 use Rattle.unit.specs.declared.Mode.{Mode}
@@ -19,7 +20,12 @@ use Rattle.unit.specs.Units.{unitAt}
 use Rattle.unit.specs.Readings.{Reading, Text, Refused, Wait, onto, taken, afterOf, collected, trimmed, losesBreak, finished, textAt}
 use Rattle.unit.proofs.Inside.{TextInside, Inside, utf8-length, unit-inside, collected-turn}
 use Rattle.text.specs.declared.Scanned.{Scanned}
-use Rattle.text.specs.Scans.{Here, bytesOf, isBreak, valueLength, ended, measured}
+use Rattle.text.specs.Scans.{Here, isPlain, bytesOf, isBreak, lastBreak, valueLength, ended, unclosed, measured}
+use Rattle.text.proofs.Runs.{run-after, run-turn, run-length}
+
+pub positive : (n : ℕ) → (n ≡ 0 → ⊥) → 0 < n
+positive zero h = absurd (h refl)
+positive (suc n) h = omega arith
 
 -- an arm of a match on a unit, a stop or a mode
 module _ (u arm : TextUnit) (e : u ≡ arm) where
@@ -72,15 +78,46 @@ pub ruleset values = (value-whole, value-kept, value-shorter)
 
 pub ruleset endings = (ended-arm, ended-stop)
 
--- whether the last of these bytes is a break, where `broken` tells it of those before
-unfoldable pub lastBreak : Bool → List ℕ → Bool
-lastBreak broken [] = broken
-lastBreak broken (b ∷ rest) = lastBreak (b is "\n") rest
+module _ (end : Bool) (place : ℕ) where
+  pub unclosed-end : end ≡ true → Scanned.Refused 1 place ≡ unclosed end place
+  unfolding unclosed
+  unclosed-end e = rw e
+
+  pub unclosed-wait : end ≡ false → Scanned.Wait ≡ unclosed end place
+  unfolding unclosed
+  unclosed-wait e = rw e
+
+pub ruleset unclosing = (unclosed-end, unclosed-wait)
 
 pub lastBreak-append : (broken : Bool) (xs ys : List ℕ) → lastBreak broken (xs ++ ys) ≡ lastBreak (lastBreak broken xs) ys
 unfolding lastBreak
 lastBreak-append broken [] ys = refl
 lastBreak-append broken (b ∷ xs) ys = lastBreak-append (b is "\n") xs ys
+
+-- what was before some bytes does not matter
+pub lastBreak-any : (broken : Bool) (xs : List ℕ) → (length xs ≡ 0 → ⊥) → lastBreak broken xs ≡ lastBreak false xs
+unfolding lastBreak
+lastBreak-any broken [] some = absurd (some refl)
+lastBreak-any broken (b ∷ rest) some = refl
+
+-- of a part of a source: `broken` where there is none of it, else by the byte before its end
+module _ (src : List ℕ) (i n : ℕ) (broken : Bool) where
+  pub lastBreak-none : n ≡ i → broken ≡ lastBreak broken (take (n - i) (drop i src))
+  unfolding lastBreak
+  lastBreak-none e =
+      let z : n - i ≡ 0 = omega arith in
+      rw z
+
+  pub lastBreak-some : (i ≤ n) × (n ≤ length src) → (n ≡ i → ⊥) → eqb (getD src (n - 1) 0) 10 ≡ lastBreak broken (take (n - i) (drop i src))
+  unfolding lastBreak
+  lastBreak-some h some =
+      let k = n - i - 1 in
+      let on : n - i ≡ suc k = omega (arith, h .0, positive (n - i) (λ z. some (omega (arith, h .0)))) in
+      let p : i + k ≡ n - 1 = omega arith in
+      let q : k < length (drop i src) = omega (arith, length-drop i src, h .1) in
+      sym (rw (on, take-suc (drop i src) k 0 q, getD-drop i src k 0, p) (lastBreak-append broken (take k (drop i src)) (getD src (n - 1) 0 ∷ [])))
+
+pub ruleset lastBreaks = (lastBreak-none, lastBreak-some)
 
 pub trimmed-length : (text : List ℕ) → length (trimmed text) ≡ (if lastBreak false text then length text - 1 else length text)
 unfolding trimmed lastBreak
@@ -190,7 +227,7 @@ module _ (m : Mode) (label : List ℕ) (end : Bool) (src : List ℕ) (i : ℕ) (
       let hi : i + 1 + length (drop (i + 1) src) ≡ length src = rw (length-drop (i + 1) src) (omega arith) in
       rw hi at (bytes-inside u i (i + 1 + length (drop (i + 1) src)) z (rw (← e) at (unit-inside i (getD src i 0) (drop (i + 1) src) m label end)))
 
--- the loop of `scan_text`: len bytes of text were read up to i, the last of them a break or not
+-- the loop of `scan_units`: len bytes of text were read up to i, the last of them a break or not
 pub record Scanning (m : Mode) (label : List ℕ) (end : Bool) (src : List ℕ) (at i len : ℕ) (broken : Bool) : Type 0 where
   pub inside : i ≤ length src
   pub small : len ≤ i
@@ -205,33 +242,82 @@ module _ (m : Mode) (label : List ℕ) (end : Bool) (src : List ℕ) (at : ℕ) 
   scanning-here i h l = record { inside = h; short = l }
 
   module _ (i len : ℕ) (broken : Bool) (s : Scanning m label end src at i len broken) where
-    pub scanning-end : length src ≤ i → end ≡ true → Scanned.Refused 1 i ≡ measured (textAt m label end at (drop at src))
-    unfolding collected behind
-    scanning-end h t = sym (s .same ∙ rw (drop-of-length-le src h, t))
+    pub scanning-end : (r : Scanned) → length src ≤ i → r ≡ unclosed end i → r ≡ measured (textAt m label end at (drop at src))
+    unfolding collected behind unclosed
+    scanning-end r h f = f ∙ sym (s .same ∙ rw (drop-of-length-le src h) (closed end))
+      where
+        closed : (t : Bool) → behind m len broken (if t then Refused 1 i else Wait) ≡ (if t then Scanned.Refused 1 i else Scanned.Wait)
+        closed true = refl
+        closed false = refl
 
-    pub scanning-wait : length src ≤ i → end ≡ false → Scanned.Wait ≡ measured (textAt m label end at (drop at src))
-    unfolding collected behind
-    scanning-wait h t = sym (s .same ∙ rw (drop-of-length-le src h, t))
+    pub unit-stop : i < length src → (u : TextUnit) → u ≡ unitAt m label end i (getD src i 0) (drop (i + 1) src)
+        → length (bytesOf u) ≡ 0 → ended m len broken u ≡ measured (textAt m label end at (drop at src))
+    unit-stop h u e z = unit-ends m label end src i h u e len broken z ∙ sym (s .same)
 
-    module _ (h : i < length src) (u : TextUnit) (e : u ≡ unitAt m label end i (getD src i 0) (drop (i + 1) src)) (width : ℕ) (w : width ≡ length (bytesOf u)) where
-      pub scanning-stop : (r : Scanned) → width ≡ 0 → r ≡ ended m len broken u → r ≡ measured (textAt m label end at (drop at src))
-      scanning-stop r z f = f ∙ unit-ends m label end src i h u e len broken (sym w ∙ z) ∙ sym (s .same)
+    pub unit-on : i < length src → (u : TextUnit) → u ≡ unitAt m label end i (getD src i 0) (drop (i + 1) src)
+        → (length (bytesOf u) ≡ 0 → ⊥) → Scanning m label end src at (afterOf u) (len + length (bytesOf u)) (isBreak u)
+    unit-on h u e z =
+        let text = unit-text m label end src i h u e z in
+        let later = collected m label end 0 (afterOf u) (drop (afterOf u) src) in
+        record {
+          inside = text .inside;
+          small = omega (arith, text .narrow, s .small);
+          same =
+              s .same
+              ∙ rw (unit-turn m label end src i h u e (text .on), text-taken u later z, behind-onto m len broken (bytesOf u) later, text-break u broken z);
+        }
+
+    -- a run of bytes that stand for themselves
+    pub run-on : (n : ℕ) → RunEnd (isPlain m) src i n
+        → Scanning m label end src at n (len + (n - i)) (lastBreak broken (take (n - i) (drop i src)))
+    run-on n p =
+        let bytes = take (n - i) (drop i src) in
+        record {
+          inside = p .inside;
+          small = omega (arith, s .small, run-after m label end src i n p);
+          same =
+              s .same
+              ∙ rw (run-turn m label end src i n p, behind-onto m len broken bytes (collected m label end 0 n (drop n src)), run-length m label end src i n p);
+        }
+
+  -- a turn: the run from i to n, and the unit behind it
+  module _ (i len : ℕ) (broken : Bool) (s : Scanning m label end src at i len broken) (n : ℕ) (p : RunEnd (isPlain m) src i n) where
+    passed : Scanning m label end src at n (len + (n - i)) (lastBreak broken (take (n - i) (drop i src)))
+    passed = run-on i len broken s n p
+
+    pub scanning-room : len + (n - i) ≤ length src
+    scanning-room = omega (arith, s .small, p .inside, run-after m label end src i n p)
+
+    pub scanning-order : i ≤ n
+    scanning-order = run-after m label end src i n p
+
+    pub scanning-past : (r : Scanned) → length src ≤ n → r ≡ unclosed end n → r ≡ measured (textAt m label end at (drop at src))
+    scanning-past = scanning-end n (len + (n - i)) (lastBreak broken (take (n - i) (drop i src))) passed
+
+    module _ (h : n < length src) (u : TextUnit) (e : u ≡ unitAt m label end n (getD src n 0) (drop (n + 1) src))
+        (width : ℕ) (w : width ≡ length (bytesOf u)) where
+      pub scanning-stop : (last : Bool) (r : Scanned) → width ≡ 0 → last ≡ lastBreak broken (take (n - i) (drop i src))
+          → r ≡ ended m (len + (n - i)) last u → r ≡ measured (textAt m label end at (drop at src))
+      scanning-stop last r z l f =
+          f ∙ rw l (unit-stop n (len + (n - i)) (lastBreak broken (take (n - i) (drop i src))) passed h u e (sym w ∙ z))
 
       module _ (z : width ≡ 0 → ⊥) where
-        text : TextInside i (length src) (length (bytesOf u)) (afterOf u)
-        text = unit-text m label end src i h u e (λ y. z (w ∙ y))
+        text : TextInside n (length src) (length (bytesOf u)) (afterOf u)
+        text = unit-text m label end src n h u e (λ y. z (w ∙ y))
 
         pub scanning-less : (next : ℕ) → next ≡ afterOf u → length src - next < length src - i
-        scanning-less next n = omega (arith, text .on, text .inside)
+        scanning-less next f = omega (arith, text .on, text .inside, run-after m label end src i n p)
 
-        pub scanning-on : (next : ℕ) (flag : Bool) → next ≡ afterOf u → flag ≡ isBreak u → Scanning m label end src at next (len + width) flag
-        scanning-on next flag n f =
-            record {
-              inside = rw n (text .inside);
-              small = omega (arith, text .narrow, s .small);
-              same =
-                  s .same
-                  ∙ rw (unit-turn m label end src i h u e (text .on), text-taken u (collected m label end 0 (afterOf u) (drop (afterOf u) src)) (λ y. z (w ∙ y)), behind-onto m len broken (bytesOf u) (collected m label end 0 (afterOf u) (drop (afterOf u) src)), text-break u broken (λ y. z (w ∙ y)), ← f, ← w, ← n);
-            }
+        pub scanning-on : (next : ℕ) (flag : Bool) → next ≡ afterOf u → flag ≡ isBreak u
+            → Scanning m label end src at next (len + (n - i + width)) flag
+        scanning-on next flag f g =
+            let more : len + (n - i + width) ≡ len + (n - i) + length (bytesOf u) = omega arith in
+            rw (f, g, more) (unit-on n (len + (n - i)) (lastBreak broken (take (n - i) (drop i src))) passed h u e (λ y. z (w ∙ y)))
 
-pub ruleset scanning = (scanning-first, scanning-here, scanning-end, scanning-wait, scanning-stop, scanning-less, scanning-on)
+pub ruleset scanning =
+    (scanning-first, scanning-here, scanning-end, scanning-room, scanning-order, scanning-past, scanning-stop, scanning-less, scanning-on)
+
+-- one mode's scan is that of its arm
+pub scan-arm : (m arm : Mode) (label : List ℕ) (end : Bool) (at : ℕ) (xs : List ℕ) (r : Scanned) → m ≡ arm
+    → r ≡ measured (textAt arm label end at xs) → r ≡ measured (textAt m label end at xs)
+scan-arm m arm label end at xs r e h = rw e h

@@ -1,20 +1,19 @@
-// The six text readings: single, double, double_quote, shell_exec, heredoc, nowdoc. One loop serves them all.
+// The six text readings: single, double, double_quote, shell_exec, heredoc, nowdoc. One loop serves all but nowdoc's scan.
 // Of the Rust: the two string routines and the four text modes of mod.rs. A label has at most 64 bytes, a source at most 65,536.
-// In order: what stands at a place in each mode; what a unit is to a text; the scan, which writes nothing; the writer.
+// In order: what stands at a place in each mode (units); what a unit is to a text; the scan, which writes nothing; the writer.
 use unit::Mode;
 use unit::Stop;
 use unit::TextUnit;
 ghost use mathlib.Core.Path.{_≡_};
-ghost use mathlib.Core.List.{[]};
-ghost use Prim.Native.Nat.{_+_, _-_, _≤_, _<_};
-ghost use lib.ListN.{length, getD, drop};
+ghost use Prim.Native.Nat.{_-_, _≤_};
+ghost use lib.ListN.{length, take, drop};
 ghost use Rattle.source.specs.Laid.{laid};
 ghost use Rattle.unit.specs.declared.Mode.{Mode};
 ghost use Rattle.unit.specs.declared.TextUnit.{TextUnit};
-ghost use Rattle.unit.specs.Interpolations.{plain};
-ghost use Rattle.unit.specs.Units.{quote, unitAt};
 ghost use Rattle.unit.specs.Readings.{afterOf, losesBreak, textAt};
-ghost use Rattle.text.specs.Scans.{Here, bytesOf, isBreak, valueLength, ended, measured, valueOf, Writable, Measured};
+ghost use Rattle.text.specs.Scans.{bytesOf, isBreak, lastBreak, valueLength, ended, unclosed, measured, valueOf, Writable, Measured};
+
+mod units;
 
 // What a scan found: how many bytes the value has, what ended it, and from where to where that stands.
 pub enum Scanned {
@@ -29,122 +28,6 @@ pub enum Scanned {
         place: usize,
     },
     Wait,
-}
-
-// The byte at n stands for itself.
-fn plain_at(b: u8, n: usize) -> TextUnit
-    requires { ⌜ n ≤ 65536 ⌝ }
-    ensures { λ r. ⌜ r ≡ plain b n ⌝ }
-{
-    TextUnit::Byte {
-        value: b,
-        after: n + 1,
-    }
-}
-
-// The closing quote or backtick at n.
-fn quote_at(n: usize) -> TextUnit
-    requires { ⌜ n ≤ 65536 ⌝ }
-    ensures { λ r. ⌜ r ≡ quote n ⌝ }
-{
-    TextUnit::Ends {
-        stop: Stop::Quote,
-        from: n,
-        after: n + 1,
-    }
-}
-
-fn single_at(src: &[u8], n: usize, end: bool) -> TextUnit
-    requires { ⌜ Here (now src) n ⌝ }
-    ensures { λ r. ⌜ r ≡ unitAt Mode.Single [] end n (getD (now (src .entry)) n 0) (drop (n + 1) (now (src .entry))) ⌝ }
-{
-    let b = src[n];
-    match b {
-        b'\'' => quote_at(n),
-        b'\\' => escape::quote_escape_at(src, n + 1, end),
-        _ => plain_at(b, n),
-    }
-}
-
-fn double_at(src: &[u8], n: usize, end: bool) -> TextUnit
-    requires { ⌜ Here (now src) n ⌝ }
-    ensures { λ r. ⌜ r ≡ unitAt Mode.Double [] end n (getD (now (src .entry)) n 0) (drop (n + 1) (now (src .entry))) ⌝ }
-{
-    let b = src[n];
-    match b {
-        b'"' => quote_at(n),
-        b'\\' => escape::escape_at(src, n + 1, end),
-        b'$' => interpolation::find_dollar(src, n, end),
-        b'{' => interpolation::find_brace(src, n, end),
-        _ => plain_at(b, n),
-    }
-}
-
-fn double_quote_at(src: &[u8], n: usize, end: bool) -> TextUnit
-    requires { ⌜ Here (now src) n ⌝ }
-    ensures { λ r. ⌜ r ≡ unitAt Mode.DoubleQuote [] end n (getD (now (src .entry)) n 0) (drop (n + 1) (now (src .entry))) ⌝ }
-{
-    let b = src[n];
-    match b {
-        b'"' => quote_at(n),
-        b'\\' => escape::escape_at(src, n + 1, end),
-        b'$' => interpolation::dollar_at(src, n, end),
-        b'{' => interpolation::brace_at(src, n, end),
-        _ => plain_at(b, n),
-    }
-}
-
-fn shell_exec_at(src: &[u8], n: usize, end: bool) -> TextUnit
-    requires { ⌜ Here (now src) n ⌝ }
-    ensures { λ r. ⌜ r ≡ unitAt Mode.ShellExec [] end n (getD (now (src .entry)) n 0) (drop (n + 1) (now (src .entry))) ⌝ }
-{
-    let b = src[n];
-    match b {
-        b'`' => quote_at(n),
-        b'$' => interpolation::dollar_at(src, n, end),
-        b'{' => interpolation::brace_at(src, n, end),
-        _ => plain_at(b, n),
-    }
-}
-
-fn heredoc_at(src: &[u8], label: &[u8], n: usize, end: bool) -> TextUnit
-    requires { ⌜ Here (now src) n × (length (now label) ≤ 64) ⌝ }
-    ensures { λ r. ⌜ r ≡ unitAt Mode.Heredoc (now (label .entry)) end n (getD (now (src .entry)) n 0) (drop (n + 1) (now (src .entry))) ⌝ }
-{
-    let b = src[n];
-    match b {
-        b'\n' => closer::line_at(src, label, n, end),
-        b'\\' => escape::escape_at(src, n + 1, end),
-        b'$' => interpolation::dollar_at(src, n, end),
-        b'{' => interpolation::brace_at(src, n, end),
-        _ => plain_at(b, n),
-    }
-}
-
-fn nowdoc_at(src: &[u8], label: &[u8], n: usize, end: bool) -> TextUnit
-    requires { ⌜ Here (now src) n × (length (now label) ≤ 64) ⌝ }
-    ensures { λ r. ⌜ r ≡ unitAt Mode.Nowdoc (now (label .entry)) end n (getD (now (src .entry)) n 0) (drop (n + 1) (now (src .entry))) ⌝ }
-{
-    let b = src[n];
-    match b {
-        b'\n' => closer::line_at(src, label, n, end),
-        _ => plain_at(b, n),
-    }
-}
-
-// What stands at n in a mode. Single, double, double_quote and shell_exec do not look at the label.
-fn unit_at(m: Mode, src: &[u8], label: &[u8], n: usize, end: bool) -> TextUnit
-    requires { ⌜ Here (now src) n × (length (now label) ≤ 64) ⌝ }
-    ensures { λ r. ⌜ r ≡ unitAt m (now (label .entry)) end n (getD (now (src .entry)) n 0) (drop (n + 1) (now (src .entry))) ⌝ }
-{
-    match m {
-        Mode::Single => single_at(src, n, end),
-        Mode::Double => double_at(src, n, end),
-        Mode::DoubleQuote => double_quote_at(src, n, end),
-        Mode::ShellExec => shell_exec_at(src, n, end),
-        Mode::Heredoc => heredoc_at(src, label, n, end),
-        Mode::Nowdoc => nowdoc_at(src, label, n, end),
-    }
 }
 
 // How many bytes of the value a unit is; 0 where it is no text.
@@ -278,8 +161,32 @@ fn ended_as(m: Mode, len: usize, broken: bool, u: TextUnit) -> Scanned
     }
 }
 
-// The text from `at` on, measured: nothing is written.
-pub fn scan_text(m: Mode, src: &[u8], label: &[u8], at: usize, end: bool) -> Scanned
+// A text that is not closed.
+fn unclosed(end: bool, place: usize) -> Scanned
+    ensures { λ r. ⌜ r ≡ unclosed end place ⌝ }
+{
+    if end {
+        return Scanned::Refused {
+            number: source::UNEXPECTED_END_OF_FILE,
+            place,
+        };
+    }
+    Scanned::Wait
+}
+
+// Whether the byte before n is a break; where no bytes were passed from i on, `broken` tells it.
+fn last_break(src: &[u8], i: usize, n: usize, broken: bool) -> bool
+    requires { ⌜ (i ≤ n) × (n ≤ length (now src)) ⌝ }
+    ensures { λ r. ⌜ r ≡ lastBreak broken (take (n - i) (drop i (now (src .entry)))) ⌝ }
+{
+    if n == i {
+        return broken;
+    }
+    src[n - 1] == b'\n'
+}
+
+// The text from `at` on: each turn passes a run of bytes that stand for themselves, and the unit behind it.
+fn scan_units(m: Mode, src: &[u8], label: &[u8], at: usize, end: bool) -> Scanned
     requires { ⌜ (at ≤ length (now src)) × (length (now src) ≤ 65536) × (length (now label) ≤ 64) ⌝ }
     ensures { λ r. ⌜ r ≡ measured (textAt m (now (label .entry)) end at (drop at (now (src .entry)))) ⌝ }
 {
@@ -287,22 +194,56 @@ pub fn scan_text(m: Mode, src: &[u8], label: &[u8], at: usize, end: bool) -> Sca
     let mut len = 0;
     let mut broken = false;
     while i < src.len() {
-        let u = unit_at(m, src, label, i, end);
+        let n = units::plain_end(m, src, i);
+        if src.len() <= n {
+            return unclosed(end, n);
+        }
+        let u = units::unit_at(m, src, label, n, end);
         let width = width_of(u);
         if width == 0 {
-            return ended_as(m, len, broken, u);
+            return ended_as(m, len + (n - i), last_break(src, i, n, broken), u);
         }
-        len += width;
+        len += n - i + width;
         broken = is_break(u);
         i = after_of(u);
     }
-    if end {
-        return Scanned::Refused {
-            number: source::UNEXPECTED_END_OF_FILE,
-            place: i,
-        };
+    unclosed(end, i)
+}
+
+// A nowdoc's text, line by line.
+fn scan_nowdoc(src: &[u8], label: &[u8], at: usize, end: bool) -> Scanned
+    requires { ⌜ (at ≤ length (now src)) × (length (now src) ≤ 65536) × (length (now label) ≤ 64) ⌝ }
+    ensures { λ r. ⌜ r ≡ measured (textAt Mode.Nowdoc (now (label .entry)) end at (drop at (now (src .entry)))) ⌝ }
+{
+    let mut i = at;
+    while i < src.len() {
+        let n = source::break_end(src, i);
+        if n < src.len() {
+            let u = closer::line_at(src, label, n, end);
+            if width_of(u) == 0 {
+                return ended_as(Mode::Nowdoc, n - at, false, u);
+            }
+            i = n + 1;
+        } else {
+            i = n;
+        }
     }
-    Scanned::Wait
+    unclosed(end, i)
+}
+
+// The text from `at` on, measured: nothing is written.
+pub fn scan_text(m: Mode, src: &[u8], label: &[u8], at: usize, end: bool) -> Scanned
+    requires { ⌜ (at ≤ length (now src)) × (length (now src) ≤ 65536) × (length (now label) ≤ 64) ⌝ }
+    ensures { λ r. ⌜ r ≡ measured (textAt m (now (label .entry)) end at (drop at (now (src .entry)))) ⌝ }
+{
+    match m {
+        Mode::Single => scan_units(m, src, label, at, end),
+        Mode::Double => scan_units(m, src, label, at, end),
+        Mode::DoubleQuote => scan_units(m, src, label, at, end),
+        Mode::ShellExec => scan_units(m, src, label, at, end),
+        Mode::Heredoc => scan_units(m, src, label, at, end),
+        Mode::Nowdoc => scan_nowdoc(src, label, at, end),
+    }
 }
 
 // One unit's bytes at a place of a part.
@@ -346,7 +287,13 @@ pub fn write_text(
     let mut i = at;
     let mut j = 0;
     while j < len {
-        let u = unit_at(m, src, label, i, end);
+        let n = units::plain_end(m, src, i);
+        token::put_value(&src[i..n], dst, j);
+        j += n - i;
+        if len <= j {
+            return;
+        }
+        let u = units::unit_at(m, src, label, n, end);
         put_unit(dst, j, u);
         j += width_of(u);
         i = after_of(u);

@@ -1,21 +1,26 @@
--- What drafts make: the outcomes of plans that write nothing, one token, or a part and a token; of refusals and waits. Assumes nothing.
-use Prim.Native.Nat.{ℕ, _-_, _≤_}
-use mathlib.Core.Path.{_≡_, refl, sym}
+-- What drafts make: pieces, and the outcomes of plans that write nothing, one token, or a part and a token; of refusals and waits.
+-- Assumes nothing.
+use Prim.Native.Nat.{ℕ, _+_, _-_, _≤_}
+use mathlib.Core.Path.{_≡_, refl, sym, ap, subst}
 use mathlib.Core.Bool.{Bool, true, false}
 use mathlib.Core.List.{List, [], _∷_, _++_}
 use native.Mathlib.Omega.{arith}
-use lib.Dec.{eqb}
-use lib.ListN.{length, drop, length-drop}
+use lib.ListN.{length, take, drop, length-drop}
 use lib.Seq.{length-take-le}
-use borrow.Author.Tests.{ne-eqb}
 use Rattle.source.specs.Words.{if_then_else_}
 use Rattle.outcome.specs.declared.Change.{Change}
-use Rattle.outcome.specs.Outcomes.{Outcome, goes, unlessEmpty}
+use Rattle.outcome.specs.Outcomes.{Piece, Outcome, piece, goes, unlessEmpty}
 use Rattle.plan.specs.declared.Making.{Making}
 use Rattle.plan.specs.declared.Draft.{Draft}
 use Rattle.plan.specs.declared.Plan.{Plan}
 use Rattle.plan.specs.Plans.{madeBy, pieceOf, piecesOf, outcomeOf, Able, Ready, Plans, copiedDraft, goesPlan, onePlan, partedPlan}
+use Rattle.plan.proofs.Plans as plan
 use Rattle.texts.specs.Works.{madeDraft}
+
+-- a draft makes this piece, and can be written
+pub record Makes (src : List ℕ) (end : Bool) (p : Piece) (d : Draft) : Type 0 where
+  pub told : pieceOf src end d ≡ p
+  pub ready : Ready src end d
 
 module _ (src : List ℕ) (end : Bool) where
   pub copied-ready : (kind detail place from to : ℕ) → from ≤ to → to ≤ length src → Ready src end (copiedDraft kind detail place from to)
@@ -27,6 +32,18 @@ module _ (src : List ℕ) (end : Bool) where
         able = record { order = order; inside = inside };
       }
 
+  module _ (kind place : ℕ) (value : List ℕ) where
+    pub copied-makes : (from len : ℕ) → from + len ≤ length src → value ≡ take len (drop from src)
+        → Makes src end (piece kind place value) (copiedDraft kind 0 place from (from + len))
+    unfolding madeBy
+    copied-makes from len inside same =
+        let n : from + len - from ≡ len = omega arith in
+        record { told = rw (n, same); ready = copied-ready kind 0 place from (from + len) (omega arith) inside }
+
+    pub made-makes : (making : Making) (from to : ℕ) → Able making src from to → madeBy making src end from to ≡ value
+        → Makes src end (piece kind place value) (madeDraft kind place making from to (length value))
+    made-makes making from to able e = record { told = rw e; ready = record { size = rw e; able = able } }
+
   module _ (after : ℕ) (change : Change) where
     pub goes-plans : Plans src end (goes after change) (goesPlan after change)
     unfolding outcomeOf piecesOf
@@ -37,15 +54,20 @@ module _ (src : List ℕ) (end : Bool) where
     unfolding outcomeOf piecesOf
     one-plans d ready = record { told = refl; ready = ready }
 
-    pub parted-plans : (kind place : ℕ) (making : Making) (from to : ℕ) (d : Draft) → Able making src from to → Ready src end d
-        → (value : List ℕ) → madeBy making src end from to ≡ value
-        → Plans src end (Outcome.Told (unlessEmpty kind place value ++ pieceOf src end d ∷ []) after change false)
-        (partedPlan (madeDraft kind place making from to (length value)) d after change)
-    unfolding outcomeOf piecesOf unlessEmpty
-    parted-plans kind place making from to d able ready [] e = record { told = refl; ready = ready }
-    parted-plans kind place making from to d able ready (b ∷ rest) e =
-        let some : eqb (length (b ∷ rest)) 0 ≡ false = ne-eqb (length (b ∷ rest)) 0 (λ z. omega arith) in
-        rw some (record { told = rw e; ready = (record { size = rw e; able = able }, ready) })
+    module _ (kind place : ℕ) (value : List ℕ) where
+      pub piece-plans : (d : Draft) → Makes src end (piece kind place value) d
+          → Plans src end (Outcome.Told (piece kind place value ∷ []) after change false) (onePlan d after change)
+      piece-plans d x = rw (x .told) at (one-plans d (x .ready))
+
+      pub parted-plans : (part d : Draft) → Makes src end (piece kind place value) part → Ready src end d
+          → Plans src end (Outcome.Told (unlessEmpty kind place value ++ pieceOf src end d ∷ []) after change false)
+          (partedPlan part d after change)
+      parted-plans part d x ready =
+          subst
+          (λ p. Plans src end (Outcome.Told (unlessEmpty (p .kind) (p .place) (p .value) ++ pieceOf src end d ∷ []) after change false)
+          (partedPlan part d after change))
+          (x .told)
+          (plan.parted-plans src end part d after change (ap (λ p. p .detail) (x .told)) (x .ready) ready)
 
   pub refused-plans : (number place : ℕ) → Plans src end (Outcome.Refused number place) (Plan.Refused number place)
   unfolding outcomeOf

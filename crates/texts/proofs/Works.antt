@@ -6,8 +6,11 @@ use mathlib.Core.Path.{_≡_, refl, sym, _∙_}
 use mathlib.Core.Bool.{Bool, true, false}
 use mathlib.Core.List.{List, [], _∷_}
 use native.Mathlib.Omega.{arith}
+use lib.Dec.{eqb}
 use lib.ListN.{length, take, drop, length-drop}
 use lib.Seq.{drop-drop, length-take-le}
+use borrow.Author.Tests.{eqb-true, eq-eqb, ne-eqb}
+use Rattle.source.proofs.Tests.{choice}
 use Rattle.state.specs.declared.Frame.{Frame}
 use Rattle.state.specs.declared.Label.{Label}
 use Rattle.state.specs.declared.Reading as session
@@ -18,6 +21,7 @@ use Rattle.unit.specs.declared.Mode.{Mode}
 use Rattle.unit.specs.declared.Stop.{Stop}
 use Rattle.unit.specs.Readings as unit
 use Rattle.unit.proofs.Inside as unit-inside
+use Rattle.unit.proofs.Copies.{OwnReading, text-own, text-copied}
 use Rattle.text.specs.declared.Scanned as text
 use Rattle.text.specs.Scans as text-scans
 use Rattle.outcome.specs.declared.Change.{Change}
@@ -36,8 +40,8 @@ use Rattle.plan.specs.declared.Making.{Making}
 use Rattle.plan.specs.declared.Draft.{Draft}
 use Rattle.plan.specs.declared.Plan.{Plan}
 use Rattle.plan.specs.Plans.{madeBy, outcomeOf, Here, Named, Plans, noLabel, copiedDraft, onePlan, partedPlan}
-use Rattle.texts.specs.Works.{madeDraft, textPlan, textWork, sheetPlan, sheetWork, literalPlan, literalWork, numberPlan, numberWork}
-use Rattle.texts.proofs.Drafts.{copied-ready, one-plans, parted-plans, either-plans}
+use Rattle.texts.specs.Works.{madeDraft, textDraft, textPlan, textWork, sheetPlan, sheetWork, literalPlan, literalWork, numberPlan, numberWork}
+use Rattle.texts.proofs.Drafts.{Makes, copied-ready, copied-makes, made-makes, one-plans, piece-plans, parted-plans, either-plans}
 
 -- the range that a label's bytes are cut from
 pub labelBytes-part : (src : List ℕ) (label : Label) → take (label .start + label .len - label .start) (drop (label .start) src) ≡ labelBytes src label
@@ -66,29 +70,88 @@ all-left src at h = rw (length-drop at src) (omega arith)
 
 -- ---- texts
 
+module _ (kind place : ℕ) (mode : Mode) (label : Label) (at len : ℕ) (stop : Stop) (from to : ℕ) (t : to ≡ unit.textEnd stop from)
+    (d : Draft) where
+  pub textDraft-copied : at + len ≡ to → d ≡ copiedDraft kind 0 place at (at + len)
+      → d ≡ textDraft kind place mode label at len stop from
+  unfolding textDraft
+  textDraft-copied e h = h ∙ rw (eq-eqb (at + len) (unit.textEnd stop from) (e ∙ t))
+
+  pub textDraft-made : (at + len ≡ to → ⊥) → d ≡ madeDraft kind place (Making.Text mode label) at from len
+      → d ≡ textDraft kind place mode label at len stop from
+  unfolding textDraft
+  textDraft-made e h = h ∙ rw (ne-eqb (at + len) (unit.textEnd stop from) (λ f. e (f ∙ sym t)))
+
+pub gap-fits : (at len : ℕ) (stop : Stop) (from : ℕ) → at + len + unit.gap stop ≤ from → unit.gap stop ≤ from
+gap-fits at len stop from h = omega arith
+
+pub ruleset textDrafts = (textDraft-copied, textDraft-made, gap-fits)
+
 pub textPlan-made : (mode : Mode) (label : Label) (at len : ℕ) (stop : Stop) (from after : ℕ) (part closing : Draft)
     (kind detail : ℕ) (change : Change) (r : Plan)
-    → part ≡ madeDraft stringPart at (Making.Text mode label) at from len → kind ≡ stopKind mode stop → detail ≡ stopDetail stop
+    → part ≡ textDraft stringPart at mode label at len stop from → kind ≡ stopKind mode stop → detail ≡ stopDetail stop
     → closing ≡ copiedDraft kind detail at from after → change ≡ stopChange stop → r ≡ partedPlan part closing after change
     → r ≡ textPlan mode label at len stop from after
 unfolding textPlan
 textPlan-made mode label at len stop from after part closing kind detail change r p k d l c e = e ∙ rw (p, l, k, d, c)
 
+-- a text that was measured lies before its stop
+module _ (mode : Mode) (label : List ℕ) (end : Bool) (at : ℕ) (xs : List ℕ) (scan : text.Scanned)
+    (s : scan ≡ text-scans.measured (unit.textAt mode label end at xs)) (len : ℕ) (stop : Stop) (from after : ℕ)
+    (a : scan ≡ text.Scanned.Text len stop from after) where
+  text-placed : (at + len + unit.gap stop ≤ from) × (from ≤ after)
+  unfolding text-scans.measured
+  text-placed =
+      go (unit.textAt mode label end at xs) (unit-inside.text-inside mode label end at xs) (text-own mode label end at xs) (sym a ∙ s)
+    where
+      go : (r : unit.Reading) → unit-inside.InsideReading at (at + length xs) r → OwnReading at xs r
+          → text.Scanned.Text len stop from after ≡ text-scans.measured r → (at + len + unit.gap stop ≤ from) × (from ≤ after)
+      go (unit.Text value stop′ from′ after′) i o h =
+          let z : text.Scanned.Text len stop from after ≡ text.Scanned.Text (length value) stop′ from′ after′ = h in
+          let w : len ≡ length value = cc in
+          let v : stop ≡ stop′ = cc in
+          let x : from ≡ from′ = cc in
+          let y : after ≡ after′ = cc in
+          rw (w, v, x, y) (o .fits, i .order)
+      go (unit.Refused number place) i o h =
+          let z : text.Scanned.Text len stop from after ≡ text.Scanned.Refused number place = h in
+          absurd (let y : _≡_ {A = ℕ} 0 1 = cc in omega arith)
+      go unit.Wait i o h =
+          let z : text.Scanned.Text len stop from after ≡ text.Scanned.Wait = h in
+          absurd (let y : _≡_ {A = ℕ} 0 1 = cc in omega arith)
+
+  pub text-fits : at + len + unit.gap stop ≤ from
+  text-fits = text-placed .0
+
+  pub text-order : from ≤ after
+  text-order = text-placed .1
+
 module _ (mode : Mode) (src : List ℕ) (label : Label) (end : Bool) (at : ℕ) (here : Here src at) (name : Named src label) where
   text-read : unit-inside.InsideReading at (length src) (unit.textAt mode (labelBytes src label) end at (drop at src))
   text-read = rw (all-left src at (here .inside)) at (unit-inside.text-inside mode (labelBytes src label) end at (drop at src))
 
+  -- copied or made, the draft of a text makes its piece
+  text-makes : (kind place : ℕ) (value : List ℕ) (stop : Stop) (from after : ℕ)
+      → unit.textAt mode (labelBytes src label) end at (drop at src) ≡ unit.Text value stop from after
+      → Makes src end (piece kind place value) (textDraft kind place mode label at (length value) stop from)
+  unfolding textDraft madeBy text-scans.valueOf
+  text-makes kind place value stop from after e =
+      let i : unit-inside.ReadInside at (length src) (unit-inside.amountOf stop) value from after = rw e at text-read in
+      choice (Makes src end (piece kind place value)) (eqb (at + length value) (unit.textEnd stop from)) _ _
+      (λ t. copied-makes src end kind place value at (length value) (omega (arith, i .narrow, i .order, i .inside))
+      (text-copied mode (labelBytes src label) end at (drop at src) value stop from after e (eqb-true _ _ t)))
+      (λ t. made-makes src end kind place value (Making.Text mode label) at from (record { start = here .inside; name = name }) (rw e))
+
   text-plans : (r : unit.Reading) → unit.textAt mode (labelBytes src label) end at (drop at src) ≡ r
       → unit-inside.InsideReading at (length src) r
       → Plans src end (texted mode at (drop at src) r) (textWork mode label at (text-scans.measured r))
-  unfolding texted textWork textPlan text-scans.measured text-scans.valueOf madeBy outcomeOf
+  unfolding texted textWork textPlan text-scans.measured madeBy outcomeOf
   text-plans (unit.Text value stop from after) e i =
       rw (slice-source src at from after (omega (arith, i .narrow)))
-      (parted-plans src end after (stopChange stop) stringPart at (Making.Text mode label) at from
+      (parted-plans src end after (stopChange stop) stringPart at value _
       (copiedDraft (stopKind mode stop) (stopDetail stop) at from after)
-      (record { start = here .inside; name = name })
-      (copied-ready src end (stopKind mode stop) (stopDetail stop) at from after (i .order) (i .inside))
-      value (rw e))
+      (text-makes stringPart at value stop from after e)
+      (copied-ready src end (stopKind mode stop) (stopDetail stop) at from after (i .order) (i .inside)))
   text-plans (unit.Refused number place) e i = record { told = refl; ready = tt }
   text-plans unit.Wait e i = record { told = refl; ready = tt }
 
@@ -102,25 +165,7 @@ module _ (mode : Mode) (src : List ℕ) (label : Label) (end : Bool) (at : ℕ) 
         e ∙ rw (← a, s, p) in
         rw work (text-plans (unit.textAt mode (labelBytes src label) end at (drop at src)) refl text-read)
 
-    pub text-order : (len : ℕ) (stop : Stop) (from after : ℕ) → scan ≡ text.Scanned.Text len stop from after → from ≤ after
-    unfolding text-scans.measured
-    text-order len stop from after a = go (unit.textAt mode (labelBytes src label) end at (drop at src)) text-read (sym a ∙ s ∙ rw p)
-      where
-        go : (r : unit.Reading) → unit-inside.InsideReading at (length src) r
-            → text.Scanned.Text len stop from after ≡ text-scans.measured r → from ≤ after
-        go (unit.Text value stop′ from′ after′) i h =
-            let z : text.Scanned.Text len stop from after ≡ text.Scanned.Text (length value) stop′ from′ after′ = h in
-            let x : from ≡ from′ = cc in
-            let y : after ≡ after′ = cc in
-            omega (arith, i .order)
-        go (unit.Refused number place) i h =
-            let z : text.Scanned.Text len stop from after ≡ text.Scanned.Refused number place = h in
-            absurd (let y : _≡_ {A = ℕ} 0 1 = cc in omega arith)
-        go unit.Wait i h =
-            let z : text.Scanned.Text len stop from after ≡ text.Scanned.Wait = h in
-            absurd (let y : _≡_ {A = ℕ} 0 1 = cc in omega arith)
-
-pub ruleset texts = (named-short, text-arm, text-order)
+pub ruleset texts = (named-short, text-arm, text-fits, text-order)
 
 -- ---- sheets
 
@@ -142,11 +187,10 @@ module _ (src : List ℕ) (label : Label) (end : Bool) (at : ℕ) (here : Here s
   unfolding sheeted sheetWork sheetPlan sheet-scans.measured sheet-scans.valueOf madeBy outcomeOf
   sheet-plans (sheets.Sheet value ind amount from after) e i =
       rw (slice-source src at from after (omega (arith, i .narrow)))
-      (parted-plans src end after (Change.Swap Frame.Scripting) stringPart at (Making.Sheet label) at from
+      (parted-plans src end after (Change.Swap Frame.Scripting) stringPart at value _
       (copiedDraft (docKind ind) amount at from after)
-      (record { start = here .inside; name = name })
-      (copied-ready src end (docKind ind) amount at from after (i .order) (i .inside))
-      value (rw e))
+      (made-makes src end stringPart at value (Making.Sheet label) at from (record { start = here .inside; name = name }) (rw e))
+      (copied-ready src end (docKind ind) amount at from after (i .order) (i .inside)))
   sheet-plans (sheets.Refused number place) e i = record { told = refl; ready = tt }
   sheet-plans sheets.Wait e i = record { told = refl; ready = tt }
 
@@ -189,12 +233,12 @@ nowdoc-arm nowdocs arm src label end at xs r e h = rw e h
 
 module _ (kind place : ℕ) (mode : Mode) (at len : ℕ) (stop : Stop) (from after : ℕ) (left : Bool) (f : left ≡ isLeft stop) (label : Label)
     (l : label ≡ noLabel) (d : Draft) (r : Plan) where
-  pub literalPlan-left : left ≡ true → d ≡ madeDraft stringPart place (Making.Text mode label) at from len
+  pub literalPlan-left : left ≡ true → d ≡ textDraft stringPart place mode label at len stop from
       → r ≡ onePlan d after (Change.Swap Frame.DoubleQuote) → r ≡ literalPlan kind place mode at len stop from after
   unfolding literalPlan
   literalPlan-left t e h = h ∙ rw (e, l, ← f, t)
 
-  pub literalPlan-closed : left ≡ false → d ≡ madeDraft kind place (Making.Text mode label) at from len
+  pub literalPlan-closed : left ≡ false → d ≡ textDraft kind place mode label at len stop from
       → r ≡ onePlan d after Change.Keep → r ≡ literalPlan kind place mode at len stop from after
   unfolding literalPlan
   literalPlan-closed t e h = h ∙ rw (e, l, ← f, t)
@@ -202,22 +246,21 @@ module _ (kind place : ℕ) (mode : Mode) (at len : ℕ) (stop : Stop) (from aft
 pub ruleset literalPlans = (literalPlan-left, literalPlan-closed)
 
 module _ (kind place : ℕ) (mode : Mode) (src : List ℕ) (end : Bool) (at : ℕ) (here : Here src at) where
-  literal-one : (kind from after : ℕ) (change : Change) (value : List ℕ)
-      → text-scans.valueOf (unit.textAt mode [] end at (drop at src)) ≡ value
+  literal-one : (kind from after : ℕ) (stop : Stop) (change : Change) (value : List ℕ)
+      → unit.textAt mode [] end at (drop at src) ≡ unit.Text value stop from after
       → Plans src end (Outcome.Told (piece kind place value ∷ []) after change false)
-      (onePlan (madeDraft kind place (Making.Text mode noLabel) at from (length value)) after change)
-  unfolding madeBy
-  literal-one kind from after change value e =
-      rw e at (one-plans src end after change (madeDraft kind place (Making.Text mode noLabel) at from (length value))
-      (record { size = rw e; able = record { start = here .inside; name = record { inside = omega arith; short = omega arith } } }))
+      (onePlan (textDraft kind place mode noLabel at (length value) stop from) after change)
+  literal-one kind from after stop change value e =
+      let name : Named src noLabel = record { inside = omega arith; short = omega arith } in
+      piece-plans src end after change kind place value _ (text-makes mode src noLabel end at here name kind place value stop from after e)
 
   literal-plans : (r : unit.Reading) → unit.textAt mode [] end at (drop at src) ≡ r
       → Plans src end (literal kind place r) (literalWork kind place mode at (text-scans.measured r))
-  unfolding literal literalWork literalPlan text-scans.measured text-scans.valueOf outcomeOf
+  unfolding literal literalWork literalPlan text-scans.measured outcomeOf
   literal-plans (unit.Text value stop from after) e =
       either-plans src end (isLeft stop) _ _ _ _
-      (literal-one stringPart from after (Change.Swap Frame.DoubleQuote) value (rw e))
-      (literal-one kind from after Change.Keep value (rw e))
+      (literal-one stringPart from after stop (Change.Swap Frame.DoubleQuote) value e)
+      (literal-one kind from after stop Change.Keep value e)
   literal-plans (unit.Refused number fault) e = record { told = refl; ready = tt }
   literal-plans unit.Wait e = record { told = refl; ready = tt }
 
@@ -227,6 +270,8 @@ module _ (kind place : ℕ) (mode : Mode) (src : List ℕ) (end : Bool) (at : �
   literal-arm scan arm r s a e =
       let work : r ≡ literalWork kind place mode at (text-scans.measured (unit.textAt mode [] end at (drop at src))) = e ∙ rw (← a, s) in
       rw work (literal-plans (unit.textAt mode [] end at (drop at src)) refl)
+
+pub ruleset literals = (literal-arm, text-fits)
 
 -- ---- numbers
 

@@ -1,9 +1,11 @@
 -- The plans of the text modes, of literals and of numbers, as the code makes them of a scan.
 --   madeDraft     a token whose value is made: its length is known, its bytes are still to be written
+--   textDraft     a text's value: where nothing was escaped it is the source's own bytes
 --   textPlan, sheetPlan       a mode's text or a sheet's block: its part, if it is not empty, and the token behind it
 --   literalPlan, numberPlan   a quoted string; a number
 --   textWork, sheetWork, literalWork, numberWork   a scan: found, refused, or wait
-use Prim.Native.Nat.{ℕ}
+use Prim.Native.Nat.{ℕ, _+_}
+use lib.Dec.{eqb}
 use Rattle.source.specs.Words.{if_then_else_}
 use Rattle.state.specs.declared.Frame.{Frame}
 use Rattle.state.specs.declared.Label.{Label}
@@ -11,6 +13,7 @@ use Rattle.token.specs.Kinds.{stringPart}
 use Rattle.unit.specs.declared.Indentation.{Indentation}
 use Rattle.unit.specs.declared.Mode.{Mode}
 use Rattle.unit.specs.declared.Stop.{Stop}
+use Rattle.unit.specs.Readings.{textEnd}
 use Rattle.text.specs.declared.Scanned as text
 use Rattle.number.specs.declared.Literal.{Literal}
 use Rattle.number.specs.declared.Scanned as number
@@ -26,10 +29,16 @@ abbrev pub madeDraft : ℕ → ℕ → Making → ℕ → ℕ → ℕ → Draft
 madeDraft kind place making from to len =
     record { kind = kind; detail = 0; place = place; making = making; from = from; to = to; len = len }
 
+-- a text that passed no more bytes than it has was not escaped
+unfoldable pub textDraft : ℕ → ℕ → Mode → Label → ℕ → ℕ → Stop → ℕ → Draft
+textDraft kind place mode label at len stop from =
+    if eqb (at + len) (textEnd stop from) then copiedDraft kind 0 place at (at + len)
+    else madeDraft kind place (Making.Text mode label) at from len
+
 -- both tokens bear the span where the call began
 unfoldable pub textPlan : Mode → Label → ℕ → ℕ → Stop → ℕ → ℕ → Plan
 textPlan mode label at len stop from after =
-    partedPlan (madeDraft stringPart at (Making.Text mode label) at from len)
+    partedPlan (textDraft stringPart at mode label at len stop from)
     (copiedDraft (stopKind mode stop) (stopDetail stop) at from after)
     after
     (stopChange stop)
@@ -55,8 +64,8 @@ sheetWork label at sheet.Scanned.Wait = Plan.Wait
 unfoldable pub literalPlan : ℕ → ℕ → Mode → ℕ → ℕ → Stop → ℕ → ℕ → Plan
 literalPlan kind place mode at len stop from after =
     if isLeft stop then
-    onePlan (madeDraft stringPart place (Making.Text mode noLabel) at from len) after (Change.Swap Frame.DoubleQuote)
-    else onePlan (madeDraft kind place (Making.Text mode noLabel) at from len) after Change.Keep
+    onePlan (textDraft stringPart place mode noLabel at len stop from) after (Change.Swap Frame.DoubleQuote)
+    else onePlan (textDraft kind place mode noLabel at len stop from) after Change.Keep
 
 unfoldable pub literalWork : ℕ → ℕ → Mode → ℕ → text.Scanned → Plan
 literalWork kind place mode at (text.Scanned.Text len stop from after) = literalPlan kind place mode at len stop from after

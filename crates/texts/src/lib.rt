@@ -14,16 +14,16 @@ use unit::Mode;
 use unit::Stop;
 ghost use mathlib.Core.Path.{_≡_};
 ghost use mathlib.Core.List.{[]};
-ghost use Prim.Native.Nat.{_≤_};
+ghost use Prim.Native.Nat.{_+_, _≤_};
 ghost use lib.ListN.{drop};
 ghost use Rattle.state.specs.Bounds.{labelBytes};
-ghost use Rattle.unit.specs.Readings.{textAt};
+ghost use Rattle.unit.specs.Readings.{textAt, gap, textEnd};
 ghost use Rattle.number.specs.Numbers.{numberAt};
 ghost use Rattle.outcome.specs.Texts.{docKind, quoteKind, stopKind, stopDetail, variableChange, stopChange, isLeft, numberKind};
 ghost use Rattle.outcome.specs.Texts.{literal, numbered};
 ghost use Rattle.outcome.specs.Steps.{textMode, nowdoc};
 ghost use Rattle.plan.specs.Plans.{Here, Named, Plans, copiedDraft};
-ghost use Rattle.texts.specs.Works.{madeDraft, textPlan, sheetPlan, literalPlan};
+ghost use Rattle.texts.specs.Works.{madeDraft, textDraft, textPlan, sheetPlan, literalPlan};
 
 // The kind of an EndDocString by its indentation, which is never mixed.
 fn doc_kind(ind: Indentation) -> u32
@@ -154,6 +154,44 @@ fn copied_draft(kind: u32, detail: usize, place: usize, from: usize, to: usize) 
     }
 }
 
+// Where a text ends that has this stop: before the break and the blanks of a closing line.
+fn text_end(stop: Stop, from: usize) -> usize
+    requires { ⌜ gap stop ≤ from ⌝ }
+    ensures { λ r. ⌜ r ≡ textEnd stop from ⌝ }
+{
+    match stop {
+        Stop::Quote => from,
+        Stop::Interpolation => from,
+        Stop::DollarLeftBrace => from,
+        Stop::LeftBrace => from,
+        Stop::Variable(_) => from,
+        Stop::Label {
+            indentation: _,
+            amount,
+        } => from - amount - 1,
+    }
+}
+
+// A text's value of `len` bytes: where nothing was escaped it is the source's own bytes.
+fn text_draft(
+    kind: u32,
+    place: usize,
+    mode: Mode,
+    label: Label,
+    at: usize,
+    len: usize,
+    stop: Stop,
+    from: usize,
+) -> Draft
+    requires { ⌜ at + len + gap stop ≤ from ⌝ }
+    ensures { λ r. ⌜ r ≡ textDraft kind place mode label at len stop from ⌝ }
+{
+    if at + len == text_end(stop, from) {
+        return plan::copied(kind, place, at, at + len);
+    }
+    made_draft(kind, place, Making::Text { mode, label }, at, from, len)
+}
+
 // A mode's text of `len` bytes from `at` on, and what ends it. Both tokens bear the span where the call began.
 fn text_plan(
     mode: Mode,
@@ -164,11 +202,10 @@ fn text_plan(
     from: usize,
     after: usize,
 ) -> Plan
-    requires { ⌜ from ≤ after ⌝ }
+    requires { ⌜ (at + len + gap stop ≤ from) × (from ≤ after) ⌝ }
     ensures { λ r. ⌜ r ≡ textPlan mode label at len stop from after ⌝ }
 {
-    let making = Making::Text { mode, label };
-    let part = made_draft(token::STRING_PART, at, making, at, from, len);
+    let part = text_draft(token::STRING_PART, at, mode, label, at, len, stop, from);
     let kind = stop_kind(mode, stop);
     let closing = copied_draft(kind, stop_detail(stop), at, from, after);
     plan::parted(part, closing, after, stop_change(stop))
@@ -268,18 +305,16 @@ fn literal_plan(
     from: usize,
     after: usize,
 ) -> Plan
+    requires { ⌜ at + len + gap stop ≤ from ⌝ }
     ensures { λ r. ⌜ r ≡ literalPlan kind place mode at len stop from after ⌝ }
 {
-    let making = Making::Text {
-        mode,
-        label: plan::no_label(),
-    };
+    let label = plan::no_label();
     if is_left(stop) {
-        let part = made_draft(token::STRING_PART, place, making, at, from, len);
+        let part = text_draft(token::STRING_PART, place, mode, label, at, len, stop, from);
         return plan::one(part, after, Change::Swap(Frame::DoubleQuote));
     }
     plan::one(
-        made_draft(kind, place, making, at, from, len),
+        text_draft(kind, place, mode, label, at, len, stop, from),
         after,
         Change::Keep,
     )

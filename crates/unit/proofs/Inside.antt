@@ -363,7 +363,7 @@ module _ (m : Mode) (label : List ℕ) (end : Bool) (hi : ℕ) where
       go (TextUnit.Fault number place) x ih = record { told = x .told; on = omega arith; inside = omega arith }
       go TextUnit.Undecided x ih = tt
 
-trimmed-length : (text : List ℕ) → length (trimmed text) ≤ length text
+pub trimmed-length : (text : List ℕ) → length (trimmed text) ≤ length text
 unfolding trimmed
 trimmed-length [] = omega arith
 trimmed-length (b ∷ []) = choice (λ vs. length vs ≤ 1) (b is "\n") [] (b ∷ []) (λ e. omega arith) (λ e. omega arith)

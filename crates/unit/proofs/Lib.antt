@@ -8,3 +8,4 @@ pub mod Manual
 pub mod Differences
 pub mod Literals
 pub mod Progress
+pub mod Copies

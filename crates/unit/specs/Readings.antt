@@ -3,6 +3,7 @@
 --   collected  the text as it is read, before its last break is looked at
 --   trimmed    without one LF at the end
 --   textAt     what contracts cite: before an interpolation a heredoc's text loses one LF, also one from an escape
+--   gap, textEnd   the bytes between a text and what ends it; where the text ends
 use Prim.Native.Nat.{ℕ, zero, suc, _-_}
 use mathlib.Core.Bool.{Bool, true, false}
 use mathlib.Core.List.{List, [], _∷_, _++_}
@@ -83,6 +84,19 @@ finished m Wait = Wait
 -- the reading from the cursor n on
 unfoldable pub textAt : Mode → List ℕ → Bool → ℕ → List ℕ → Reading
 textAt m label end n xs = finished m (collected m label end 0 n xs)
+
+-- a closing line's break and its blanks; nothing stands before any other stop
+unfoldable pub gap : Stop → ℕ
+gap (Stop.Label ind amount) = suc amount
+gap Stop.Quote = 0
+gap Stop.Interpolation = 0
+gap Stop.DollarLeftBrace = 0
+gap Stop.LeftBrace = 0
+gap (Stop.Variable f) = 0
+
+-- where the text before a stop ends, by the stop's place
+unfoldable pub textEnd : Stop → ℕ → ℕ
+textEnd stop from = from - gap stop
 
 -- worked sheets d to h, l, m and n
 sheet-d : textAt Mode.Single [] true 0 (bytes "a\\'b\\n'") ≡ Text (bytes "a'b\\n") Stop.Quote 6 7

@@ -1,20 +1,13 @@
--- `text::scan_text` meets its contract: the loop keeps `Scanning`. Assumes nothing.
-use Prim.Native.Nat.{_-_}
-use lib.ListN.{length}
+-- `text::scan_text` meets its contract: each arm of the match is one mode. Assumes nothing.
 use borrow.Author.Needs.{needs}
-use Rattle.text.proofs.Scans.{Scanning, scanning}
+use Rattle.text.proofs.Scans.{scan-arm}
 use Rattle.text.proofs.scan_text.Statement.{statement}
 use Rattle.text.proofs.scan_text.Tie as tie
-
-abbrev Inv : tie.InvT-loop
-Inv m src label at end i₀ len₀ broken₀ i len broken = Scanning m label end src at i len broken
-
-abbrev left : tie.MeasureT-loop
-left m src label at end i₀ len₀ broken₀ i len broken = length src - i
 
 pub scan-text-spec : {M : Type 1} → statement M
 scan-text-spec =
     tie.close
-    (tie.spec Inv left (λ c. search scanning) (λ c κs. search (scanning, needs)) (λ c κs. search needs) (λ c κs. search needs)
-    (λ c. search scanning) (λ c. search needs) (λ c κs. search needs) (λ c κs. search needs) (λ c. search scanning)
-    (λ c. search scanning) (λ c. search scanning) (λ c. search scanning))
+    (tie.spec (λ c. search needs) (λ c κs. search needs) (λ c. search needs) (λ c κs. search needs) (λ c. search needs)
+    (λ c κs. search needs) (λ c. search needs) (λ c κs. search needs) (λ c. search needs) (λ c κs. search needs)
+    (λ c. search needs) (λ c κs. search needs) (λ c. search needs) (λ c. search needs) (λ c. search needs)
+    (λ c. search needs) (λ c. search needs) (λ c. search scan-arm))

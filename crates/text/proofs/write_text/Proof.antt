@@ -14,6 +14,7 @@ left m src label at end len dst₀ i₀ j₀ dst i j = len - j
 pub write-text-spec : {M : Type 1} → statement M
 write-text-spec =
     tie.close
-    (tie.spec Inv left (λ c. search putting) (λ c κs. search (putting, needs)) (λ c κs. search (putting, needs)) (λ c κs. search needs)
-    (λ c. search needs) (λ c κs. search needs) (λ c. search putting) (λ c. search putting)
-    (λ c. search needs) (λ c. search putting))
+    (tie.spec Inv left (λ c. search putting) (λ c κs. search (putting, needs)) (λ c. search (putting, needs)) (λ c. search (putting, needs)) (λ c. search (putting, needs))
+    (λ c κs. search (putting, needs)) (λ c. search (putting, needs)) (λ c. search (putting, needs)) (λ c. search (putting, needs)) (λ c. search putting)
+    (λ c κs. search (putting, needs)) (λ c κs. search (putting, needs)) (λ c κs. search needs) (λ c. search (putting, needs)) (λ c κs. search needs)
+    (λ c. search putting) (λ c. search putting) (λ c. search needs) (λ c. search putting))

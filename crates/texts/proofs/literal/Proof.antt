@@ -1,7 +1,7 @@
 -- `texts::literal` meets its contract: each answer of the scan is one clause of the plan. Assumes nothing.
 use borrow.Author.Needs.{needs}
 use Rattle.texts.specs.Works.{literalWork}
-use Rattle.texts.proofs.Works.{literal-arm}
+use Rattle.texts.proofs.Works.{literals}
 use Rattle.texts.proofs.literal.Statement.{statement}
 use Rattle.texts.proofs.literal.Tie as tie
 
@@ -10,5 +10,5 @@ unfolding literalWork
 literal-spec =
     tie.close
     (tie.spec (λ c. search needs) (λ c. search needs) (λ c. search needs) (λ c κs. search needs) (λ c. search needs)
-    (λ c κs. search needs) (λ c. search needs) (λ c. search needs) (λ c. search literal-arm) (λ c. search literal-arm)
-    (λ c. search literal-arm))
+    (λ c κs. search (literals, needs)) (λ c. search needs) (λ c. search needs) (λ c. search literals) (λ c. search literals)
+    (λ c. search literals))

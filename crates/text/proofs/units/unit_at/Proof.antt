@@ -1,8 +1,8 @@
--- `text::unit_at` meets its contract: each arm of the match is one mode. Assumes nothing.
+-- `text::units::unit_at` meets its contract: each arm of the match is one mode. Assumes nothing.
 use borrow.Author.Needs.{needs}
 use Rattle.text.proofs.Modes.{units}
-use Rattle.text.proofs.unit_at.Statement.{statement}
-use Rattle.text.proofs.unit_at.Tie as tie
+use Rattle.text.proofs.units.unit_at.Statement.{statement}
+use Rattle.text.proofs.units.unit_at.Tie as tie
 
 pub unit-at-spec : {M : Type 1} → statement M
 unit-at-spec =

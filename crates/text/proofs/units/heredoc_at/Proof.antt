@@ -1,8 +1,8 @@
--- `text::heredoc_at` meets its contract: each arm of the match is one law of `Modes`. Assumes nothing.
+-- `text::units::heredoc_at` meets its contract: each arm of the match is one law of `Modes`. Assumes nothing.
 use borrow.Author.Needs.{needs}
 use Rattle.text.proofs.Modes.{heredocs}
-use Rattle.text.proofs.heredoc_at.Statement.{statement}
-use Rattle.text.proofs.heredoc_at.Tie as tie
+use Rattle.text.proofs.units.heredoc_at.Statement.{statement}
+use Rattle.text.proofs.units.heredoc_at.Tie as tie
 
 pub heredoc-at-spec : {M : Type 1} → statement M
 heredoc-at-spec =

@@ -1,8 +1,8 @@
--- `text::plain_at` meets its contract: one byte. Assumes nothing.
+-- `text::units::plain_at` meets its contract: one byte. Assumes nothing.
 use borrow.Author.Needs.{needs}
 use Rattle.text.proofs.Modes.{plain-here}
-use Rattle.text.proofs.plain_at.Statement.{statement}
-use Rattle.text.proofs.plain_at.Tie as tie
+use Rattle.text.proofs.units.plain_at.Statement.{statement}
+use Rattle.text.proofs.units.plain_at.Tie as tie
 
 pub plain-at-spec : {M : Type 1} → statement M
 plain-at-spec =

@@ -1,8 +1,8 @@
--- `text::double_quote_at` meets its contract: each arm of the match is one law of `Modes`. Assumes nothing.
+-- `text::units::double_quote_at` meets its contract: each arm of the match is one law of `Modes`. Assumes nothing.
 use borrow.Author.Needs.{needs}
 use Rattle.text.proofs.Modes.{doubleQuotes}
-use Rattle.text.proofs.double_quote_at.Statement.{statement}
-use Rattle.text.proofs.double_quote_at.Tie as tie
+use Rattle.text.proofs.units.double_quote_at.Statement.{statement}
+use Rattle.text.proofs.units.double_quote_at.Tie as tie
 
 pub double-quote-at-spec : {M : Type 1} → statement M
 double-quote-at-spec =

@@ -1,8 +1,8 @@
--- `text::quote_at` meets its contract: one byte. Assumes nothing.
+-- `text::units::quote_at` meets its contract: one byte. Assumes nothing.
 use borrow.Author.Needs.{needs}
 use Rattle.text.proofs.Modes.{quote-here}
-use Rattle.text.proofs.quote_at.Statement.{statement}
-use Rattle.text.proofs.quote_at.Tie as tie
+use Rattle.text.proofs.units.quote_at.Statement.{statement}
+use Rattle.text.proofs.units.quote_at.Tie as tie
 
 pub quote-at-spec : {M : Type 1} → statement M
 quote-at-spec =
