@@ -1,9 +1,12 @@
-// The lexer: step and the three public readings. The gate, the plan of the top frame or of the reading, and the session after it.
-// Of the Rust: `tokenize`'s loop, one turn at a time. Only this crate knows sessions and tables together.
+// The lexer: step and the three public readings. The gate; bytes that a step only passes, else the plan of the top frame or of the
+// reading; and the session after it.
+// Of the Rust: `tokenize`'s loop, one turn at a time. Only this crate and walk know sessions and tables together.
 use commit::Mark;
 use commit::Next;
 use outcome::Change;
 use plan::Plan;
+use source::Span;
+use state::Answer;
 use state::Frame;
 use state::Session;
 use state::Slot;
@@ -11,11 +14,12 @@ use state::Turn;
 use unit::Mode;
 ghost use mathlib.Core.Path.{_≡_};
 ghost use lib.ListN.{length};
+ghost use Rattle.state.specs.Calls.{moved, done};
 ghost use Rattle.outcome.specs.Outcomes.{limited};
 ghost use Rattle.outcome.specs.Steps.{topFrame};
 ghost use Rattle.plan.specs.Plans.{outcomeOf};
 ghost use Rattle.lexer.specs.Turns.{Gives, settled};
-ghost use Rattle.lexer.specs.Calls.{isScripting, stepped, readNumber, readSingle, readDouble};
+ghost use Rattle.lexer.specs.Calls.{gated, stepped, readNumber, readSingle, readDouble};
 ghost use Rattle.lexer.specs.Nexts.{markOf, turnOf, Stacked, Turning, Settles};
 
 // The session's cursor and marks.
@@ -41,7 +45,7 @@ fn top_frame(s: Session) -> Frame
 }
 
 // The session behind a step: other numbers, and the change of frame.
-fn turned(mut s: Session, x: Next) -> Turn
+pub fn turned(mut s: Session, x: Next) -> Turn
     requires { ⌜ Turning s x ⌝ }
     ensures { λ r. ⌜ r ≡ turnOf s x ⌝ }
 {
@@ -75,10 +79,23 @@ fn turned(mut s: Session, x: Next) -> Turn
 // A plan becomes a turn, behind the gate.
 fn settle(src: &[u8], end: bool, s: Session, plan: Plan, list: &mut [u32], pool: &mut [u8]) -> Turn
     requires { ⌜ Settles (now src) end s plan (length (now list)) (length (now pool)) ⌝ }
-    ensures { λ r. ⌜ Gives (settled (now (src .entry)) s (now (list .entry)) (now (pool .entry)) (limited (s .depth) (s .position) (outcomeOf (now (src .entry)) end plan))) r (now (list .exit)) (now (pool .exit)) ⌝ }
+    ensures { λ r. ⌜ Gives (gated (now (src .entry)) s (now (list .entry)) (now (pool .entry)) (settled (now (src .entry)) s (now (list .entry)) (now (pool .entry)) (limited (s .depth) (s .position) (outcomeOf (now (src .entry)) end plan)))) r (now (list .exit)) (now (pool .exit)) ⌝ }
 {
     let x = commit::commit(src, end, mark_of(s), s.depth, plan, list, pool);
     turned(s, x)
+}
+
+// A step that only passes bytes: the session at the place behind them.
+fn moved(mut s: Session, p: Span) -> Turn
+    ensures { λ r. ⌜ r ≡ done (moved s p) ⌝ }
+{
+    s.position = p.position;
+    s.line = p.line;
+    s.column = p.column;
+    Turn {
+        answer: Answer::Done,
+        session: s,
+    }
 }
 
 // One step: the routine of the top frame reads on from the cursor. 11 and 12 come first, then what the routine refuses, 9, 7, 8.
@@ -90,26 +107,13 @@ pub fn step(src: &[u8], end: bool, s: Session, list: &mut [u32], pool: &mut [u8]
         return state::refuse_at_gate(shut, s);
     }
     let f = top_frame(s);
+    let p = modes::passed(src, f, state::span_of(s));
+    if p.position != s.position {
+        return moved(s, p);
+    }
     let nowdocs = s.nowdocs;
     let plan = modes::plan_at(src, end, f, nowdocs, s.depth, s.position as usize);
     settle(src, end, s, plan, list, pool)
-}
-
-// Whether a frame is Scripting.
-fn is_scripting(f: Frame) -> bool
-    ensures { λ r. ⌜ r ≡ isScripting f ⌝ }
-{
-    match f {
-        Frame::Initial => false,
-        Frame::Scripting => true,
-        Frame::DoubleQuote => false,
-        Frame::ShellExec => false,
-        Frame::Heredoc(_) => false,
-        Frame::Nowdoc(_) => false,
-        Frame::LookingForVarname => false,
-        Frame::LookingForProperty => false,
-        Frame::VarOffset => false,
-    }
 }
 
 // The number at the cursor. Refused without Scripting on top (10), behind 11 and 12.
@@ -120,7 +124,7 @@ pub fn read_number(src: &[u8], end: bool, s: Session, list: &mut [u32], pool: &m
     if shut != 0 {
         return state::refuse_at_gate(shut, s);
     }
-    if !is_scripting(top_frame(s)) {
+    if !modes::is_scripting(top_frame(s)) {
         return state::refuse(source::OUT_OF_PLACE, state::span_of(s), s);
     }
     let at = s.position as usize;
@@ -136,7 +140,7 @@ pub fn read_single(src: &[u8], end: bool, s: Session, list: &mut [u32], pool: &m
     if shut != 0 {
         return state::refuse_at_gate(shut, s);
     }
-    if !is_scripting(top_frame(s)) {
+    if !modes::is_scripting(top_frame(s)) {
         return state::refuse(source::OUT_OF_PLACE, state::span_of(s), s);
     }
     let at = s.position as usize;
@@ -159,7 +163,7 @@ pub fn read_double(src: &[u8], end: bool, s: Session, list: &mut [u32], pool: &m
     if shut != 0 {
         return state::refuse_at_gate(shut, s);
     }
-    if !is_scripting(top_frame(s)) {
+    if !modes::is_scripting(top_frame(s)) {
         return state::refuse(source::OUT_OF_PLACE, state::span_of(s), s);
     }
     let at = s.position as usize;

@@ -1,7 +1,7 @@
 // The modes: what a step does, by the top frame. A routine answers with a plan and writes nothing.
 // Of the Rust: the routines that `tokenize` calls, one a frame.
-// In order: LookingForVarname, LookingForProperty and VarOffset (lookings); Scripting's table (scripting); and here the plan of
-// any frame. The text modes are the crate texts, the mode Initial is the crate initial.
+// In order: LookingForVarname, LookingForProperty and VarOffset (lookings); Scripting's table (scripting); a step of it that only
+// passes bytes (passing); and here the plan of any frame. The text modes are the crate texts, the mode Initial is the crate initial.
 use plan::Plan;
 use state::Frame;
 use state::Reading;
@@ -14,7 +14,11 @@ ghost use Rattle.outcome.specs.Steps.{framed};
 ghost use Rattle.plan.specs.Plans.{Here, Plans};
 
 mod lookings;
+mod passing;
 mod scripting;
+
+pub use passing::is_scripting;
+pub use passing::passed;
 
 // The top frame's routine, from a place on.
 pub fn plan_at(src: &[u8], end: bool, f: Frame, nowdocs: Reading, depth: u32, at: usize) -> Plan

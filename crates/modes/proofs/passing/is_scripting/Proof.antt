@@ -1,9 +1,9 @@
--- `lexer::is_scripting` meets its contract: each arm of the match is one frame. Assumes nothing.
+-- `modes::passing::is_scripting` meets its contract: each arm of the match is one frame. Assumes nothing.
 use borrow.Author.Needs.{needs}
-use Rattle.lexer.specs.Calls.{isScripting}
-use Rattle.lexer.proofs.Calls.{isScripting-arm}
-use Rattle.lexer.proofs.is_scripting.Statement.{statement}
-use Rattle.lexer.proofs.is_scripting.Tie as tie
+use Rattle.modes.specs.Passes.{isScripting}
+use Rattle.modes.proofs.Passes.{isScripting-arm}
+use Rattle.modes.proofs.passing.is_scripting.Statement.{statement}
+use Rattle.modes.proofs.passing.is_scripting.Tie as tie
 
 pub is-scripting-spec : {M : Type 1} → statement M
 unfolding isScripting

@@ -1,0 +1,86 @@
+// A step at Scripting that only passes bytes: it writes nothing and keeps the frame, so it is told ahead of any plan.
+use source::Span;
+use state::Frame;
+ghost use mathlib.Core.Path.{_≡_};
+ghost use Prim.Native.Nat.{_≤_};
+ghost use lib.ListN.{length};
+ghost use Rattle.source.specs.Cursor.{Reaches};
+ghost use Rattle.plan.specs.Plans.{Here};
+ghost use Rattle.modes.specs.Passes.{isScripting, isOther, PassesAt, Passes};
+
+// Whether a frame is Scripting.
+pub fn is_scripting(f: Frame) -> bool
+    ensures { λ r. ⌜ r ≡ isScripting f ⌝ }
+{
+    match f {
+        Frame::Initial => false,
+        Frame::Scripting => true,
+        Frame::DoubleQuote => false,
+        Frame::ShellExec => false,
+        Frame::Heredoc(_) => false,
+        Frame::Nowdoc(_) => false,
+        Frame::LookingForVarname => false,
+        Frame::LookingForProperty => false,
+        Frame::VarOffset => false,
+    }
+}
+
+// A byte of the table's last row, if no identifier starts with it: it is passed alone.
+fn is_other(b: u8) -> bool
+    ensures { λ r. ⌜ r ≡ isOther b ⌝ }
+{
+    match b {
+        b'\'' => false,
+        b'"' => false,
+        b'`' => false,
+        b'.' => false,
+        b'{' => false,
+        b'}' => false,
+        b'?' => false,
+        b'<' => false,
+        b'0'..=b'9' => false,
+        _ => true,
+    }
+}
+
+// How many bytes such a step passes from a place on; 0 where the step is another, or would wait.
+fn passed_at(src: &[u8], at: usize) -> usize
+    requires { ⌜ Here (now src) at ⌝ }
+    ensures { λ r. ⌜ PassesAt (now (src .entry)) at r ⌝ }
+{
+    if src.len() <= at {
+        return 0;
+    }
+    let b = src[at];
+    if source::is_start(b) {
+        let n = source::run_end(src, at + 1);
+        if n == src.len() {
+            return 0;
+        }
+        return n - at;
+    }
+    if is_other(b) {
+        return 1;
+    }
+    0
+}
+
+// The place behind such a step; the place itself where the step is another.
+pub fn passed(src: &[u8], f: Frame, p: Span) -> Span
+    requires { ⌜ Here (now src) (p .position) × Reaches p (length (now src)) ⌝ }
+    ensures { λ r. ⌜ Passes (now (src .entry)) f p r ⌝ }
+{
+    if !is_scripting(f) {
+        return p;
+    }
+    let at = p.position as usize;
+    let k = passed_at(src, at);
+    if k == 1 {
+        return source::past_byte(p, src[at]);
+    }
+    Span {
+        line: p.line,
+        column: p.column + k as u32,
+        position: p.position + k as u32,
+    }
+}

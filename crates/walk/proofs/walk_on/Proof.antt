@@ -1,0 +1,27 @@
+-- `walk::walk_on` meets its contract: the loop keeps `Walking`. Assumes nothing.
+use borrow.Author.Needs.{needs}
+use Rattle.walk.specs.Places.{sessionAt}
+use Rattle.walk.proofs.Walks.{Walking, walking, walking-keep, walking-swap, walking-enter, walking-leave}
+use Rattle.walk.proofs.walk_on.Statement.{statement}
+use Rattle.walk.proofs.walk_on.Tie as tie
+
+abbrev Inv : tie.InvT-loop
+Inv src end most list₀ pool₀ frames₀ nowdocs depth₀ m₀ left₀ list pool frames depth m left =
+    Walking most src end (sessionAt m₀ depth₀ frames₀ nowdocs) list₀ pool₀ left m depth frames nowdocs list pool
+
+abbrev measure : tie.MeasureT-loop
+measure src end most list₀ pool₀ frames₀ nowdocs depth₀ m₀ left₀ list pool frames depth m left = left
+
+pub walk-on-spec : {M : Type 1} → statement M
+walk-on-spec =
+    tie.close
+    (tie.spec Inv measure (λ c. search walking) (λ c. search needs) (λ c. search needs) (λ c. search needs)
+    (λ c. search needs) (λ c. search needs) (λ c κs. search walking) (λ c. search needs) (λ c. search needs)
+    (λ c κs. (search needs, search needs, search walking)) (λ c. search walking) (λ c. search walking)
+    (λ c. search walking) (λ c. search needs) (λ c κs. (search needs, search needs, search walking))
+    (λ c. search walking) (λ c. search walking) (λ c. search walking) (λ c. search needs) (λ c. search needs)
+    (λ c. search walking-keep) (λ c. search needs) (λ c. search needs) (λ c. search needs) (λ c. search needs)
+    (λ c. search walking-swap) (λ c. search needs) (λ c. search needs) (λ c. search (walking, needs))
+    (λ c. search (walking, needs)) (λ c. search (walking, needs)) (λ c. search needs) (λ c. search walking-enter)
+    (λ c. search needs) (λ c. search needs) (λ c. search needs) (λ c. search walking-leave) (λ c κs. search needs)
+    (λ c. search needs) (λ c. search needs) (λ c. search walking))
