@@ -61,7 +61,7 @@ extern "C" {
 
 #define PURETAKOI_DONE 0     /* done: go on */
 #define PURETAKOI_FINISHED 1 /* done, and nothing is left to read */
-#define PURETAKOI_REFUSED 2  /* refused: session, list and pool are as they were */
+#define PURETAKOI_REFUSED 2  /* refused: session, list and pool are as they were; of a walk, as they were before the refused step */
 
 /* ---- A token: 8 numbers of the list. As a file: 32 bytes, little-endian. */
 
@@ -114,8 +114,8 @@ extern "C" {
 /* ---- Calls with a session.
  *
  * The answer goes to `answer` and its refusal, or 0, is given back. `session` is changed where the answer is done or finished, and
- * then alone. A session of fewer than 199 numbers or an answer of fewer than 5 is refused first, with 10, and nothing is written, the
- * answer neither: look at the number given back. `puretakoi_fresh` has no answer. */
+ * then alone, but for `puretakoi_walk`. A session of fewer than 199 numbers or an answer of fewer than 5 is refused first, with 10,
+ * and nothing is written, the answer neither: look at the number given back. `puretakoi_fresh` has no answer. */
 
 /* A session before its script, with the reading of nowdoc blocks. Refused: fewer than 199 numbers (10), no such reading (12). */
 uint32_t puretakoi_fresh(uint32_t reading, uint32_t *session, size_t session_len);
@@ -125,6 +125,14 @@ uint32_t puretakoi_fresh(uint32_t reading, uint32_t *session, size_t session_len
  * as the source are room for any step from marks of 0. */
 uint32_t puretakoi_step(const uint8_t *src, size_t src_len, uint32_t end, uint32_t *session, size_t session_len, uint32_t *list,
                         size_t list_len, uint8_t *pool, size_t pool_len, uint32_t *answer, size_t answer_len);
+
+/* At most `most` steps in one call, up to one that is not done: much faster than a call for each. The answer is the last step's, or done.
+ * What the steps before it wrote stays: where the walk is refused behind a step that was done, the session stands before the refused one,
+ * and list and pool hold what was read. Where the first step is refused all is as it was; with `most` 0 the answer is done, and neither
+ * session nor script is looked at. So after LIST_FULL or POOL_FULL take the tokens, set both marks to 0 and walk on; from marks of 0, 16
+ * numbers and a pool as long as the source are room for a step at least. */
+uint32_t puretakoi_walk(const uint8_t *src, size_t src_len, uint32_t end, uint32_t most, uint32_t *session, size_t session_len,
+                        uint32_t *list, size_t list_len, uint8_t *pool, size_t pool_len, uint32_t *answer, size_t answer_len);
 
 /* The number at the cursor. Refused with 10 where Scripting is not on top; so are the next two. */
 uint32_t puretakoi_read_number(const uint8_t *src, size_t src_len, uint32_t end, uint32_t *session, size_t session_len,

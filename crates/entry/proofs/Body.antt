@@ -1,9 +1,11 @@
--- The code that the step and the readings share, and their contracts, with the callee left open. Assumes nothing.
--- Each function's proof takes its own code for this one, and antt compares the two.
+-- The code that the step and the readings share, the walk's, which takes a count more, and their contracts, with the callee left open.
+-- Assumes nothing. Each function's proof takes its own code for this one, and antt compares the two.
 --   function         the session is copied out, list and pool are lent on, the callee is called, its session is stored back, and its
 --                    answer is the result
+--   counted          the same with a count, which is handed on
 --   Call             what a call comes to
 --   given, enters    of a call: the clauses of the callee, by `Gives`, and of the function here, by `Entered`
+--   given-counted, enters-counted    the same with a count
 use mathlib.Core.Bool.{Bool}
 use mathlib.Core.List.{List, [], _∷_}
 use Prim.Native.Nat.{ℕ, suc}
@@ -22,8 +24,10 @@ use Rattle.state.proofs.Turn.Laws as U′
 use Rattle.state.proofs.Answer.Laws as N′
 use Rattle.lexer.specs.Turns.{After, Gives}
 use Rattle.lexer.proofs.step as lexer
+use Rattle.walk.proofs.walk as by-value
 use Rattle.entry.specs.Entries.{Entered}
 use Rattle.entry.proofs.step as entry
+use Rattle.entry.proofs.walk as entry-walk
 
 -- ---- the code
 
@@ -76,6 +80,33 @@ function callee = record {
       (seq (assign (whole 0) (rvOpd (copy (part 6 0)))) return)))));
 }
 
+-- the result; src, end, the count, session, list, pool; the turn, the session by value, list and pool as lent on
+abbrev counted-locals : List Ty
+counted-locals =
+    N′.mir ∷
+    sliceTy (tyRef (named 0) imm (tyInt w8)) ∷ tyBool ∷ tyInt w32 ∷ tyRef (named 1) mut (pointee (T.the-row .written)) ∷
+    sliceTy (listAt (named 2)) ∷ sliceTy (poolAt (named 3)) ∷
+    U′.mir ∷ T′.mir ∷ listAt erased ∷ sliceTy (listAt erased) ∷ poolAt erased ∷ sliceTy (poolAt erased) ∷ []
+
+-- the host's session behind the count
+abbrev counted-host : Place
+counted-host = place 4 (deref T′.mir ∷ [])
+
+abbrev pub counted : Name → Fn
+counted callee = record {
+  lifetimes = 4;
+  outlives = [];
+  params = 6;
+  locals = values counted-locals;
+  body =
+      seq (assign (whole 8) (rvOpd (copy counted-host)))
+      (lent 5 9 (tyInt w32)
+      (lent 6 11 (tyInt w8)
+      (seq (call callee (copy (whole 1) ∷ copy (whole 2) ∷ copy (whole 3) ∷ copy (whole 8) ∷ copy (whole 10) ∷ copy (whole 12) ∷ []) (whole 7))
+      (seq (assign counted-host (rvOpd (copy (part 7 1))))
+      (seq (assign (whole 0) (rvOpd (copy (part 7 0)))) return)))));
+}
+
 -- ---- the contracts
 
 -- what a call comes to, from source, announced end, session, list and pool
@@ -99,4 +130,23 @@ module _ (after : Call) {M : Type 1} (𝓤 : URA M) where
     ensures = λ g r z. fact 𝓤
         (Entered (after (now (a .0)) (a .1 .0) (now (a .1 .1 .0)) (now (a .1 .1 .1 .0)) (now (a .1 .1 .1 .1 .0)))
         r (now (z .1 .1 .0)) (now (z .1 .1 .1 .0)) (now (z .1 .1 .1 .1 .0)));
+  }
+
+module _ (after : ℕ → Call) {M : Type 1} (𝓤 : URA M) where
+  abbrev pub given-counted : Clauses 𝓤 by-value.ended
+  given-counted κs a = record {
+    ghost = Unit {0};
+    requires = λ g. emp 𝓤;
+    ensures = λ g r z. fact 𝓤
+        (Gives (after (a .1 .1 .0) (now (a .0)) (a .1 .0) (a .1 .1 .1 .0) (now (a .1 .1 .1 .1 .0)) (now (a .1 .1 .1 .1 .1 .0)))
+        r (now (z .1 .1 .1 .1 .0)) (now (z .1 .1 .1 .1 .1 .0)));
+  }
+
+  abbrev pub enters-counted : Clauses 𝓤 entry-walk.ended
+  enters-counted κs a = record {
+    ghost = Unit {0};
+    requires = λ g. emp 𝓤;
+    ensures = λ g r z. fact 𝓤
+        (Entered (after (a .1 .1 .0) (now (a .0)) (a .1 .0) (now (a .1 .1 .1 .0)) (now (a .1 .1 .1 .1 .0)) (now (a .1 .1 .1 .1 .1 .0)))
+        r (now (z .1 .1 .1 .0)) (now (z .1 .1 .1 .1 .0)) (now (z .1 .1 .1 .1 .1 .0)));
   }

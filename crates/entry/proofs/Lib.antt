@@ -1,3 +1,4 @@
 pub mod Entries
 pub mod Body
-pub mod Walk
+pub mod Shared
+pub mod Counted

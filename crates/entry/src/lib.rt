@@ -1,8 +1,9 @@
-// The step and the readings in the host's own session: it is taken out, the call of crate lexer is made by value, and the session of
-// its turn is stored back. Nothing is decided here.
+// The step, the walk and the readings in the host's own session: it is taken out, the call of crate lexer or walk is made by value, and
+// the session of its turn is stored back. Nothing is decided here.
 use state::Answer;
 use state::Session;
 ghost use Rattle.lexer.specs.Calls.{stepped, readNumber, readSingle, readDouble};
+ghost use Rattle.demands.specs.Walks.{walked};
 ghost use Rattle.entry.specs.Entries.{Entered};
 
 // One step.
@@ -16,6 +17,22 @@ pub fn step(
     ensures { λ r. ⌜ Entered (stepped (now (src .entry)) end (now (session .entry)) (now (list .entry)) (now (pool .entry))) r (now (session .exit)) (now (list .exit)) (now (pool .exit)) ⌝ }
 {
     let t = lexer::step(src, end, *session, list, pool);
+    *session = t.session;
+    t.answer
+}
+
+// At most `most` steps, up to one that is not done.
+pub fn walk(
+    src: &[u8],
+    end: bool,
+    most: u32,
+    session: &mut Session,
+    list: &mut [u32],
+    pool: &mut [u8],
+) -> Answer
+    ensures { λ r. ⌜ Entered (walked most (now (src .entry)) end (now (session .entry)) (now (list .entry)) (now (pool .entry))) r (now (session .exit)) (now (list .exit)) (now (pool .exit)) ⌝ }
+{
+    let t = walk::walk(src, end, most, *session, list, pool);
     *session = t.session;
     t.answer
 }

@@ -13,7 +13,7 @@ ghost use Prim.Native.Nat.{_+_, _≤_};
 ghost use lib.ListN.{length, getD, drop};
 ghost use Rattle.source.specs.Laid.{laid};
 ghost use Rattle.layout.specs.Sessions.{frameNumber, labelOf, slotNumbers, framesNumbers, readingNumber, headNumbers, numbersOf, labelIn, frameIn, slotIn, readingIn, depthIn, sessionIn};
-ghost use Rattle.layout.specs.Answers.{answerNumbers, refusalIn, sessionAfter, Turned};
+ghost use Rattle.layout.specs.Answers.{answerNumbers, refusalIn, sessionAfter, Turned, Stored};
 
 // The label in two numbers; one of no bytes where a number has more than 16 bits.
 fn label_in(start: u32, len: u32) -> Label
@@ -211,7 +211,7 @@ fn put_five(answer: &mut [u32], way: u32, number: u32, span: Span)
 }
 
 // An answer as five numbers.
-fn put_answer(answer: &mut [u32], a: Answer)
+pub fn put_answer(answer: &mut [u32], a: Answer)
     requires { ⌜ 5 ≤ length (now answer) ⌝ }
     ensures { λ r. ⌜ now (answer .exit) ≡ laid (now (answer .entry)) 0 (answerNumbers a) ⌝ }
 {
@@ -250,4 +250,16 @@ pub fn put_turn(t: Turn, session: &mut [u32], answer: &mut [u32]) -> u32
         put_session(session, t.session);
     }
     refusal
+}
+
+// The answer and the session as numbers, behind a step that was done: the session also where the last step is refused. Gives the
+// refusal or 0.
+pub fn put_walk(t: Turn, session: &mut [u32], answer: &mut [u32]) -> u32
+    requires { ⌜ (199 ≤ length (now session)) × (5 ≤ length (now answer)) ⌝ }
+    ensures { λ r. ⌜ Stored t (now (session .entry)) (now (answer .entry)) r (now (session .exit)) (now (answer .exit)) ⌝ }
+{
+    let a = t.answer;
+    put_answer(answer, a);
+    put_session(session, t.session);
+    refusal_in(a)
 }

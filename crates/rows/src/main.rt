@@ -52,15 +52,20 @@ fn print_refusal(number: u32, span: Span) {
     print_number(span.position, b'\n');
 }
 
-// Steps to the script's end; list and pool are emptied after each step, and have room for any. A step that is done moves the cursor
-// on or is the one behind a `${`, so there are no more than two to a byte.
-fn walk(src: &[u8]) {
-    let mut list = [0u32; 16];
+// Whether a refusal says that a table is full.
+fn is_full(number: u32) -> bool {
+    (number == source::LIST_FULL) | (number == source::POOL_FULL)
+}
+
+// Walks to the script's end; where a table is full the rows are printed and both are emptied, and they have room for any step. A step that
+// is done moves the cursor on or is the one behind a `${`, so there are no more than two to a byte.
+fn print_script(src: &[u8]) {
+    let mut list = [0u32; 2048];
     let mut pool = [0u8; 16384];
     let mut s = state::fresh(Reading::Ported);
     let mut left: u32 = 32770;
     while 0 < left {
-        let t = lexer::step(src, true, s, &mut list, &mut pool);
+        let t = walk::walk(src, true, 32770, s, &mut list, &mut pool);
         s = t.session;
         print_rows(&list, s.tokens);
         let a = t.answer;
@@ -71,8 +76,10 @@ fn walk(src: &[u8]) {
                 return;
             }
             Answer::Refused { number, span } => {
-                print_refusal(number, span);
-                return;
+                if !is_full(number) {
+                    print_refusal(number, span);
+                    return;
+                }
             }
         }
         s.tokens = 0;
@@ -106,5 +113,5 @@ fn main() {
         );
         return;
     }
-    walk(&buffer[..n]);
+    print_script(&buffer[..n]);
 }

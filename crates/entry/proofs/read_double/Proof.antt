@@ -5,7 +5,7 @@ use denote.Triple.Table.{entered, cited}
 use Rattle.lexer.specs.Calls.{readDouble}
 use Rattle.lexer.proofs.read_double.Symbol as callee
 use Rattle.lexer.proofs.read_double.Met as known
-use Rattle.entry.proofs.Walk.{Called, meets}
+use Rattle.entry.proofs.Shared.{Called, meets}
 use Rattle.entry.proofs.read_double as entry
 use Rattle.entry.proofs.read_double.Key.{name}
 use Rattle.entry.proofs.read_double.Statement.{statement}

@@ -5,7 +5,7 @@ use denote.Triple.Table.{entered, cited}
 use Rattle.lexer.specs.Calls.{readNumber}
 use Rattle.lexer.proofs.read_number.Symbol as callee
 use Rattle.lexer.proofs.read_number.Met as known
-use Rattle.entry.proofs.Walk.{Called, meets}
+use Rattle.entry.proofs.Shared.{Called, meets}
 use Rattle.entry.proofs.read_number as entry
 use Rattle.entry.proofs.read_number.Key.{name}
 use Rattle.entry.proofs.read_number.Statement.{statement}

@@ -5,7 +5,7 @@ use denote.Triple.Table.{entered, cited}
 use Rattle.lexer.specs.Calls.{readSingle}
 use Rattle.lexer.proofs.read_single.Symbol as callee
 use Rattle.lexer.proofs.read_single.Met as known
-use Rattle.entry.proofs.Walk.{Called, meets}
+use Rattle.entry.proofs.Shared.{Called, meets}
 use Rattle.entry.proofs.read_single as entry
 use Rattle.entry.proofs.read_single.Key.{name}
 use Rattle.entry.proofs.read_single.Statement.{statement}

@@ -5,7 +5,7 @@ use denote.Triple.Table.{entered, cited}
 use Rattle.lexer.specs.Calls.{stepped}
 use Rattle.lexer.proofs.step.Symbol as callee
 use Rattle.lexer.proofs.step.Met as known
-use Rattle.entry.proofs.Walk.{Called, meets}
+use Rattle.entry.proofs.Shared.{Called, meets}
 use Rattle.entry.proofs.step as entry
 use Rattle.entry.proofs.step.Key.{name}
 use Rattle.entry.proofs.step.Statement.{statement}

@@ -79,20 +79,20 @@ abbrev pub Called : (after : Call) {M : Type 1} (𝓤 : URA M) (H : Heap 𝓤) (
 Called after 𝓤 H A = tripleOf 𝓤 H A lexer.signature (closing 𝓤 H A lexer.ended (given after 𝓤))
 
 -- a slice's machine value, a session's, and an answer's as the turn holds it
-abbrev slice : RefT (List ℕ) → Val
+abbrev pub slice : RefT (List ℕ) → Val
 slice x = sliceVal (x .ptr) (length (x .now))
 
-abbrev mach : Session → Val
+abbrev pub mach : Session → Val
 mach x = LL.val T.the-type T′.the-laws x
 
-abbrev told : Turn → Val
+abbrev pub told : Turn → Val
 told r = N′.the-field-laws .val (U.the-type .to r .0)
 
 -- whoever holds a turn knows this of its answer and its session
-is-answer : (r : Turn) (w : Val) → Is U.the-row r (w ∷ []) → Is N.the-row (r .answer) (told r ∷ [])
+pub is-answer : (r : Turn) (w : Val) → Is U.the-row r (w ∷ []) → Is N.the-row (r .answer) (told r ∷ [])
 is-answer r w is = LL.owed U.the-type U′.the-laws r _ is .0
 
-is-session : (r : Turn) (w : Val) → Is U.the-row r (w ∷ []) → Is T.the-row (r .session) (mach (r .session) ∷ [])
+pub is-session : (r : Turn) (w : Val) → Is U.the-row r (w ∷ []) → Is T.the-row (r .session) (mach (r .session) ∷ [])
 is-session r w is = LL.owed U.the-type U′.the-laws r _ is .1 .0
 
 module _ (after : Call) (callee : Name) {M : Type 1} (𝓤 : URA M) (H : Heap 𝓤) (A : Atoms 𝓤) (W : Given 𝓤 H A) where
