@@ -4,14 +4,16 @@ use std::collections::HashMap;
 use std::path::Path;
 use std::process::{Command, Output, Stdio};
 
-use crate::kinds::Kind;
+use crate::kinds::{script, Kind};
+use crate::sides::MOST_BYTES;
 
 /// How often the script is read in the shorter and in the longer run.
 const FEW: u64 = 1;
 const MANY: u64 = 3;
 
-/// The two sides by the words that `bench run` takes.
-pub const OURS: &str = "ours";
+/// What is measured, by the words that `bench run` takes.
+pub const WALK: &str = "walk";
+pub const STEPS: &str = "steps";
 pub const RUST: &str = "rust";
 
 /// Whether valgrind can be called here.
@@ -20,11 +22,12 @@ pub fn are_there() -> bool {
     called.map_or(false, |status| status.success())
 }
 
-/// Instructions for one reading of a kind's script.
-pub fn of_one(side: &str, kind: &Kind) -> Result<f64, String> {
+/// Instructions a byte, of one reading of a kind's script.
+pub fn a_byte(side: &str, kind: &Kind) -> Result<f64, String> {
     let none = Path::new("/dev/null");
     let (few, many) = (collected(side, kind, FEW, none)?, collected(side, kind, MANY, none)?);
-    Ok(many.saturating_sub(few) as f64 / (MANY - FEW) as f64)
+    let bytes = script(kind, MOST_BYTES).len() as u64 * (MANY - FEW);
+    Ok(many.saturating_sub(few) as f64 / bytes as f64)
 }
 
 /// What callgrind collected in a run that reads the script `times` times; the profile goes to a file.
@@ -57,10 +60,10 @@ pub fn by_function(kind: &Kind) -> Result<Vec<(String, f64)>, String> {
     Ok(shares)
 }
 
-/// Each function's own instructions in a run of ours, by name.
+/// Each function's own instructions in a walk, by name.
 fn own_counts(kind: &Kind, times: u64) -> Result<HashMap<String, u64>, String> {
     let profile = std::env::temp_dir().join(format!("bench-{}.callgrind", std::process::id()));
-    collected(OURS, kind, times, &profile)?;
+    collected(WALK, kind, times, &profile)?;
     let said = output(Command::new("callgrind_annotate").arg("--threshold=100").arg(&profile))?.stdout;
     std::fs::remove_file(&profile).map_err(|error| error.to_string())?;
     let mut counts = HashMap::new();

@@ -57,6 +57,13 @@ pub fn one_block(most: usize) -> Vec<u8> {
     }
 }
 
+/// A script of steps that pass one byte each.
+pub fn one_byte_steps(most: usize) -> Vec<u8> {
+    let mut script = PHP.as_bytes().to_vec();
+    script.extend(b"+-;\n".iter().cycle().take(most - script.len()));
+    script
+}
+
 const WORDS: [&str; 16] = [
     "kerb", "ramp", "crossing", "the", "street", "of", "harbour", "lane", "steps", "rail", "a", "bench", "to",
     "platform", "left", "mill",

@@ -1,16 +1,18 @@
-//! The proved library beside the Rust, in time and instructions: `bench`, `bench short`, `bench run ours|rust KIND TIMES`.
+//! The proved library beside the Rust, in time and instructions: `bench`, `bench short`, `bench stack`,
+//! `bench run walk|steps|rust KIND TIMES`.
 
 mod instructions;
 mod kinds;
 mod sides;
+mod stack;
 mod tables;
 mod times;
 
 use std::process::exit;
 
-use instructions::{OURS, RUST};
+use instructions::{RUST, STEPS, WALK};
 use kinds::{kind_of, script, KINDS};
-use sides::{hold, Reader, MOST_BYTES};
+use sides::{hold, Reader, Way, MOST_BYTES};
 
 /// What a streamed script grows by.
 const PIECE: usize = 4_096;
@@ -20,7 +22,8 @@ fn main() {
     let words: Vec<&str> = words.iter().map(String::as_str).collect();
     let done = match words[..] {
         [] => hold_all().and_then(|()| tables::all()),
-        ["short"] => hold_all().and_then(|()| tables::counts().map(drop)),
+        ["stack"] => stack::table(),
+        ["short"] => hold_all().and_then(|()| short()),
         ["run", side, kind, times] => run(side, kind, times),
         _ => usage(),
     };
@@ -31,7 +34,7 @@ fn main() {
 }
 
 fn usage() -> ! {
-    eprintln!("bench | bench short | bench run ours|rust KIND TIMES");
+    eprintln!("bench | bench short | bench stack | bench run walk|steps|rust KIND TIMES");
     exit(2)
 }
 
@@ -45,6 +48,18 @@ fn hold_all() -> Result<(), String> {
     hold(&mut reader, &kinds::one_block(MOST_BYTES), PIECE)
 }
 
+/// A test for each kind: the walk takes no more instructions a byte than the Rust.
+fn short() -> Result<(), String> {
+    for kind in &KINDS {
+        let (ours, rust) = (instructions::a_byte(WALK, kind)?, instructions::a_byte(RUST, kind)?);
+        if ours > rust {
+            return Err(format!("{}: {:.1} instructions a byte, the Rust {:.1}", kind.name, ours, rust));
+        }
+        println!("ok bench: {} ({:.1} instructions a byte, the Rust {:.1})", kind.name, ours, rust);
+    }
+    Ok(())
+}
+
 /// Reads a kind's script as often as told, on one side, for callgrind. The Rust's tokens are kept: none is freed.
 fn run(side: &str, kind: &str, times: &str) -> Result<(), String> {
     let (kind, times) = match (kind_of(kind), times.parse::<usize>()) {
@@ -55,7 +70,8 @@ fn run(side: &str, kind: &str, times: &str) -> Result<(), String> {
     let mut reader = Reader::new();
     for _ in 0..times {
         match side {
-            OURS => drop(reader.read(&script, script.len())?),
+            WALK => drop(reader.read(Way::Walk, &script, script.len())?),
+            STEPS => drop(reader.read(Way::Steps, &script, script.len())?),
             RUST => std::mem::forget(oracle::tokenize(&script)),
             _ => usage(),
         }

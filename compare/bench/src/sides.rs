@@ -1,19 +1,28 @@
-//! What is measured on each side: plain steps on tables that were made before, and the Rust's `tokenize`.
+//! What is measured on each side: walks or single steps on tables that were made before, and the Rust's `tokenize`.
 
 use cases::call::{ANSWER, BYTES, POSITION, RECORD, SESSION, TOKENS};
 use cases::{Span, Token};
 use host::Slices;
 
-/// Places of the list. With fewer than two of them left, which a step may need, both marks are set to 0.
+/// Places of the list. Where a step finds no room in it, both marks are set to 0.
 const PLACES: usize = 4_096;
 
 /// Bytes of the pool, and of the longest script: values have no more bytes than the steps pass, so the pool is never too small.
 pub const MOST_BYTES: usize = 65_536;
 
-/// The ported reading, a finished answer, and the refusal that asks for more of the script (include/puretakoi.h).
+/// The ported reading, a finished answer, and the refusals that ask for more of the script and for an empty list
+/// (include/puretakoi.h).
 const PORTED: u32 = 0;
 const FINISHED: u32 = 1;
 const WAIT: u32 = 6;
+const LIST_FULL: u32 = 7;
+
+/// How a script is read: in as few calls as there can be, or a call for each step.
+#[derive(Clone, Copy)]
+pub enum Way {
+    Walk,
+    Steps,
+}
 
 /// Our side: a session and tables, which are used for every script and never cleared.
 pub struct Reader {
@@ -23,10 +32,10 @@ pub struct Reader {
     answer: Vec<u32>,
 }
 
-/// How many steps were made, and how many of them waited.
+/// How many calls were made, and how many of them waited.
 #[derive(Clone, Copy, Default)]
 pub struct Count {
-    pub steps: usize,
+    pub calls: usize,
     pub waits: usize,
 }
 
@@ -36,49 +45,59 @@ impl Reader {
         Reader { session: vec![0; SESSION], list, pool, answer: vec![0; ANSWER] }
     }
 
-    /// Steps a script to its end; after a wait it is lent with `piece` bytes more. Stops at a refusal, with its number.
-    pub fn read(&mut self, script: &[u8], piece: usize) -> Result<Count, String> {
-        self.read_with(script, piece, |_| ())
+    /// Reads a script to its end; after a wait it is lent with `piece` bytes more. Stops at a refusal, with its number.
+    pub fn read(&mut self, way: Way, script: &[u8], piece: usize) -> Result<Count, String> {
+        self.read_with(way, script, piece, |_| ())
     }
 
-    /// The same, with a look at the tables behind each step.
-    fn read_with(&mut self, script: &[u8], piece: usize, mut look: impl FnMut(&Reader)) -> Result<Count, String> {
+    /// The same, with a look at the tables before they are emptied and at the end.
+    fn read_with(
+        &mut self,
+        way: Way,
+        script: &[u8],
+        piece: usize,
+        mut look: impl FnMut(&Reader),
+    ) -> Result<Count, String> {
         let mut count = Count::default();
         let mut lent = piece.min(script.len());
         host::fresh(PORTED, &mut self.session);
         loop {
-            count.steps += 1;
-            match self.step(&script[..lent], lent == script.len()) {
-                0 => look(self),
+            count.calls += 1;
+            match self.call(way, &script[..lent], lent == script.len()) {
+                0 if self.answer[0] == FINISHED => {
+                    look(self);
+                    return Ok(count);
+                }
+                0 => {}
                 WAIT => {
                     count.waits += 1;
                     lent = script.len().min(lent + piece);
                 }
+                LIST_FULL if self.session[TOKENS] > 0 => {
+                    look(self);
+                    self.session[TOKENS] = 0;
+                    self.session[BYTES] = 0;
+                }
                 number => return Err(format!("refused {} at {}", number, self.answer[4])),
-            }
-            if self.answer[0] == FINISHED {
-                return Ok(count);
-            }
-            if self.session[TOKENS] as usize + 2 > PLACES {
-                self.session[TOKENS] = 0;
-                self.session[BYTES] = 0;
             }
         }
     }
 
-    fn step(&mut self, source: &[u8], end: bool) -> u32 {
+    fn call(&mut self, way: Way, source: &[u8], end: bool) -> u32 {
         let Reader { session, list, pool, answer } = self;
-        host::step(end, Slices { source, session, list, pool, answer })
+        let lent = Slices { source, session, list, pool, answer };
+        match way {
+            Way::Walk => host::walk(end, u32::MAX, lent),
+            Way::Steps => host::step(end, lent),
+        }
     }
 
     /// The tokens of a script.
-    fn tokens_of(&mut self, script: &[u8], piece: usize) -> Result<Vec<Token>, String> {
-        let (mut tokens, mut place) = (Vec::new(), 0);
-        self.read_with(script, piece, |reader| {
-            let mark = reader.session[TOKENS] as usize;
-            let from = if place + 2 > PLACES { 0 } else { place };
-            tokens.extend(reader.list[from * RECORD..mark * RECORD].chunks_exact(RECORD).map(|it| reader.token(it)));
-            place = mark;
+    fn tokens_of(&mut self, way: Way, script: &[u8], piece: usize) -> Result<Vec<Token>, String> {
+        let mut tokens = Vec::new();
+        self.read_with(way, script, piece, |reader| {
+            let filled = reader.session[TOKENS] as usize * RECORD;
+            tokens.extend(reader.list[..filled].chunks_exact(RECORD).map(|it| reader.token(it)));
         })?;
         if self.session[POSITION] as usize != script.len() {
             return Err(format!("stopped at {}", self.session[POSITION]));
@@ -98,14 +117,15 @@ impl Reader {
 /// punctuation of the script itself the Rust gives tokens and the step none; behind a variable's `[` the scripts have no number.
 const COMMON: [u32; 14] = [1, 2, 3, 4, 5, 6, 8, 11, 12, 13, 17, 18, 19, 20];
 
-/// Whether both sides accept the script, whole and in pieces, with the same tokens of the common kinds.
+/// Whether both sides accept the script, walked and stepped, whole and in pieces, with the same tokens of the common kinds.
 pub fn hold(reader: &mut Reader, script: &[u8], piece: usize) -> Result<(), String> {
     let common = |tokens: Vec<Token>| -> Vec<Token> {
         tokens.into_iter().filter(|token| COMMON.contains(&token.kind)).collect()
     };
     let theirs = common(oracle::tokens_of(script).map_err(|error| format!("the Rust refuses it: {}", error))?);
-    for piece in [script.len(), piece] {
-        let ours = common(reader.tokens_of(script, piece)?);
+    for (way, piece) in [(Way::Walk, script.len()), (Way::Walk, piece), (Way::Steps, script.len()), (Way::Steps, piece)]
+    {
+        let ours = common(reader.tokens_of(way, script, piece)?);
         if let Some((ours, theirs)) = ours.iter().zip(&theirs).find(|(ours, theirs)| ours != theirs) {
             return Err(format!("ours {:?}\nthe Rust's {:?}", ours, theirs));
         }

@@ -1,10 +1,10 @@
 //! The tables of docs/SPEED.md, as Markdown.
 
-use crate::instructions::{self, OURS, RUST};
-use crate::kinds::{one_block, script, Kind, KINDS};
-use crate::sides::{Reader, MOST_BYTES};
-use crate::times::{by_turns, Given};
-use crate::PIECE;
+use crate::instructions::{self, RUST, STEPS, WALK};
+use crate::kinds::{one_block, one_byte_steps, script, Kind, KINDS};
+use crate::sides::{Reader, Way, MOST_BYTES};
+use crate::times::{by_turns, Work};
+use crate::{stack, PIECE};
 
 /// How many kinds, and functions of each, are shown with where their instructions go.
 const SLOWEST: usize = 3;
@@ -16,9 +16,13 @@ const SIZES: [usize; 7] = [1, 2, 4, 8, 16, 32, 64];
 pub fn all() -> Result<(), String> {
     times()?;
     println!();
+    single_steps()?;
+    println!();
     sizes()?;
     println!();
     pieces()?;
+    println!();
+    stack::table()?;
     println!();
     let ratios = counts()?;
     if !ratios.is_empty() {
@@ -29,41 +33,57 @@ pub fn all() -> Result<(), String> {
 }
 
 /// Instructions a byte for both sides. Gives the kinds with their ratios, or none without valgrind.
-pub fn counts() -> Result<Vec<(f64, &'static Kind)>, String> {
+fn counts() -> Result<Vec<(f64, &'static Kind)>, String> {
     let mut ratios = Vec::new();
     if !instructions::are_there() {
         println!("valgrind is not here, so no instructions are counted.");
         return Ok(ratios);
     }
-    println!("| 64 KB, instructions a byte | steps | the Rust | ratio |\n|---|---|---|---|");
+    println!("| 64 KB, instructions a byte | walk | the Rust | ratio | single steps |\n|---|---|---|---|---|");
     for kind in &KINDS {
-        let bytes = script(kind, MOST_BYTES).len() as f64;
-        let (ours, rust) = (instructions::of_one(OURS, kind)? / bytes, instructions::of_one(RUST, kind)? / bytes);
-        println!("| {} | {:.1} | {:.1} | {:.2} |", kind.name, ours, rust, ours / rust);
-        ratios.push((ours / rust, kind));
+        let (walk, rust) = (instructions::a_byte(WALK, kind)?, instructions::a_byte(RUST, kind)?);
+        let steps = instructions::a_byte(STEPS, kind)?;
+        println!("| {} | {:.1} | {:.1} | {:.2} | {:.1} |", kind.name, walk, rust, walk / rust, steps);
+        ratios.push((walk / rust, kind));
     }
     Ok(ratios)
 }
 
 /// Nanoseconds a byte for both sides, by turns.
 fn times() -> Result<(), String> {
-    println!("| 64 KB, ns a byte | steps | the Rust | ratio | bytes a step | ns a step |\n|---|---|---|---|---|---|");
+    println!("| 64 KB, ns a byte | walk | the Rust | ratio | one to |\n|---|---|---|---|---|");
     for kind in &KINDS {
         let script = script(kind, MOST_BYTES);
         let bytes = script.len() as f64;
-        let steps = Reader::new().read(&script, script.len())?.steps as f64;
-        let turns = by_turns(&mut [steps_of(&script, script.len(), 1)?, Box::new(|| Some(oracle::tokenize(&script)))]);
-        let (ours, rust, ratio) = (turns.of(0), turns.of(1), turns.ratio(0, 1));
-        print!("| {} | {:.1} | {:.1} | {:.2} ", kind.name, ours / bytes, rust / bytes, ratio);
-        println!("| {:.1} | {:.0} |", bytes / steps, ours / steps);
+        let walk = reading(Way::Walk, &script, script.len(), 1)?;
+        let turns = by_turns(&mut [walk, Box::new(|| Some(oracle::tokenize(&script)))]);
+        let ratio = turns.ratio(0, 1);
+        print!("| {} | {:.2} | {:.1} ", kind.name, turns.of(0) / bytes, turns.of(1) / bytes);
+        println!("| {:.3} | {:.1} |", ratio, 1.0 / ratio);
     }
+    Ok(())
+}
+
+/// Nanoseconds a step: in a walk, and a call for each.
+fn single_steps() -> Result<(), String> {
+    println!("| 64 KB, ns a step | bytes a step | walk | single steps |\n|---|---|---|---|");
+    single_steps_of("one byte a step", &one_byte_steps(MOST_BYTES))?;
+    KINDS.iter().try_for_each(|kind| single_steps_of(kind.name, &script(kind, MOST_BYTES)))
+}
+
+fn single_steps_of(name: &str, script: &[u8]) -> Result<(), String> {
+    let steps = Reader::new().read(Way::Steps, script, script.len())?.calls as f64;
+    let works = [Way::Walk, Way::Steps].map(|way| reading(way, script, script.len(), 1));
+    let turns = by_turns(&mut works.into_iter().collect::<Result<Vec<_>, String>>()?);
+    let (walk, single) = (turns.of(0) / steps, turns.of(1) / steps);
+    println!("| {} | {:.1} | {:.1} | {:.0} |", name, script.len() as f64 / steps, walk, single);
     Ok(())
 }
 
 /// Nanoseconds a byte for scripts of each size, each read as often as makes 64 KB.
 fn sizes() -> Result<(), String> {
     let columns: Vec<String> = SIZES.iter().map(|size| format!("{} KB", size)).collect();
-    println!("| steps, ns a byte | {} |\n|---{}|", columns.join(" | "), "|---".repeat(SIZES.len()));
+    println!("| walk, ns a byte | {} |\n|---{}|", columns.join(" | "), "|---".repeat(SIZES.len()));
     for kind in &KINDS {
         sizes_of(kind.name, |size| script(kind, size))?;
     }
@@ -73,21 +93,22 @@ fn sizes() -> Result<(), String> {
 fn sizes_of(name: &str, script_of: impl Fn(usize) -> Vec<u8>) -> Result<(), String> {
     let scripts = SIZES.map(|size| script_of(size * 1024));
     let often = SIZES.map(|size| MOST_BYTES / 1024 / size);
-    let works: Result<Vec<_>, _> = scripts.iter().zip(often).map(|(it, often)| steps_of(it, it.len(), often)).collect();
+    let works: Result<Vec<_>, _> =
+        scripts.iter().zip(often).map(|(it, often)| reading(Way::Walk, it, it.len(), often)).collect();
     let turns = by_turns(&mut works?);
     let bytes = |place: usize| (often[place] * scripts[place].len()) as f64;
-    let columns: Vec<String> = (0..SIZES.len()).map(|place| format!("{:.1}", turns.of(place) / bytes(place))).collect();
+    let columns: Vec<String> = (0..SIZES.len()).map(|place| format!("{:.2}", turns.of(place) / bytes(place))).collect();
     println!("| {} | {} |", name, columns.join(" | "));
     Ok(())
 }
 
-/// A work: the script stepped to its end in pieces, so many times, with tables of its own. One that is refused is none.
-fn steps_of(script: &[u8], piece: usize, often: usize) -> Result<Box<dyn FnMut() -> Given + '_>, String> {
+/// A work: the script read to its end in pieces, so many times, with tables of its own. One that is refused is none.
+fn reading(way: Way, script: &[u8], piece: usize, often: usize) -> Result<Work<'_>, String> {
     let mut reader = Reader::new();
-    reader.read(script, piece)?;
+    reader.read(way, script, piece)?;
     Ok(Box::new(move || {
         for _ in 0..often {
-            reader.read(script, piece).expect("it was not refused before");
+            reader.read(way, script, piece).expect("it was not refused before");
         }
         None
     }))
@@ -103,10 +124,10 @@ fn pieces() -> Result<(), String> {
 }
 
 fn pieces_of(name: &str, script: &[u8]) -> Result<(), String> {
-    let waits = Reader::new().read(script, PIECE)?.waits;
-    let turns = by_turns(&mut [steps_of(script, script.len(), 1)?, steps_of(script, PIECE, 1)?]);
+    let waits = Reader::new().read(Way::Walk, script, PIECE)?.waits;
+    let turns = by_turns(&mut [reading(Way::Walk, script, script.len(), 1)?, reading(Way::Walk, script, PIECE, 1)?]);
     let a_byte = |work: usize| turns.of(work) / script.len() as f64;
-    println!("| {} | {:.1} | {:.1} | {:.2} | {} |", name, a_byte(0), a_byte(1), turns.ratio(1, 0), waits);
+    println!("| {} | {:.2} | {:.2} | {:.2} | {} |", name, a_byte(0), a_byte(1), turns.ratio(1, 0), waits);
     Ok(())
 }
 

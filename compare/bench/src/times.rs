@@ -32,13 +32,16 @@ fn now() -> f64 {
 /// What a work gives, dropped after the clock is read: the Rust's tokens, or none.
 pub type Given = Option<SyntaxResult<Vec<Token>>>;
 
+/// A work that is timed.
+pub type Work<'a> = Box<dyn FnMut() -> Given + 'a>;
+
 /// The nanoseconds of each work in each round.
 pub struct Turns {
     times: Vec<Vec<f64>>,
 }
 
 /// Works done by turns, each of them first in its turn. One round ahead is not counted.
-pub fn by_turns(works: &mut [Box<dyn FnMut() -> Given + '_>]) -> Turns {
+pub fn by_turns(works: &mut [Work<'_>]) -> Turns {
     let mut times = vec![Vec::new(); works.len()];
     for round in 0..=ROUNDS {
         for turn in 0..works.len() {

@@ -36,7 +36,7 @@ pub fn cut_script(held: &mut Held, script: &[u8], reading: usize, random: &mut R
     Ok(())
 }
 
-fn random_cuts(script: &[u8], random: &mut Random) -> Vec<usize> {
+pub fn random_cuts(script: &[u8], random: &mut Random) -> Vec<usize> {
     let mut cuts: Vec<usize> = (0..1 + random.below(MOST_CUTS)).map(|_| random.below(script.len() + 1)).collect();
     cuts.sort_unstable();
     cuts

@@ -13,14 +13,17 @@ use crate::sources::{fragment, script};
 const FRAMES: usize = 9;
 const TEXT_BLOCKS: [usize; 2] = [4, 5];
 
-/// Half of the calls are steps.
-const FUNCTIONS: [Function; 12] = [
+/// Of five calls two are steps, and one is a walk.
+const FUNCTIONS: [Function; 15] = [
     Function::Step,
     Function::Step,
     Function::Step,
     Function::Step,
     Function::Step,
     Function::Step,
+    Function::Walk,
+    Function::Walk,
+    Function::Walk,
     Function::ReadNumber,
     Function::ReadSingle,
     Function::ReadDouble,
@@ -80,9 +83,10 @@ pub fn forged(random: &mut Random) -> Call {
     if call.function.has_tables() {
         let room = if random.below(4) == 0 { 0 } else { call.source.len() + 8 };
         call.end = [0, 1, 1, random.number() as u32][random.below(4)];
-        call.list = (call.number(TOKENS) + random.below(4)) * RECORD + random.below(RECORD);
+        let places = if call.function == Function::Walk { 12 } else { 4 };
+        call.list = (call.number(TOKENS) + random.below(places)) * RECORD + random.below(RECORD);
         call.pool = call.number(BYTES) + room + random.below(4);
-        if call.function != Function::Step && random.below(8) > 0 {
+        if call.function.is_reading() && random.below(8) > 0 {
             let top = SLOTS + SLOT * (call.number(DEPTH) - 1);
             call.session[top] = 1;
         }
@@ -151,6 +155,7 @@ fn label(source: &mut Vec<u8>, random: &mut Random) -> (usize, usize) {
 /// What the call's function takes beside slices, mostly good.
 fn arguments(call: &Call, random: &mut Random) -> Vec<usize> {
     match call.function {
+        Function::Walk => vec![most(random)],
         Function::Skip => {
             let left = call.source.len() - call.number(POSITION);
             vec![[random.below(left + 1), left, left + 1, random.number() as usize, usize::MAX][random.below(5)]]
@@ -166,6 +171,11 @@ fn arguments(call: &Call, random: &mut Random) -> Vec<usize> {
         }
         _ => Vec::new(),
     }
+}
+
+/// How many steps a walk may make: none, few, or more than any script has.
+pub fn most(random: &mut Random) -> usize {
+    [0, 1, 2, 2 + random.below(4), 2 + random.below(20), u32::MAX as usize, u32::MAX as usize][random.below(7)]
 }
 
 /// Breaks one thing.

@@ -11,6 +11,9 @@ const FRAMES: usize = 9;
 const ROUTINES: usize = FRAMES + 3;
 const WAIT: u32 = 6;
 
+/// Refusals by which a walk may be stopped: the others are its first step's, or none of a step.
+const STOPPING: [usize; 10] = [1, 2, 3, 4, 5, 6, 7, 8, 9, 13];
+
 /// Makes calls and counts what was met.
 #[derive(Default)]
 pub struct Held {
@@ -21,6 +24,9 @@ pub struct Held {
     /// How often each frame's step was done and had to wait, and each reading, in the order of their functions.
     done: [u64; ROUTINES],
     waits: [u64; ROUTINES],
+    /// How often a walk of one step or more was done, finished and refused at its first step, and by what one was stopped.
+    walks: [u64; 3],
+    stops: [u64; 14],
 }
 
 impl Held {
@@ -38,16 +44,20 @@ impl Held {
 
     fn count_told(&mut self, call: &Call, told: &Told) {
         let routine = routine_of(call);
+        self.count_walk(call, told);
+        if let Some((_, records, _)) = told.written() {
+            records.iter().for_each(|record| self.kinds[record[0] as usize] += 1);
+        }
         match told {
             Told::Short => {}
+            Told::Stopped { number, .. } => self.refusals[*number as usize] += 1,
             Told::Refused { number, .. } => {
                 self.refusals[*number as usize] += 1;
                 if let (Some(routine), WAIT) = (routine, *number) {
                     self.waits[routine] += 1;
                 }
             }
-            Told::Done { records, .. } => {
-                records.iter().for_each(|record| self.kinds[record[0] as usize] += 1);
+            Told::Done { .. } => {
                 if let Some(routine) = routine {
                     self.done[routine] += 1;
                 }
@@ -55,15 +65,22 @@ impl Held {
         }
     }
 
+    fn count_walk(&mut self, call: &Call, told: &Told) {
+        if call.function != Function::Walk || call.arguments[0] == 0 {
+            return;
+        }
+        match told {
+            Told::Short => {}
+            Told::Done { finished, .. } => self.walks[usize::from(*finished)] += 1,
+            Told::Refused { .. } => self.walks[2] += 1,
+            Told::Stopped { number, .. } => self.stops[*number as usize] += 1,
+        }
+    }
+
     /// Holds a call that must be refused with a number, or done for 0.
     pub fn hold_to(&mut self, call: &Call, number: u32) -> Result<Told, String> {
         let told = self.hold(call)?;
-        let got = match told {
-            Told::Refused { number, .. } => number,
-            Told::Short => 10,
-            Told::Done { .. } => 0,
-        };
-        if got != number {
+        if told.refusal().0 != number {
             return Err(format!("{}\n  is told and given alike, but {} was meant", self.report(call), number));
         }
         Ok(told)
@@ -90,22 +107,24 @@ impl Held {
         format!("  call  {}\n  told  {}\n  given {}", text(&line), text(&told), text(&got))
     }
 
-    /// Every refusal and every kind was met, and every routine was done and had to wait: how often the rarest; else the first
-    /// that was not.
+    /// Every refusal and every kind was met, every routine was done and had to wait, and walks came to all that they can: how
+    /// often the rarest; else the first that was not.
     pub fn all_met(&self) -> Result<String, String> {
         let parts = [
-            rarest("refusal", 1, &self.refusals)?,
-            rarest("kind", 1, &self.kinds)?,
-            rarest("routine done:", 0, &self.done)?,
-            rarest("routine waiting:", 0, &self.waits)?,
+            rarest("refusal", 1..14, &self.refusals)?,
+            rarest("kind", 1..21, &self.kinds)?,
+            rarest("routine done:", 0..ROUTINES, &self.done)?,
+            rarest("routine waiting:", 0..ROUTINES, &self.waits)?,
+            rarest("walk done, finished or refused:", 0..3, &self.walks)?,
+            rarest("walk stopped by", STOPPING, &self.stops)?,
         ];
         Ok(format!("rarest: {}", parts.join(", ")))
     }
 }
 
-fn rarest(what: &str, first: usize, counts: &[u64]) -> Result<String, String> {
-    match counts.iter().enumerate().skip(first).min_by_key(|(_, count)| **count) {
-        Some((place, count)) if *count > 0 => Ok(format!("{} {} {} times", what, place, count)),
+fn rarest(what: &str, places: impl IntoIterator<Item = usize>, counts: &[u64]) -> Result<String, String> {
+    match places.into_iter().min_by_key(|place| counts[*place]) {
+        Some(place) if counts[place] > 0 => Ok(format!("{} {} {} times", what, place, counts[place])),
         place => Err(format!("  {} {:?} was never met", what, place)),
     }
 }

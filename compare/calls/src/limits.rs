@@ -9,6 +9,7 @@ use telling::session::{MOST_BYTES, MOST_FRAMES, MOST_LABEL, MOST_TOKENS};
 use crate::cuts::cut_script;
 use crate::forged::new_call;
 use crate::hold::Held;
+use crate::leaps::leap;
 use crate::walks::walk;
 
 const SCRIPTING: u32 = 1;
@@ -162,7 +163,7 @@ pub fn frames(held: &mut Held, _count: usize, _random: &mut Random) -> Result<()
     Ok(())
 }
 
-/// Scripts at each limit, walked to their end, uncut and cut.
+/// Scripts at each limit, stepped to their end, uncut and cut, and walked in one call.
 pub fn scripts(held: &mut Held, count: usize, random: &mut Random) -> Result<(), String> {
     let block = |label: usize| [b"<?php <<<".to_vec(), vec![b'E'; label], b"\n\n".to_vec(), vec![b'E'; label]].concat();
     let deep = |frames: usize| [b"<?php ".to_vec(), vec![b'{'; frames - 1], b"\"$a->x\"".to_vec()].concat();
@@ -171,10 +172,12 @@ pub fn scripts(held: &mut Held, count: usize, random: &mut Random) -> Result<(),
         for off in 0..3 {
             for script in [block(MOST_LABEL - 1 + off), deep(MOST_FRAMES - 1 + off), block(off)] {
                 cut_script(held, &script, random.below(2), random)?;
+                leap(held, &script, random.below(2), random)?;
             }
         }
         for length in [MOST_BYTES - 1, MOST_BYTES] {
             cut_script(held, &long(length), random.below(2), random)?;
+            leap(held, &long(length), random.below(2), random)?;
         }
         // Its parts are not too large, so it is not cut.
         walk(held, &long(MOST_BYTES + 1), 0)?;

@@ -3,6 +3,7 @@
 mod cuts;
 mod forged;
 mod hold;
+mod leaps;
 mod limits;
 mod lines;
 mod plain;
@@ -22,7 +23,7 @@ use hold::Held;
 type Tries = fn(held: &mut Held, count: usize, random: &mut Random) -> Result<(), String>;
 
 /// The groups: a name, the tries, and how many of them in short and in full.
-const GROUPS: [(&str, Tries, usize, usize); 17] = [
+const GROUPS: [(&str, Tries, usize, usize); 19] = [
     ("fresh sessions", forged::fresh_sessions, 2_000, 20_000),
     ("forged sessions", forged::forged_sessions, 400_000, 6_000_000),
     ("every short text", shorts::short_texts, 2, 3),
@@ -31,11 +32,13 @@ const GROUPS: [(&str, Tries, usize, usize); 17] = [
     ("walks with other calls between", walks::mixed_walks, 10_000, 150_000),
     ("scripts cut at random places", cuts::cut_scripts, 4_000, 60_000),
     ("tables too small", walks::small_tables, 3_000, 40_000),
+    ("walks in one call", leaps::walks_in_one_call, 4_000, 60_000),
     ("65,535 to 65,537 bytes of source and pool", limits::lengths, 300, 3_000),
     ("65,536 to 65,538 places", limits::places, 60, 600),
     ("62 to 65 frames", limits::frames, 1, 1),
     ("scripts at the limits", limits::scripts, 3, 30),
     ("labels of 0 to 66 bytes", limits::labels, 1, 1),
+    ("long walks in one call", leaps::long_walks, 2, 20),
     ("peek_identifier", plain::peek_identifier, 20_000, 400_000),
     ("past", plain::past, 20_000, 400_000),
     ("record files", plain::record_files, 10_000, 200_000),

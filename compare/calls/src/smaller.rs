@@ -90,7 +90,7 @@ fn without(call: &Call, start: usize, width: usize) -> Call {
 }
 
 /// What makes a call plainer.
-const CHANGES: [fn(&mut Call); 13] = [
+const CHANGES: [fn(&mut Call); 14] = [
     |call| call.session.truncate(SESSION),
     |call| call.answer = call.answer.min(ANSWER),
     |call| call.list /= 2,
@@ -99,6 +99,7 @@ const CHANGES: [fn(&mut Call); 13] = [
     |call| call.pool = call.pool.saturating_sub(1),
     |call| call.end = call.end.min(1),
     |call| call.arguments.iter_mut().for_each(|argument| *argument /= 2),
+    |call| call.arguments.iter_mut().for_each(|argument| *argument = argument.saturating_sub(1)),
     |call| set(call, LINE, 1),
     |call| set(call, COLUMN, 1),
     clear_above,

@@ -59,7 +59,7 @@ pub fn most_steps(script: &[u8]) -> usize {
 }
 
 /// Room for any step.
-fn lend_ample(call: &mut Call) {
+pub fn lend_ample(call: &mut Call) {
     call.list = (call.number(TOKENS) + 2) * RECORD;
     call.pool = (call.number(BYTES) + call.source.len()).min(MOST_BYTES);
 }
@@ -81,7 +81,7 @@ fn step_in_small_tables(held: &mut Held, call: &mut Call, random: &mut Random) -
     lend_ample(call);
     let (tokens, bytes) = (call.number(TOKENS), call.number(BYTES));
     match held.hold(call)? {
-        Told::Short => Ok(None),
+        Told::Short | Told::Stopped { .. } => Ok(None),
         Told::Refused { number, .. } => {
             call.list = tokens * RECORD;
             call.pool = bytes;
@@ -107,7 +107,7 @@ fn step_in_small_tables(held: &mut Held, call: &mut Call, random: &mut Random) -
     }
 }
 
-/// Walks with readings, skips, pushes and pops between the steps, and parts of the script beside each.
+/// Steps with walks of some steps, readings, skips, pushes and pops between them, and parts of the script beside each.
 pub fn mixed_walks(held: &mut Held, count: usize, random: &mut Random) -> Result<(), String> {
     for _ in 0..count {
         let script = script(random);
@@ -118,7 +118,7 @@ pub fn mixed_walks(held: &mut Held, count: usize, random: &mut Random) -> Result
                 held.hold(&part_of(&call, random))?;
             }
             match held.hold(&call)? {
-                Told::Done { session, finished: false, .. } => call.session = session,
+                Told::Done { session, finished: false, .. } | Told::Stopped { session, .. } => call.session = session,
                 Told::Refused { .. } if random.below(3) > 0 => {}
                 _ => break,
             }
@@ -146,6 +146,9 @@ fn turn(call: &mut Call, random: &mut Random) {
     }
     if call.function.has_tables() {
         lend_ample(call);
+        if call.function == Function::Walk {
+            call.list += random.below(8) * RECORD;
+        }
         call.end = 1;
     } else {
         call.list = 0;

@@ -25,6 +25,7 @@ pub const READING: usize = 6;
 pub enum Function {
     Fresh,
     Step,
+    Walk,
     ReadNumber,
     ReadSingle,
     ReadDouble,
@@ -34,9 +35,10 @@ pub enum Function {
 }
 
 /// Every function with its name and how many arguments it has, in the order of `Function`.
-pub const FUNCTIONS: [(&str, Function, usize); 8] = [
+pub const FUNCTIONS: [(&str, Function, usize); 9] = [
     ("fresh", Function::Fresh, 1),
     ("step", Function::Step, 0),
+    ("walk", Function::Walk, 1),
     ("read_number", Function::ReadNumber, 0),
     ("read_single", Function::ReadSingle, 0),
     ("read_double", Function::ReadDouble, 0),
@@ -52,7 +54,12 @@ impl Function {
 
     /// Whether list and pool are lent to it, and whether the end is announced to it.
     pub fn has_tables(self) -> bool {
-        matches!(self, Function::Step | Function::ReadNumber | Function::ReadSingle | Function::ReadDouble)
+        matches!(self, Function::Step | Function::Walk) || self.is_reading()
+    }
+
+    /// Whether it reads one literal at the cursor of the script.
+    pub fn is_reading(self) -> bool {
+        matches!(self, Function::ReadNumber | Function::ReadSingle | Function::ReadDouble)
     }
 
     /// Whether source and answer are lent to it.
@@ -65,7 +72,7 @@ impl Function {
 #[derive(Clone, Debug, PartialEq, Eq)]
 pub struct Call {
     pub function: Function,
-    /// The reading of `fresh`, the count of `skip`, the frame, label start and label length of `push`.
+    /// The reading of `fresh`, the most steps of `walk`, the count of `skip`, the frame, label start and label length of `push`.
     pub arguments: Vec<usize>,
     /// The end is announced where this is not 0.
     pub end: u32,

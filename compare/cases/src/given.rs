@@ -1,12 +1,13 @@
 //! What a call gives: the number that comes back and all that the lent slices hold then. As text one of
-//! `refused NUMBER LINE COLUMN POSITION`, `short`, `done SESSION RECORDS VALUES`, `finished SESSION RECORDS VALUES`.
+//! `refused NUMBER LINE COLUMN POSITION`, `short`, `done SESSION RECORDS VALUES`, `finished SESSION RECORDS VALUES`,
+//! `stopped NUMBER LINE COLUMN POSITION SESSION RECORDS VALUES`.
 
 use crate::call::{
     answer_pattern, as_small, list_pattern, numbers, pool_pattern, read_session, small, write_numbers, write_session,
 };
 use crate::call::{Call, ANSWER, BYTES, RECORD, TOKENS};
 use crate::case::number;
-use crate::{hex, Span};
+use crate::{hex, Function, Span};
 
 /// Everything that can be seen of a call when it is over.
 #[derive(Clone, Debug, PartialEq, Eq)]
@@ -27,7 +28,13 @@ pub enum Told {
     Short,
     /// The records and value bytes stand behind the marks; session is the whole slice after the call.
     Done { finished: bool, session: Vec<u32>, records: Vec<[u32; RECORD]>, values: Vec<u8> },
+    /// A walk that is refused behind steps that were done: the refusal, and what these steps wrote.
+    Stopped { number: u32, span: Span, session: Vec<u32>, records: Vec<[u32; RECORD]>, values: Vec<u8> },
 }
+
+/// The session's slice, records and value bytes that a call wrote.
+pub type Written<'a> = (&'a [u32], &'a [[u32; RECORD]], &'a [u8]);
+type Owned = (Vec<u32>, Vec<[u32; RECORD]>, Vec<u8>);
 
 impl Given {
     /// The slices as they are before a call.
@@ -47,6 +54,15 @@ impl Given {
             Some(told) => told.write(out),
             None => out.extend_from_slice(self.odd(call).as_bytes()),
         }
+    }
+
+    /// The session's slice, and what stands between the marks before and after the call.
+    fn written(&self, call: &Call) -> Option<Owned> {
+        let mark = |place: usize| Some(*self.session.get(place)? as usize);
+        let list = self.list.get(call.number(TOKENS) * RECORD..mark(TOKENS)? * RECORD).unwrap_or(&[]);
+        let values = self.pool.get(call.number(BYTES)..mark(BYTES)?).unwrap_or(&[]).to_vec();
+        let records = list.chunks_exact(RECORD).map(|record| record.try_into().unwrap()).collect();
+        Some((self.session.clone(), records, values))
     }
 
     fn odd(&self, call: &Call) -> String {
@@ -84,18 +100,37 @@ impl Told {
         };
         match self {
             Told::Short => given.number = 10,
-            Told::Refused { number, span } => {
+            Told::Refused { number, span } | Told::Stopped { number, span, .. } => {
                 put_answer([2, *number as usize, span.line, span.column, span.position]);
                 given.number = *number;
             }
-            Told::Done { finished, session, records, values } => {
-                put_answer([usize::from(*finished), 0, 0, 0, 0]);
-                given.session.clone_from(session);
-                put(&records.concat(), call.number(TOKENS) * RECORD, &mut given.list);
-                put(values, call.number(BYTES), &mut given.pool);
-            }
+            Told::Done { finished, .. } => put_answer([usize::from(*finished), 0, 0, 0, 0]),
+        }
+        if let Some((session, records, values)) = self.written() {
+            given.session = session.to_vec();
+            put(&records.concat(), call.number(TOKENS) * RECORD, &mut given.list);
+            put(values, call.number(BYTES), &mut given.pool);
         }
         given
+    }
+
+    /// What the call wrote beside its answer, or none where nothing is written.
+    pub fn written(&self) -> Option<Written<'_>> {
+        match self {
+            Told::Short | Told::Refused { .. } => None,
+            Told::Done { session, records, values, .. } | Told::Stopped { session, records, values, .. } => {
+                Some((session, records, values))
+            }
+        }
+    }
+
+    /// The number that comes back, and the span of a refusal in the answer.
+    pub fn refusal(&self) -> (u32, Option<Span>) {
+        match self {
+            Told::Short => (10, None),
+            Told::Refused { number, span } | Told::Stopped { number, span, .. } => (*number, Some(*span)),
+            Told::Done { .. } => (0, None),
+        }
     }
 
     /// What a call came to, if what is given has one of the forms.
@@ -105,14 +140,17 @@ impl Told {
             None if given.number != 0 => Told::Refused { number: given.number, span: nowhere() },
             Some(2) if given.answer.len() >= ANSWER => {
                 let part = |place: usize| given.answer[place] as usize;
-                Told::Refused { number: given.number, span: Span { line: part(2), column: part(3), position: part(4) } }
+                let (number, span) = (given.number, Span { line: part(2), column: part(3), position: part(4) });
+                if given.session == call.session {
+                    Told::Refused { number, span }
+                } else {
+                    let (session, records, values) = given.written(call)?;
+                    Told::Stopped { number, span, session, records, values }
+                }
             }
             way => {
-                let mark = |place: usize| Some(*given.session.get(place)? as usize);
-                let list = given.list.get(call.number(TOKENS) * RECORD..mark(TOKENS)? * RECORD).unwrap_or(&[]);
-                let values = given.pool.get(call.number(BYTES)..mark(BYTES)?).unwrap_or(&[]).to_vec();
-                let records = list.chunks_exact(RECORD).map(|record| record.try_into().unwrap()).collect();
-                Told::Done { finished: way == Some(&1), session: given.session.clone(), records, values }
+                let (session, records, values) = given.written(call)?;
+                Told::Done { finished: way == Some(&1), session, records, values }
             }
         };
         (told.fits(call) && told.given(call) == *given).then(|| told)
@@ -121,16 +159,17 @@ impl Told {
     /// Whether there is room for it in the lent slices.
     fn fits(&self, call: &Call) -> bool {
         let has_room = call.answer >= ANSWER || !call.function.has_answer();
-        match self {
-            Told::Short => true,
-            Told::Refused { .. } => has_room,
-            Told::Done { session, records, values, .. } => {
-                has_room
-                    && session.len() == call.session.len()
-                    && (records.is_empty() || call.number(TOKENS) + records.len() <= call.list / RECORD)
-                    && (values.is_empty() || call.number(BYTES) + values.len() <= call.pool)
-            }
-        }
+        let has_form = match self {
+            Told::Short => return true,
+            Told::Stopped { .. } => call.function == Function::Walk,
+            Told::Refused { .. } | Told::Done { .. } => true,
+        };
+        let holds = |(session, records, values): Written| {
+            session.len() == call.session.len()
+                && (records.is_empty() || call.number(TOKENS) + records.len() <= call.list / RECORD)
+                && (values.is_empty() || call.number(BYTES) + values.len() <= call.pool)
+        };
+        has_room && has_form && self.written().map_or(true, holds)
     }
 
     /// What the text says of the call, or in plain words what is wrong with the text.
@@ -139,17 +178,19 @@ impl Told {
         let told = match (words[0], words.len()) {
             (b"short", 1) => Told::Short,
             (b"refused", 5) => {
-                let part = |place: usize| number("span's number", words[place]);
-                let span = Span { line: part(2)?, column: part(3)?, position: part(4)? };
-                Told::Refused { number: small("refusal", words[1])?, span }
+                let (number, span) = read_refusal(&words[1..])?;
+                Told::Refused { number, span }
             }
             (b"done" | b"finished", 4) => {
-                let mut values = Vec::new();
-                hex::read_repeats(words[3], &mut values).map_err(|wrong| format!("the values' word {}", wrong))?;
-                let (session, records) = (read_session(words[1])?, read_records(words[2])?);
+                let (session, records, values) = read_written(&words[1..])?;
                 Told::Done { finished: words[0] == b"finished", session, records, values }
             }
-            _ => return Err("what is given is refused.., short, done.. or finished..".to_string()),
+            (b"stopped", 8) => {
+                let (number, span) = read_refusal(&words[1..])?;
+                let (session, records, values) = read_written(&words[5..])?;
+                Told::Stopped { number, span, session, records, values }
+            }
+            _ => return Err("what is given is refused.., short, done.., finished.. or stopped..".to_string()),
         };
         if !told.fits(call) {
             return Err("what is given does not fit into the slices of the call".to_string());
@@ -159,22 +200,40 @@ impl Told {
 
     /// Appends the text, without a line break.
     pub fn write(&self, out: &mut Vec<u8>) {
-        match self {
-            Told::Short => out.extend_from_slice(b"short"),
-            Told::Refused { number, span } => {
-                let text = format!("refused {} {} {} {}", number, span.line, span.column, span.position);
-                out.extend_from_slice(text.as_bytes());
-            }
-            Told::Done { finished, session, records, values } => {
-                out.extend_from_slice(if *finished { b"finished " } else { b"done " });
-                write_session(session, out);
-                out.push(b' ');
-                write_records(records, out);
-                out.push(b' ');
-                hex::write_repeats(values, out);
-            }
+        let word = match self {
+            Told::Short => "short",
+            Told::Refused { .. } => "refused",
+            Told::Done { finished: false, .. } => "done",
+            Told::Done { finished: true, .. } => "finished",
+            Told::Stopped { .. } => "stopped",
+        };
+        out.extend_from_slice(word.as_bytes());
+        if let (number, Some(span)) = self.refusal() {
+            let text = format!(" {} {} {} {}", number, span.line, span.column, span.position);
+            out.extend_from_slice(text.as_bytes());
+        }
+        if let Some((session, records, values)) = self.written() {
+            out.push(b' ');
+            write_session(session, out);
+            out.push(b' ');
+            write_records(records, out);
+            out.push(b' ');
+            hex::write_repeats(values, out);
         }
     }
+}
+
+/// `NUMBER LINE COLUMN POSITION` in the first four words.
+fn read_refusal(words: &[&[u8]]) -> Result<(u32, Span), String> {
+    let part = |place: usize| number("span's number", words[place]);
+    Ok((small("refusal", words[0])?, Span { line: part(1)?, column: part(2)?, position: part(3)? }))
+}
+
+/// `SESSION RECORDS VALUES` in three words.
+fn read_written(words: &[&[u8]]) -> Result<Owned, String> {
+    let mut values = Vec::new();
+    hex::read_repeats(words[2], &mut values).map_err(|wrong| format!("the values' word {}", wrong))?;
+    Ok((read_session(words[0])?, read_records(words[1])?, values))
 }
 
 /// Puts the items at a place; for none, any place will do.

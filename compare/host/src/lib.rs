@@ -2,7 +2,7 @@
 
 mod library;
 
-pub use library::{file_to_list, fresh, list_to_file, make_on, past, peek_identifier, step, Slices};
+pub use library::{file_to_list, fresh, list_to_file, make_on, past, peek_identifier, step, walk, Slices};
 
 use cases::call::{answer_pattern, list_pattern, pool_pattern};
 use cases::{Call, Given};

@@ -41,6 +41,20 @@ type Reading = unsafe extern "C" fn(
 readings!(puretakoi_step puretakoi_read_number puretakoi_read_single puretakoi_read_double);
 
 extern "C" {
+    fn puretakoi_walk(
+        src: *const u8,
+        src_len: usize,
+        end: u32,
+        most: u32,
+        session: *mut u32,
+        session_len: usize,
+        list: *mut u32,
+        list_len: usize,
+        pool: *mut u8,
+        pool_len: usize,
+        answer: *mut u32,
+        answer_len: usize,
+    ) -> u32;
     fn puretakoi_fresh(reading: u32, session: *mut u32, session_len: usize) -> u32;
     fn puretakoi_skip(
         src: *const u8,
@@ -97,10 +111,17 @@ pub fn step(end: bool, lent: Slices) -> u32 {
     read_by(puretakoi_step, end as u32, lent)
 }
 
+/// At most `most` steps in one call, with no guards; the refusal or 0.
+#[inline]
+pub fn walk(end: bool, most: u32, lent: Slices) -> u32 {
+    walk_by(end as u32, most, lent)
+}
+
 /// Makes the call's function on the slices, with the call's numbers, and gives its refusal or 0.
 pub fn make_on(call: &Call, lent: Slices) -> u32 {
     let reading = match call.function {
         Function::Step => puretakoi_step,
+        Function::Walk => return walk_by(call.end, call.arguments[0] as u32, lent),
         Function::ReadNumber => puretakoi_read_number,
         Function::ReadSingle => puretakoi_read_single,
         Function::ReadDouble => puretakoi_read_double,
@@ -118,6 +139,27 @@ fn read_by(reading: Reading, end: u32, lent: Slices) -> u32 {
             source.as_ptr(),
             source.len(),
             end,
+            session.as_mut_ptr(),
+            session.len(),
+            list.as_mut_ptr(),
+            list.len(),
+            pool.as_mut_ptr(),
+            pool.len(),
+            answer.as_mut_ptr(),
+            answer.len(),
+        )
+    }
+}
+
+#[inline]
+fn walk_by(end: u32, most: u32, lent: Slices) -> u32 {
+    let Slices { source, session, list, pool, answer } = lent;
+    unsafe {
+        puretakoi_walk(
+            source.as_ptr(),
+            source.len(),
+            end,
+            most,
             session.as_mut_ptr(),
             session.len(),
             list.as_mut_ptr(),

@@ -1,5 +1,6 @@
 //! What each call of the host's boundary must give, without the proved library: document 01 told in plain Rust, layer by layer.
 //! In order: slices that are too short, the gate (11, 12), 10, the outcome with tables of any size (6, 1 to 5, 13, 9), then 7 and 8.
+//! A walk is told by its steps.
 
 pub mod bytes;
 pub mod outcome;
@@ -30,6 +31,9 @@ impl Teller {
         if call.session.len() < SESSION || call.answer < ANSWER {
             return Told::Short;
         }
+        if call.function == Function::Walk {
+            return self.walked(call);
+        }
         if is_too_large(call) {
             return refused(11, START);
         }
@@ -41,12 +45,35 @@ impl Teller {
             Function::Skip => skipped(call, session),
             Function::Push => pushed(call, session),
             Function::Pop => popped(call, session),
-            Function::Fresh | Function::Step => self.turned(call, session),
+            Function::Fresh | Function::Step | Function::Walk => self.turned(call, session),
             Function::ReadNumber | Function::ReadSingle | Function::ReadDouble => match session.top().0 {
                 Frame::Scripting => self.turned(call, session),
                 _ => refused(10, session.span),
             },
         }
+    }
+
+    /// At most so many steps, each on the session and the marks that the one before left, until one is not done.
+    fn walked(&mut self, call: &Call) -> Told {
+        let mut step = Call { function: Function::Step, arguments: Vec::new(), ..call.clone() };
+        let (mut records, mut values) = (Vec::new(), Vec::new());
+        for made in 0..call.arguments[0] {
+            match self.told(&step) {
+                Told::Done { finished, session, records: new, values: more } => {
+                    step.session = session;
+                    records.extend(new);
+                    values.extend(more);
+                    if finished {
+                        return Told::Done { finished, session: step.session, records, values };
+                    }
+                }
+                Told::Refused { number, span } if made > 0 => {
+                    return Told::Stopped { number, span, session: step.session, records, values };
+                }
+                refused => return refused,
+            }
+        }
+        Told::Done { finished: false, session: step.session, records, values }
     }
 
     /// A step or reading of a good session.

@@ -7,6 +7,7 @@ mod hosts;
 mod limits;
 mod routines;
 mod sessions;
+mod walks;
 
 use std::collections::{BTreeSet, HashSet};
 use std::io;
@@ -22,13 +23,13 @@ const ORIGIN: &str =
      # compare/telling tells of document 01. The library had no part in it. compare/oracle/make-answers makes it again.";
 
 /// The list has at least and at most this many calls.
-const LEAST: usize = 5_500;
-const MOST: usize = 6_500;
+const LEAST: usize = 6_000;
+const MOST: usize = 7_000;
 
 /// A group's name, what it holds, and its calls.
 type Group = (&'static str, &'static str, fn(&mut Random, &mut Teller) -> Vec<Call>);
 
-const EDGES: [Group; 6] = [
+const EDGES: [Group; 7] = [
     ("parts", "parts with more announced, which wait or are settled, in each mode and reading", edges::parts),
     ("tables", "list and pool just large enough, and too small by one, in each mode and reading", edges::tables),
     (
@@ -39,7 +40,11 @@ const EDGES: [Group; 6] = [
     ("limits", "65,535 to 65,537 bytes, 63 to 65 frames, labels of 64 and 65 bytes, the largest tables", limits::calls),
     ("hosts", "fresh, skip, push and pop", hosts::calls),
     ("slices", "sessions and answers that are too short, which is seen before anything else", hosts::short_slices),
+    ("walk", "scripts walked in one call: with any most, in parts, in tables that fill on the way", walks::calls),
 ];
+
+/// Refusals by which a walk can be stopped behind steps that were done.
+const STOPPING: [u32; 10] = [1, 2, 3, 4, 5, 6, 7, 8, 9, 13];
 
 /// What the list as a whole has met.
 #[derive(Default)]
@@ -47,6 +52,7 @@ struct Met {
     calls: usize,
     refusals: BTreeSet<u32>,
     kinds: BTreeSet<u32>,
+    stops: BTreeSet<u32>,
 }
 
 fn main() -> io::Result<()> {
@@ -67,6 +73,7 @@ fn main() -> io::Result<()> {
     assert!(met.calls >= LEAST && met.calls <= MOST, "the list has {} calls", met.calls);
     assert_eq!(met.refusals, (1..=13).collect(), "each refusal is met");
     assert_eq!(met.kinds, (1..=20).collect(), "each kind is met");
+    assert_eq!(met.stops, BTreeSet::from(STOPPING), "a walk is stopped by each refusal that can stop it");
     Ok(())
 }
 
@@ -100,10 +107,12 @@ fn write_group(
 impl Met {
     fn add(&mut self, told: &Told) {
         self.calls += 1;
-        match told {
-            Told::Refused { number, .. } => drop(self.refusals.insert(*number)),
-            Told::Short => drop(self.refusals.insert(10)),
-            Told::Done { records, .. } => self.kinds.extend(records.iter().map(|record| record[0])),
+        self.refusals.extend(Some(told.refusal().0).filter(|number| *number != 0));
+        if let Some((_, records, _)) = told.written() {
+            self.kinds.extend(records.iter().map(|record| record[0]));
+        }
+        if let Told::Stopped { number, .. } = told {
+            self.stops.insert(*number);
         }
     }
 }
