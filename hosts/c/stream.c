@@ -1,4 +1,4 @@
-/* Reads a script in pieces, steps as the bytes come, and prints its tokens as the program `rows` does, for up to 65,536 bytes:
+/* Reads a script in pieces, walks as the bytes come, and prints its tokens as the program `rows` does, for up to 65,536 bytes:
  * stream [-p PIECE] [FILE], where the pieces have PIECE bytes (else 4096) and a script without FILE comes from standard input.
  * The output is the same for every PIECE. Status: 0 for a script read to its end, 1 for one refused, 2 for a wrong call or file. */
 #include <errno.h>
@@ -9,7 +9,7 @@
 
 #include "puretakoi.h"
 
-enum { STEP_TOKENS = 2, DEFAULT_PIECE = 4096 };
+enum { PLACES = 512, DEFAULT_PIECE = 4096 };
 enum { STATUS_READ = 0, STATUS_REFUSED = 1, STATUS_FAULT = 2 };
 
 /* What the command line asks for; `file` is null for standard input. */
@@ -18,12 +18,12 @@ struct request {
     const char *file;
 };
 
-/* All bytes so far, one more than a script may have, and a session over them. List and pool have room for any one step. */
+/* All bytes so far, one more than a script may have, and a session over them. List and pool have room for many steps. */
 struct host {
     uint8_t script[PURETAKOI_MOST_BYTES + 1];
     size_t filled;
     uint32_t session[PURETAKOI_SESSION];
-    uint32_t list[STEP_TOKENS * PURETAKOI_RECORD];
+    uint32_t list[PLACES * PURETAKOI_RECORD];
     uint8_t pool[PURETAKOI_MOST_BYTES];
     uint32_t answer[PURETAKOI_ANSWER];
 };
@@ -90,24 +90,25 @@ static void print_refusal(const uint32_t *answer) {
            answer[PURETAKOI_ANSWER_POSITION]);
 }
 
-/* One step over the first `len` bytes; the refusal, or 0. */
-static uint32_t step(struct host *host, size_t len, bool end) {
-    return puretakoi_step(host->script, len, end, host->session, PURETAKOI_SESSION, host->list, STEP_TOKENS * PURETAKOI_RECORD,
-                          host->pool, sizeof host->pool, host->answer, PURETAKOI_ANSWER);
+/* Whether a walk was refused only because it filled a table: the rows are printed, and the next walk goes on. */
+static bool is_full(uint32_t refusal, uint32_t tokens) {
+    return (refusal == PURETAKOI_LIST_FULL || refusal == PURETAKOI_POOL_FULL) && 0 < tokens;
 }
 
-/* Steps over the first `len` bytes until they wait for more, are read to their end, or are refused. */
+/* Walks over the first `len` bytes until they wait for more, are read to their end, or are refused. */
 static enum state walk(struct host *host, size_t len, bool end) {
     for (;;) {
-        uint32_t refusal = step(host, len, end);
+        uint32_t refusal = puretakoi_walk(host->script, len, end, UINT32_MAX, host->session, PURETAKOI_SESSION, host->list,
+                                          PLACES * PURETAKOI_RECORD, host->pool, sizeof host->pool, host->answer, PURETAKOI_ANSWER);
+        uint32_t tokens = host->session[PURETAKOI_TOKENS];
+        print_rows(host);
         if (refusal == PURETAKOI_WAIT) {
             return WAITING;
         }
-        if (refusal != 0) {
+        if (refusal != 0 && !is_full(refusal, tokens)) {
             print_refusal(host->answer);
             return REFUSED;
         }
-        print_rows(host);
         if (host->answer[PURETAKOI_ANSWER_WAY] == PURETAKOI_FINISHED) {
             printf("end %u\n", host->session[PURETAKOI_POSITION]);
             return ENDED;
@@ -115,7 +116,7 @@ static enum state walk(struct host *host, size_t len, bool end) {
     }
 }
 
-/* Steps over all bytes so far. Of too many the first 65,536 are read, so that the rows don't depend on the pieces; then the library
+/* Walks over all bytes so far. Of too many the first 65,536 are read, so that the rows don't depend on the pieces; then the library
  * refuses them. */
 static enum state walk_so_far(struct host *host, bool end) {
     if (host->filled <= PURETAKOI_MOST_BYTES) {
@@ -125,7 +126,7 @@ static enum state walk_so_far(struct host *host, bool end) {
     return state == WAITING ? walk(host, host->filled, false) : state;
 }
 
-/* Reads a piece, steps, shows the rows, and so on; the program's status. */
+/* Reads a piece, walks, shows the rows, and so on; the program's status. */
 static int read_script(struct host *host, FILE *in, const struct request *request) {
     enum state state = WAITING;
     puretakoi_fresh(PURETAKOI_READING_PORTED, host->session, PURETAKOI_SESSION);

@@ -7,6 +7,20 @@ use crate::numbers::layout::{ANSWER, SESSION};
 
 extern "C" {
     fn puretakoi_fresh(reading: u32, session: *mut u32, session_len: usize) -> u32;
+    fn puretakoi_walk(
+        src: *const u8,
+        src_len: usize,
+        end: u32,
+        most: u32,
+        session: *mut u32,
+        session_len: usize,
+        list: *mut u32,
+        list_len: usize,
+        pool: *mut u8,
+        pool_len: usize,
+        answer: *mut u32,
+        answer_len: usize,
+    ) -> u32;
     fn puretakoi_skip(
         src: *const u8,
         src_len: usize,
@@ -101,6 +115,30 @@ pub fn fresh(reading: u32) -> Numbers {
     let mut session = [0; SESSION];
     unsafe { puretakoi_fresh(reading, session.as_mut_ptr(), SESSION) };
     session
+}
+
+/// At most `most` steps on lent slices.
+pub fn walk(src: &[u8], end: u32, most: u32, session: &mut Numbers, list: &mut [u32], pool: &mut [u8]) -> Answer {
+    let mut answer = [0; ANSWER];
+    let (numbers, answered) = (session.as_mut_ptr(), answer.as_mut_ptr());
+    let (places, values) = (list.as_mut_ptr(), pool.as_mut_ptr());
+    unsafe {
+        puretakoi_walk(
+            src.as_ptr(),
+            src.len(),
+            end,
+            most,
+            numbers,
+            SESSION,
+            places,
+            list.len(),
+            values,
+            pool.len(),
+            answered,
+            ANSWER,
+        )
+    };
+    answer
 }
 
 /// The cursor goes on.

@@ -1,7 +1,8 @@
 //! Puretakoi for hosts in Rust: the proved reader of PHP scripts behind calls that can't be misused.
 //!
-//! `Stream` reads a script that comes in parts and gives its tokens; `Session` is the library's own step, with lent tables.
-//! What can't be taken is refused by its number, and session and tables are then as they were. No call panics.
+//! `Stream` reads a script that comes in parts and gives its tokens; `Session` is the library's own walk and step, with lent tables.
+//! What can't be taken is refused by its number, and session and tables are then as they were; what the steps of a walk before it wrote
+//! stays. No call panics.
 //!
 //! ```
 //! use puretakoi::{Event, Reading, Stream};
@@ -13,7 +14,7 @@
 //! let mut values = Vec::new();
 //! let end = loop {
 //!     match stream.next() {
-//!         Event::Step(tokens) => values.extend(tokens.into_iter().map(|token| token.value)),
+//!         Event::Tokens(tokens) => values.extend(tokens.into_iter().map(|token| token.value)),
 //!         Event::Wait => unreachable!("the end is announced"),
 //!         Event::Finished(position) => break position,
 //!         Event::Refused(refusal) => return Err(refusal),

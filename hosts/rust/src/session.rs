@@ -1,4 +1,4 @@
-//! A session and its calls: the step, the readings, skip, push and pop.
+//! A session and its calls: the walk, the step, the readings, skip, push and pop.
 
 use std::fmt;
 
@@ -17,6 +17,12 @@ pub enum End {
     More,
     /// The source is the whole script.
     Announced,
+}
+
+impl End {
+    fn number(self) -> u32 {
+        u32::from(self == End::Announced)
+    }
 }
 
 /// What a call that was not refused came to.
@@ -115,7 +121,22 @@ impl Session {
         self.numbers[BYTES] = 0;
     }
 
-    /// One step from the cursor on. New records and value bytes stand behind the fill marks.
+    /// At most `most` steps from the cursor on, up to one that is not done: much faster than a call for each. New records and value
+    /// bytes stand behind the fill marks. Where a step is refused, the session stands before it, and what the steps before it wrote
+    /// stays; where that is the first step, all is as it was. So after 7 or 8 take the tokens, empty the tables and walk on.
+    pub fn walk(
+        &mut self,
+        src: &[u8],
+        end: End,
+        most: u32,
+        list: &mut [u32],
+        pool: &mut [u8],
+    ) -> Result<Progress, Refusal> {
+        progress(foreign::walk(src, end.number(), most, &mut self.numbers, list, pool))
+    }
+
+    /// One step from the cursor on, for a host that looks at the session before each. New records and value bytes stand behind the
+    /// fill marks.
     pub fn step(&mut self, src: &[u8], end: End, list: &mut [u32], pool: &mut [u8]) -> Result<Progress, Refusal> {
         self.read(Call::Step, src, end, list, pool)
     }
@@ -176,8 +197,7 @@ impl Session {
         list: &mut [u32],
         pool: &mut [u8],
     ) -> Result<Progress, Refusal> {
-        let announced = u32::from(end == End::Announced);
-        progress(foreign::read(call, src, announced, &mut self.numbers, list, pool))
+        progress(foreign::read(call, src, end.number(), &mut self.numbers, list, pool))
     }
 }
 

@@ -1,15 +1,15 @@
-//! A script that comes in parts: its bytes, its session, and tables with room for any step.
+//! A script that comes in parts: its bytes, its session, and tables with room for many steps.
 
 use crate::frame::Reading;
 use crate::numbers::layout::RECORD;
 use crate::numbers::limits::MOST_BYTES;
-use crate::numbers::refusals::{OUT_OF_PLACE, WAIT};
+use crate::numbers::refusals::{LIST_FULL, OUT_OF_PLACE, POOL_FULL, WAIT};
 use crate::record::{kind_name, Record};
 use crate::refusal::{Refusal, Span};
 use crate::session::{End, Progress, Session};
 
-/// A step writes at most two tokens.
-const STEP_TOKENS: usize = 2;
+/// How many tokens the list has room for; two are enough for any step.
+const PLACES: usize = 512;
 
 /// A token with its value.
 #[derive(Clone, Debug, PartialEq, Eq, Hash)]
@@ -34,8 +34,8 @@ impl Token {
 /// What comes next in a stream.
 #[derive(Clone, Debug, PartialEq, Eq)]
 pub enum Event {
-    /// A step and its tokens, of which there may be none.
-    Step(Vec<Token>),
+    /// The next tokens, as many as were read at once.
+    Tokens(Vec<Token>),
     /// More of the script must be fed, or its end announced.
     Wait,
     /// The script is read to its end, which is this position.
@@ -49,9 +49,9 @@ pub struct Stream {
     source: Vec<u8>,
     end: End,
     session: Session,
-    list: [u32; STEP_TOKENS * RECORD],
+    list: Vec<u32>,
     pool: Vec<u8>,
-    last: Option<Event>,
+    behind: Option<Event>,
 }
 
 impl Stream {
@@ -61,9 +61,9 @@ impl Stream {
             source: Vec::new(),
             end: End::More,
             session: Session::fresh(reading),
-            list: [0; STEP_TOKENS * RECORD],
+            list: vec![0; PLACES * RECORD],
             pool: vec![0; MOST_BYTES],
-            last: None,
+            behind: None,
         }
     }
 
@@ -75,12 +75,14 @@ impl Stream {
         }
         let room = MOST_BYTES + 1 - self.source.len();
         self.source.extend_from_slice(&part[..part.len().min(room)]);
+        self.end_wait();
         Ok(())
     }
 
     /// Announces the script's end.
     pub fn finish(&mut self) {
         self.end = End::Announced;
+        self.end_wait();
     }
 
     /// The bytes that were fed so far, no more than 65,537 of them.
@@ -88,48 +90,52 @@ impl Stream {
         &self.source
     }
 
-    /// Where the script is being read.
+    /// Where the script is being read: behind the tokens that were given.
     pub fn session(&self) -> &Session {
         &self.session
     }
 
-    /// One step, or why there is none. The last event, finished or refused, comes again from then on.
+    /// The next tokens, or why there are none. Wait comes again until more is fed or the end announced; finished and refused come
+    /// again from then on.
     #[allow(clippy::should_implement_trait)]
     pub fn next(&mut self) -> Event {
-        if let Some(last) = &self.last {
-            return last.clone();
+        if let Some(behind) = &self.behind {
+            return behind.clone();
         }
-        match self.step() {
-            Ok(Progress::Done) => Event::Step(self.take_tokens()),
-            Ok(Progress::Finished) => {
-                let finished = Event::Finished(self.session.position());
-                self.last = Some(finished.clone());
-                match self.take_tokens() {
-                    tokens if tokens.is_empty() => finished,
-                    tokens => Event::Step(tokens),
-                }
-            }
-            Err(Refusal { number: WAIT, .. }) => Event::Wait,
-            Err(refusal) => {
-                self.last = Some(Event::Refused(refusal));
-                Event::Refused(refusal)
-            }
+        let answer = self.walk();
+        let tokens = self.take_tokens();
+        self.behind = match answer {
+            Ok(Progress::Done) => None,
+            Ok(Progress::Finished) => Some(Event::Finished(self.session.position())),
+            Err(Refusal { number: WAIT, .. }) => Some(Event::Wait),
+            // The tables are empty again, so the walk goes on.
+            Err(Refusal { number: LIST_FULL | POOL_FULL, .. }) if !tokens.is_empty() => None,
+            Err(refusal) => Some(Event::Refused(refusal)),
+        };
+        match &self.behind {
+            Some(behind) if tokens.is_empty() => behind.clone(),
+            _ => Event::Tokens(tokens),
         }
     }
 
-    /// One step over all bytes so far. Of too many the first 65,536 are read until they wait; then the library refuses all.
-    fn step(&mut self) -> Result<Progress, Refusal> {
+    /// What was waited for may be there.
+    fn end_wait(&mut self) {
+        self.behind = self.behind.take().filter(|behind| *behind != Event::Wait);
+    }
+
+    /// A walk over all bytes so far. Of too many the first 65,536 are read until they wait; then the library refuses all.
+    fn walk(&mut self) -> Result<Progress, Refusal> {
         let Stream { source, end, session, list, pool, .. } = self;
         if source.len() <= MOST_BYTES {
-            return session.step(source, *end, list, pool);
+            return session.walk(source, *end, u32::MAX, list, pool);
         }
-        match session.step(&source[..MOST_BYTES], End::More, list, pool) {
-            Err(Refusal { number: WAIT, .. }) => session.step(source, End::More, list, pool),
+        match session.walk(&source[..MOST_BYTES], End::More, u32::MAX, list, pool) {
+            Err(Refusal { number: WAIT, .. }) => session.walk(source, End::More, u32::MAX, list, pool),
             answer => answer,
         }
     }
 
-    /// The tokens of the last step; the tables are empty again.
+    /// The tokens of the last walk; the tables are empty again.
     fn take_tokens(&mut self) -> Vec<Token> {
         let pool = &self.pool;
         let with_value = |record: Record| Token {

@@ -17,7 +17,8 @@ impl Tables {
 type Call = fn(&mut Session, &[u8], &mut Tables) -> Result<(), Refusal>;
 
 /// Every call with a session.
-const CALLS: [(&str, Call); 7] = [
+const CALLS: [(&str, Call); 8] = [
+    ("walk", |session, src, to| session.walk(src, End::Announced, 9, &mut to.list, &mut to.pool).map(drop)),
     ("step", |session, src, to| session.step(src, End::Announced, &mut to.list, &mut to.pool).map(drop)),
     ("read_number", |session, src, to| session.read_number(src, End::Announced, &mut to.list, &mut to.pool).map(drop)),
     ("read_single", |session, src, to| session.read_single(src, End::Announced, &mut to.list, &mut to.pool).map(drop)),

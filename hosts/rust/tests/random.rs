@@ -3,7 +3,7 @@
 use cases::pieces::script;
 use cases::random::Random;
 use puretakoi::{
-    limits, records, refusals, End, Event, Frame, Label, Progress, Reading, Refusal, Session, Span, Stream,
+    limits, records, refusals, End, Event, Frame, Label, Progress, Reading, Refusal, Session, Span, Stream, Token,
 };
 
 const TRIES: usize = 20_000;
@@ -20,8 +20,9 @@ struct Lent {
 fn call(lent: &mut Lent, src: &[u8], random: &mut Random) -> Result<(), Refusal> {
     let Lent { session, list, pool } = lent;
     let end = if random.below(2) == 0 { End::More } else { End::Announced };
-    match random.below(7) {
+    match random.below(8) {
         0 => session.step(src, end, list, pool).map(drop),
+        7 => session.walk(src, end, 1, list, pool).map(drop),
         1 => session.read_number(src, end, list, pool).map(drop),
         2 => session.read_single(src, end, list, pool).map(drop),
         3 => session.read_double(src, end, list, pool).map(drop),
@@ -91,25 +92,21 @@ fn a_refused_call_leaves_everything() {
     }
 }
 
-/// All events of a script that is fed in parts of random sizes, up to the largest, steps without a token left out.
-fn events(src: &[u8], largest: usize, reading: Reading, random: &mut Random) -> Vec<Event> {
+/// The tokens and the last event of a script that is fed in parts of random sizes, up to the largest.
+fn read(src: &[u8], largest: usize, reading: Reading, random: &mut Random) -> (Vec<Token>, Event) {
     let mut stream = Stream::new(reading);
     let mut rest = src;
-    let mut all = Vec::new();
+    let mut tokens = Vec::new();
     loop {
         match stream.next() {
-            Event::Step(tokens) if tokens.is_empty() => {}
-            Event::Step(tokens) => all.push(Event::Step(tokens)),
+            Event::Tokens(more) => tokens.extend(more),
             Event::Wait if rest.is_empty() => stream.finish(),
             Event::Wait => {
                 let (part, behind) = rest.split_at(rest.len().min(random.below(largest) + 1));
                 stream.feed(part).unwrap();
                 rest = behind;
             }
-            last => {
-                all.push(last);
-                return all;
-            }
+            last => return (tokens, last),
         }
     }
 }
@@ -123,28 +120,24 @@ fn parts_of_any_size_give_the_same() {
             _ => [script(&mut random), script(&mut random)].concat(),
         };
         for reading in [Reading::Ported, Reading::Sheet] {
-            let whole = events(&src, limits::MOST_BYTES, reading, &mut random);
-            assert_eq!(events(&src, 5, reading, &mut random), whole, "{:?}", src);
+            let whole = read(&src, limits::MOST_BYTES, reading, &mut random);
+            assert_eq!(read(&src, 5, reading, &mut random), whole, "{:?}", src);
         }
     }
 }
 
-/// List and pool of a walk hold, one behind another, the tokens that a stream gives.
+/// List and pool of one step after another hold the tokens that a stream gives.
 #[test]
-fn a_stream_gives_what_a_walk_writes() {
+fn a_stream_gives_what_steps_write() {
     let mut random = Random::new(3);
     for _ in 0..TRIES / 10 {
         let src = script(&mut random);
         let (mut session, mut list, mut pool) = (Session::fresh(Reading::Sheet), vec![0; 8 * 500], vec![0; 500]);
         while session.step(&src, End::Announced, &mut list, &mut pool) == Ok(Progress::Done) {}
         list.truncate(8 * session.tokens() as usize);
-        let walked = records(&list).map(|record| (record.kind, record.span, record.value(&pool).unwrap().to_vec()));
-        let mut streamed = Vec::new();
-        for event in events(&src, 9, Reading::Sheet, &mut random) {
-            if let Event::Step(tokens) = event {
-                streamed.extend(tokens.into_iter().map(|token| (token.kind, token.span, token.value)));
-            }
-        }
-        assert_eq!(walked.collect::<Vec<_>>(), streamed, "{:?}", src);
+        let stepped = records(&list).map(|record| (record.kind, record.span, record.value(&pool).unwrap().to_vec()));
+        let (tokens, _last) = read(&src, 9, Reading::Sheet, &mut random);
+        let streamed: Vec<_> = tokens.into_iter().map(|token| (token.kind, token.span, token.value)).collect();
+        assert_eq!(stepped.collect::<Vec<_>>(), streamed, "{:?}", src);
     }
 }

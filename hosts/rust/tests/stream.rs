@@ -9,7 +9,7 @@ fn read(script: &[u8], size: usize, reading: Reading) -> (Vec<Token>, Event) {
     let mut tokens = Vec::new();
     loop {
         match stream.next() {
-            Event::Step(more) => tokens.extend(more),
+            Event::Tokens(more) => tokens.extend(more),
             Event::Wait => match parts.next() {
                 Some(part) => stream.feed(part).unwrap(),
                 None => stream.finish(),
@@ -60,13 +60,45 @@ fn the_last_event_comes_again_and_nothing_can_be_added() {
     assert_eq!(stream.feed(b"s"), Err(Refusal { number: refusals::OUT_OF_PLACE, span: Span::START }));
     assert_eq!(stream.source(), b"row");
     match stream.next() {
-        Event::Step(tokens) => assert_eq!(tokens[0].value, b"row"),
+        Event::Tokens(tokens) => assert_eq!(tokens[0].value, b"row"),
         other => panic!("{:?}", other),
     }
     for _ in 0..2 {
         assert_eq!(stream.next(), Event::Finished(3));
     }
     assert_eq!(stream.session().position(), 3);
+}
+
+/// Tokens that came before a wait are given before it, and the wait comes again until something is fed.
+#[test]
+fn a_wait_stands_behind_its_tokens() {
+    let mut stream = Stream::new(Reading::Ported);
+    stream.feed(b"<?php 1; 'ker").unwrap();
+    match stream.next() {
+        Event::Tokens(tokens) => assert_eq!(tokens.len(), 2),
+        other => panic!("{:?}", other),
+    }
+    assert_eq!((stream.next(), stream.next()), (Event::Wait, Event::Wait));
+    assert_eq!(stream.session().position(), 9);
+    stream.feed(b"b'").unwrap();
+    match stream.next() {
+        Event::Tokens(tokens) => assert_eq!(tokens[0].value, b"kerb"),
+        other => panic!("{:?}", other),
+    }
+    stream.finish();
+    assert_eq!(stream.next(), Event::Finished(15));
+}
+
+/// More tokens than are read at once, and a refusal behind them.
+#[test]
+fn many_tokens_come_in_their_order() {
+    let script = [&b"<?php "[..], &b"1;".repeat(5_000), b"'"].concat();
+    for size in [100, usize::MAX] {
+        let (tokens, last) = read(&script, size, Reading::Ported);
+        let places: Vec<u32> = tokens.iter().skip(1).map(|token| token.span.position).collect();
+        assert_eq!(places, (0..5_000).map(|place| 6 + 2 * place).collect::<Vec<_>>());
+        assert_eq!(last, refused(refusals::UNEXPECTED_END_OF_FILE, 1, 10_008, 10_007));
+    }
 }
 
 /// A quoted string of as many bytes as the library takes, and of one more.

@@ -1,4 +1,4 @@
-//! Reads a script in pieces, steps as the bytes come, and prints its tokens as the program rows does, for up to 65,536 bytes:
+//! Reads a script in pieces, walks as the bytes come, and prints its tokens as the program rows does, for up to 65,536 bytes:
 //! `stream [-p PIECE] [FILE]`, where the pieces have PIECE bytes (else 4096) and a script without FILE comes from standard input.
 //! The output is the same for every PIECE. Status: 0 for a script read to its end, 1 for one refused, 2 for a wrong call or file.
 
@@ -73,12 +73,12 @@ fn unwritable(why: io::Error) -> String {
     format!("standard output can't be written ({}): make room for it", why)
 }
 
-/// Reads a piece, steps, shows the rows, and so on; the program's status.
+/// Reads a piece, walks, shows the rows, and so on; the program's status.
 fn read_script(mut input: impl Read, request: &Request, out: &mut impl Write) -> Result<i32, String> {
     let mut stream = Stream::new(Reading::Ported);
     loop {
         match stream.next() {
-            Event::Step(tokens) => print_rows(&tokens, out).map_err(unwritable)?,
+            Event::Tokens(tokens) => print_rows(&tokens, out).map_err(unwritable)?,
             Event::Wait => {
                 out.flush().map_err(unwritable)?;
                 feed_piece(&mut stream, &mut input, request)?;

@@ -8,6 +8,7 @@ pub mod fault;
 pub mod files;
 pub mod html;
 pub mod jobs;
+pub mod reader;
 pub mod sheet;
 pub mod shown;
 pub mod terminal;

@@ -1,8 +1,9 @@
 //! A script as a sheet: its nowdoc blocks by the sheet reading, and how the reading ended.
 
-use puretakoi::{kinds, refusals, Event, Frame, Reading, Refusal, Session, Span, Stream, Token};
+use puretakoi::{kinds, Frame, Session, Span};
 
 use crate::fault::Fault;
+use crate::reader::{Reader, Step};
 
 /// What a script was read as.
 #[derive(Debug)]
@@ -69,33 +70,18 @@ impl Block {
 impl Sheet {
     /// Reads a script to its end or to its first refusal.
     pub fn read(script: &[u8]) -> Sheet {
-        let mut stream = Stream::new(Reading::Sheet);
-        // A stream whose end is not announced takes every part.
-        stream.feed(script).ok();
-        stream.finish();
-        let mut openings = Openings { spans: vec![Span::START] };
+        let mut reader = Reader::new(script);
         let mut blocks = Vec::new();
-        loop {
-            let before = stream.session().clone();
-            let refusal = match stream.next() {
-                Event::Step(tokens) => {
-                    if let Some(Frame::Nowdoc(label)) = before.top() {
-                        let label = label.bytes(script).unwrap_or_default().to_vec();
-                        let lines = stream.session().line().saturating_sub(before.line());
-                        let remark = remark(script, stream.session(), &label);
-                        blocks.push(block(openings.top(), label, &tokens, lines, remark));
-                    }
-                    openings.follow(&before, stream.session());
-                    continue;
+        let ending = loop {
+            match reader.next_step() {
+                Ok(Some(step)) => blocks.extend(block(script, &step)),
+                Ok(None) => break Ending::Finished(reader.session().position()),
+                Err(refusal) => {
+                    break Ending::Refused(Fault::new(refusal, script, reader.session(), reader.opening()));
                 }
-                Event::Finished(position) => return Sheet { blocks, ending: Ending::Finished(position) },
-                // Never given where the end is announced.
-                Event::Wait => Refusal { number: refusals::WAIT, span: before.span() },
-                Event::Refused(refusal) => refusal,
-            };
-            let fault = Fault::new(refusal, script, stream.session(), openings.top());
-            return Sheet { blocks, ending: Ending::Refused(fault) };
-        }
+            }
+        };
+        Sheet { blocks, ending }
     }
 
     /// How many rows its blocks have.
@@ -109,37 +95,23 @@ impl Sheet {
     }
 }
 
-/// Where each frame of the mode stack opened.
-struct Openings {
-    spans: Vec<Span>,
-}
-
-impl Openings {
-    /// Where the top frame opened.
-    fn top(&self) -> Span {
-        self.spans.last().copied().unwrap_or(Span::START)
-    }
-
-    /// A step was done: a frame that is new or another opened where the step began, a bracket at the cursor.
-    fn follow(&mut self, before: &Session, after: &Session) {
-        if before.depth() == after.depth() && before.top() != after.top() {
-            self.spans.pop();
-        }
-        let opening = if after.top() == Some(Frame::VarOffset) { after.span() } else { before.span() };
-        self.spans.resize(after.depth() as usize, opening);
-    }
-}
-
-/// The block that a step read, from its tokens and the lines it passed.
-fn block(span: Span, label: Vec<u8>, tokens: &[Token], lines: u32, remark: Option<Remark>) -> Block {
-    let text = tokens.iter().find(|token| token.kind == kinds::STRING_PART);
-    let closer = tokens.last().map(|token| (token.kind, token.detail));
+/// The block that a step read, if it was in one.
+fn block(script: &[u8], step: &Step) -> Option<Block> {
+    let label = match step.before.top()? {
+        Frame::Nowdoc(label) => label.bytes(script).unwrap_or_default().to_vec(),
+        _ => return None,
+    };
+    let text = step.records.iter().find(|record| record.kind == kinds::STRING_PART);
+    let text = text.and_then(|record| record.value(step.pool)).unwrap_or_default();
+    let closer = step.records.last().map(|record| (record.kind, record.detail));
     let indentation = match closer {
         Some((kinds::END_DOC_STRING_SPACE, amount)) => Indentation::Spaces(amount),
         Some((kinds::END_DOC_STRING_TAB, amount)) => Indentation::Tabs(amount),
         _ => Indentation::None,
     };
-    Block { span, label, indentation, rows: rows(text.map_or(&[], |token| &token.value), lines), remark }
+    let rows = rows(text, step.after.line().saturating_sub(step.before.line()));
+    let remark = remark(script, step.after, &label);
+    Some(Block { span: step.opening, label, indentation, rows, remark })
 }
 
 /// The remark on a block that was closed just before the cursor, if bytes of an identifier follow.

@@ -18,7 +18,13 @@ fn run_into(out: Stdio, arguments: &[&str]) -> (Option<i32>, String) {
     (done.status.code(), String::from_utf8(done.stderr).expect("the program writes UTF-8"))
 }
 
+/// One behind the other: a program that starts meanwhile would hold the reader's end of the pipe for a moment.
 #[test]
+fn output_that_takes_nothing() {
+    output_that_is_full_is_told();
+    a_reader_that_is_gone_is_not_told();
+}
+
 fn output_that_is_full_is_told() {
     for arguments in CALLS {
         let full = OpenOptions::new().write(true).open("/dev/full").expect("a device that is full");
@@ -29,7 +35,6 @@ fn output_that_is_full_is_told() {
     }
 }
 
-#[test]
 fn a_reader_that_is_gone_is_not_told() {
     for arguments in CALLS {
         let mut reader = Command::new("true").stdin(Stdio::piped()).spawn().expect("a reader");

@@ -54,7 +54,7 @@ fn tables(source: &[u8], reading: Reading) -> Result<(Vec<u32>, Vec<u8>), Refusa
     let mut session = Session::fresh(reading);
     let mut list = vec![0; 8 * limits::MOST_TOKENS];
     let mut pool = vec![0; limits::MOST_BYTES];
-    while session.step(source, End::Announced, &mut list, &mut pool)? == Progress::Done {}
+    while session.walk(source, End::Announced, u32::MAX, &mut list, &mut pool)? == Progress::Done {}
     list.truncate(8 * session.tokens() as usize);
     pool.truncate(session.bytes() as usize);
     Ok((list, pool))
