@@ -20,10 +20,10 @@ use Rattle.lexer.specs.Turns.{After}
 use Rattle.lexer.specs.Calls.{stepped, reading}
 use Rattle.demands.specs.Walks.{walked}
 use Rattle.demands.proofs.Kept.{Kept, step-kept, reading-kept}
+use Rattle.walk.proofs.Walks.{walked-refused}
 use Rattle.layout.specs.Sessions.{sessionIn}
 use Rattle.layout.specs.Answers.{refusalIn, sessionAfter}
 use Rattle.embed.specs.Calls.{areLong, Crossed, Called, walkSession, WalkCalled, Begun, Filed}
-use Rattle.embed.proofs.Walks.{walked-refused}
 
 -- a refusal's number alone tells that the call was refused
 told : (a : Answer) → (refusalIn a ≡ 0 → ⊥) → (P : Type 0) → ((number : ℕ) (span : Span) → a ≡ Answer.Refused number span → P) → P
@@ -86,7 +86,7 @@ module _ (most : ℕ) (src : List ℕ) (end : Bool) (session list pool answer : 
           told (first .turn .answer) h _ (λ number span f.
           let k = step-kept src (sessionIn session) list pool end .back number span f in
           let some : most ≡ 0 → ⊥ = λ none. omega (arith, z, none) in
-          let w : all ≡ first = walked-refused src end (sessionIn session) list pool most number span some f in
+          let w : all ≡ first = walked-refused src end (sessionIn session) list pool most number span (omega (arith, some)) f in
           still (rw (ne-eqb most 0 some, ne-eqb (refusalIn (first .turn .answer)) 0 h)) (rw w (k .1)) (rw w (k .2)))
 
 pub crossed-one : (t : Turn) (session answer : List ℕ) (r r′ : ℕ) (s s′ a a′ : List ℕ) → Crossed t session answer r s a

@@ -1,22 +1,22 @@
 -- The walk of a host on each way through it. Assumes nothing.
-use Prim.Native.Nat.{ℕ, zero, suc, _-_}
-use mathlib.Core.Path.{_≡_, refl, sym, ap, _∙_}
+use Prim.Native.Nat.{ℕ, _-_}
+use mathlib.Core.Path.{_≡_, sym, ap, _∙_}
 use mathlib.Core.Bool.{Bool, true, false, not}
 use mathlib.Core.List.{List}
 use native.Mathlib.Omega.{arith}
 use lib.Dec.{eqb}
 use lib.ListN.{length}
-use borrow.Author.Tests.{eq-eqb, ne-eqb, not-true, not-false}
+use borrow.Author.Tests.{ne-eqb, not-true, not-false}
 use Rattle.source.specs.Words.{if_then_else_}
 use Rattle.source.specs.Laid.{laid}
 use Rattle.source.specs.declared.Span.{Span}
 use Rattle.state.specs.declared.Answer.{Answer}
 use Rattle.state.specs.declared.Session.{Session}
 use Rattle.state.specs.declared.Turn.{Turn}
-use Rattle.state.specs.Calls.{done}
 use Rattle.lexer.specs.Turns.{After, Gives}
 use Rattle.lexer.specs.Calls.{stepped}
-use Rattle.demands.specs.Walks.{goOn, walked}
+use Rattle.demands.specs.Walks.{walked}
+use Rattle.walk.proofs.Walks.{walked-on, walked-finished, walked-refused}
 use Rattle.layout.specs.Sessions.{numbersOf, sessionIn}
 use Rattle.layout.specs.Answers.{answerNumbers, refusalIn, sessionAfter, Turned, Stored}
 use Rattle.embed.specs.Calls.{areLong, WalkedOn, walkSession, WalkCalled}
@@ -25,30 +25,6 @@ use Rattle.embed.specs.Calls.{areLong, WalkedOn, walkSession, WalkCalled
 pub walkedOn : (a : After) (t : Turn) (session answer : List ℕ) (r : ℕ) (session′ list′ pool′ answer′ : List ℕ) → Gives a t list′ pool′
     → Stored t session answer r session′ answer′ → WalkedOn a session answer r session′ list′ pool′ answer′
 walkedOn a t session answer r session′ list′ pool′ answer′ g w = record { turn = rw (← g .turn) w; records = g .list; values = g .pool }
-
--- a walk by what its first step answers
-module _ (src : List ℕ) (end : Bool) (s : Session) (list pool : List ℕ) where
-  abbrev first : After
-  first = stepped src end s list pool
-
-  pub walked-on : (most : ℕ) → (most ≡ 0 → ⊥) → first .turn .answer ≡ Answer.Done
-      → walked most src end s list pool ≡ walked (most - 1) src end (first .turn .session) (first .list) (first .pool)
-  unfolding walked goOn
-  walked-on zero h e = absurd (h refl)
-  walked-on (suc n) h e =
-      let one : n ≡ suc n - 1 = omega arith in
-      rw e (ap (λ (k : ℕ). walked k src end (first .turn .session) (first .list) (first .pool)) one)
-
-  pub walked-finished : (most : ℕ) → (most ≡ 0 → ⊥) → first .turn .answer ≡ Answer.Finished → walked most src end s list pool ≡ first
-  unfolding walked goOn
-  walked-finished zero h e = absurd (h refl)
-  walked-finished (suc n) h e = rw e
-
-  pub walked-refused : (most number : ℕ) (span : Span) → (most ≡ 0 → ⊥) → first .turn .answer ≡ Answer.Refused number span
-      → walked most src end s list pool ≡ first
-  unfolding walked goOn
-  walked-refused zero number span h e = absurd (h refl)
-  walked-refused (suc n) number span h e = rw e
 
 module _ (session answer : List ℕ) (flag : Bool) (e : flag ≡ areLong (length session) (length answer)) (most : ℕ) where
   pub walk-short : (first a : After) (list pool : List ℕ) → not flag ≡ true → WalkCalled most first a session list pool answer 10 session list pool answer
@@ -104,11 +80,11 @@ module _ (session answer : List ℕ) (flag : Bool) (e : flag ≡ areLong (length
       module _ (r : ℕ) (session′ answer′ : List ℕ) where
         pub walk-finished : t .answer ≡ Answer.Finished → Turned t session answer r session′ answer′
             → WalkCalled most one all session list pool answer r session′ list₁ pool₁ answer′
-        walk-finished k = walk-one r session′ answer′ (walked-finished src end (sessionIn session) list pool most some (answers Answer.Finished k))
+        walk-finished k = walk-one r session′ answer′ (walked-finished src end (sessionIn session) list pool most (omega (arith, some)) (answers Answer.Finished k))
 
         pub walk-refused : (number : ℕ) (span : Span) → t .answer ≡ Answer.Refused number span → Turned t session answer r session′ answer′
             → WalkCalled most one all session list pool answer r session′ list₁ pool₁ answer′
-        walk-refused number span k = walk-one r session′ answer′ (walked-refused src end (sessionIn session) list pool most number span some (answers (Answer.Refused number span) k))
+        walk-refused number span k = walk-one r session′ answer′ (walked-refused src end (sessionIn session) list pool most number span (omega (arith, some)) (answers (Answer.Refused number span) k))
 
         pub walk-on : t .answer ≡ Answer.Done → (list′ pool′ : List ℕ)
             → WalkedOn (walked (most - 1) src end (t .session) list₁ pool₁) session answer r session′ list′ pool′ answer′
@@ -116,7 +92,7 @@ module _ (session answer : List ℕ) (flag : Bool) (e : flag ≡ areLong (length
         unfolding refusalIn
         walk-on k list′ pool′ v =
             let d : one .turn .answer ≡ Answer.Done = answers Answer.Done k in
-            let same : all ≡ walked (most - 1) src end (one .turn .session) (one .list) (one .pool) = walked-on src end (sessionIn session) list pool most some d in
+            let same : all ≡ walked (most - 1) src end (one .turn .session) (one .list) (one .pool) = walked-on src end (sessionIn session) list pool most (omega (arith, some)) d in
             let w : WalkedOn all session answer r session′ list′ pool′ answer′ = rw (same, ← gives .turn, ← gives .list, ← gives .pool) v in
             record {
               number = w .turn .number ∙ rw long;

@@ -24,7 +24,8 @@ use Rattle.plan.specs.declared.Draft.{Draft}
 use Rattle.plan.specs.declared.Plan.{Plan}
 use Rattle.plan.specs.Plans.{madeBy, Here, Plans, copiedDraft, goesPlan, onePlan}
 use Rattle.modes.specs.Ends.{endingPlan}
-use Rattle.texts.proofs.Drafts.{copied-ready, goes-plans, one-plans, refused-plans, wait-plans, either-plans}
+use Rattle.plan.proofs.Plans.{copied-ready}
+use Rattle.texts.proofs.Drafts.{goes-plans, one-plans, refused-plans, wait-plans, either-plans}
 
 -- ---- the end, and tokens
 

@@ -5,8 +5,7 @@ use mathlib.Core.Path.{_≡_, refl, sym, ap, subst}
 use mathlib.Core.Bool.{Bool, true, false}
 use mathlib.Core.List.{List, [], _∷_, _++_}
 use native.Mathlib.Omega.{arith}
-use lib.ListN.{length, take, drop, length-drop}
-use lib.Seq.{length-take-le}
+use lib.ListN.{length, take, drop}
 use Rattle.source.specs.Words.{if_then_else_}
 use Rattle.outcome.specs.declared.Change.{Change}
 use Rattle.outcome.specs.Outcomes.{Piece, Outcome, piece, goes, unlessEmpty}
@@ -23,22 +22,13 @@ pub record Makes (src : List ℕ) (end : Bool) (p : Piece) (d : Draft) : Type 0 
   pub ready : Ready src end d
 
 module _ (src : List ℕ) (end : Bool) where
-  pub copied-ready : (kind detail place from to : ℕ) → from ≤ to → to ≤ length src → Ready src end (copiedDraft kind detail place from to)
-  unfolding madeBy
-  copied-ready kind detail place from to order inside =
-      let fits : to - from ≤ length (drop from src) = rw (length-drop from src) (omega arith) in
-      record {
-        size = sym (length-take-le (to - from) (drop from src) fits);
-        able = record { order = order; inside = inside };
-      }
-
   module _ (kind place : ℕ) (value : List ℕ) where
     pub copied-makes : (from len : ℕ) → from + len ≤ length src → value ≡ take len (drop from src)
         → Makes src end (piece kind place value) (copiedDraft kind 0 place from (from + len))
     unfolding madeBy
     copied-makes from len inside same =
         let n : from + len - from ≡ len = omega arith in
-        record { told = rw (n, same); ready = copied-ready kind 0 place from (from + len) (omega arith) inside }
+        record { told = rw (n, same); ready = plan.copied-ready src end kind 0 place from (from + len) (omega arith) inside }
 
     pub made-makes : (making : Making) (from to : ℕ) → Able making src from to → madeBy making src end from to ≡ value
         → Makes src end (piece kind place value) (madeDraft kind place making from to (length value))

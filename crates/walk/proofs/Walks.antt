@@ -41,26 +41,26 @@ pub record Walking (most : ℕ) (src : List ℕ) (end : Bool) (s₀ : Session) (
 
 -- the next step of a walk, by its answer
 module _ (src : List ℕ) (end : Bool) (s : Session) (l q : List ℕ) where
-  abbrev now : After
+  abbrev pub now : After
   now = stepped src end s l q
 
   -- what is left after a step
-  abbrev later : ℕ → After
+  abbrev pub later : ℕ → After
   later n = walked n src end (now .turn .session) (now .list) (now .pool)
 
-  walked-on : (left : ℕ) → 0 < left → now .turn .answer ≡ Answer.Done → walked left src end s l q ≡ later (left - 1)
+  pub walked-on : (left : ℕ) → 0 < left → now .turn .answer ≡ Answer.Done → walked left src end s l q ≡ later (left - 1)
   unfolding walked goOn
   walked-on zero h e = absurd (omega (arith, h))
   walked-on (suc n) h e =
       let one : n ≡ suc n - 1 = omega arith in
       rw e (ap later one)
 
-  walked-finished : (left : ℕ) → 0 < left → now .turn .answer ≡ Answer.Finished → walked left src end s l q ≡ now
+  pub walked-finished : (left : ℕ) → 0 < left → now .turn .answer ≡ Answer.Finished → walked left src end s l q ≡ now
   unfolding walked goOn
   walked-finished zero h e = absurd (omega (arith, h))
   walked-finished (suc n) h e = rw e
 
-  walked-refused : (left number : ℕ) (span : Span) → 0 < left → now .turn .answer ≡ Answer.Refused number span
+  pub walked-refused : (left number : ℕ) (span : Span) → 0 < left → now .turn .answer ≡ Answer.Refused number span
       → walked left src end s l q ≡ now
   unfolding walked goOn
   walked-refused zero number span h e = absurd (omega (arith, h))
