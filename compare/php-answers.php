@@ -5,6 +5,7 @@
 //   script  the tokens of TEXT as a whole script
 //   short   the same with short tags on; lines of this kind are tried alone, in a run with that setting
 //   value   what TEXT gives as an expression in which $a is 'A', and a warning; text in hex, `-` for no bytes
+//   closes  the bytes, as ranges in hex, that behind the label TEXT at a line's start leave it the closer of a nowdoc block
 //
 // A token is its kind and its text, or its one sign. In TEXT and tokens the signs below stand for bytes.
 
@@ -49,6 +50,7 @@ function answer(string $kind, string $text): string
         'code' => tokens(array_slice(token_get_all("<?php $text"), 1)),
         'script', 'short' => tokens(token_get_all($text)),
         'value' => value($text),
+        'closes' => ranges(array_filter(range(0, 255), fn ($byte) => closes($text, chr($byte)))),
         default => 'no such kind',
     };
 }
@@ -79,4 +81,20 @@ function shown_value(mixed $value): string
         return 'text ' . ($value === '' ? '-' : bin2hex($value));
     }
     return gettype($value) . ' ' . var_export($value, true);
+}
+
+function closes(string $label, string $behind): bool
+{
+    $tokens = token_get_all("<?php <<<'$label'\na\n$label$behind\n$label;\n");
+    return $tokens[2][1] === "a\n";
+}
+
+function ranges(array $bytes): string
+{
+    $ranges = [];
+    foreach ($bytes as $byte) {
+        $ranges[] = in_array($byte - 1, $bytes) ? [array_pop($ranges)[0], $byte] : [$byte, $byte];
+    }
+    $shown = fn ($range) => implode('-', array_map(fn ($byte) => sprintf('%02x', $byte), array_unique($range)));
+    return implode(' ', array_map($shown, $ranges));
 }

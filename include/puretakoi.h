@@ -38,7 +38,8 @@ extern "C" {
 #define PURETAKOI_SLOT 3      /* numbers of a slot: frame, label start, label length (0, 0 for a frame without a label) */
 
 #define PURETAKOI_READING_PORTED 0 /* as the lexer that was carried over reads them */
-#define PURETAKOI_READING_SHEET 1  /* as a sheet: the closing line's indentation comes off each row */
+#define PURETAKOI_READING_SHEET 1  /* as a sheet: the closing line's indentation comes off each row, and no letter, digit, _ or byte */
+                                   /* from 0x80 on stands behind a closing label; with more announced a part that ends in one waits */
 
 #define PURETAKOI_FRAME_INITIAL 0              /* inline text up to a tag */
 #define PURETAKOI_FRAME_SCRIPTING 1            /* the script */

@@ -54,7 +54,8 @@ pub fn script(random: &mut Random) -> Vec<u8> {
 /// A nowdoc block.
 fn sheet(random: &mut Random) -> Vec<u8> {
     let label = random.pick(&[&b"E"[..], b"EOT", b"_\x80"]);
-    [b"<<<'", label, b"'\n", &rows(label, random), b";"].concat()
+    let behind = random.pick(&[&b";"[..], b";", b"\n", b"", b"a", b"0", b"\x80;"]);
+    [b"<<<'", label, b"'\n", &rows(label, random), behind].concat()
 }
 
 /// Rows of relief and a closing line: mostly indented alike, with any break.
@@ -69,7 +70,17 @@ fn rows(label: &[u8], random: &mut Random) -> Vec<u8> {
             _ => width,
         };
         (0..own).for_each(|_| text.extend_from_slice(blank));
-        text.extend_from_slice(random.pick(&[&b"ab"[..], b"", b"  c", b"\td", b"\r", b"E", b"$a"]));
+        text.extend_from_slice(random.pick(&[
+            &b"ab"[..],
+            b"",
+            b"  c",
+            b"\td",
+            b"\r",
+            b"E",
+            b"$a",
+            b"EOTstrasse",
+            b"E7",
+        ]));
         text.extend_from_slice(random.pick(&[&b"\n"[..], b"\n", b"\r\n"]));
     }
     (0..width).for_each(|_| text.extend_from_slice(blank));

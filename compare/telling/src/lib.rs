@@ -1,4 +1,4 @@
-//! What each call of the host's boundary must give, without the proved library: document 01 told in plain Rust, layer by layer.
+//! What each call of the host's boundary must give, without the proved library: documents 01 and 02 told in plain Rust, layer by layer.
 //! In order: slices that are too short, the gate (11, 12), 10, the outcome with tables of any size (6, 1 to 5, 13, 9), then 7 and 8.
 //! A walk is told by its steps.
 

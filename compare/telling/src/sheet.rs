@@ -1,4 +1,6 @@
-//! The sheet reading of a nowdoc block, told over its lines (document 01, "Sheet reading").
+//! The sheet reading of a nowdoc block, told over its lines (document 01, "Sheet reading", with request P1).
+
+use crate::bytes::is_identifier;
 
 /// What a body comes to; places are counted from its start.
 #[derive(Clone, Debug, PartialEq, Eq)]
@@ -26,7 +28,7 @@ struct Line<'a> {
 pub fn sheet(body: &[u8], label: &[u8]) -> Sheet {
     let lines = lines_of(body);
     let blanks_of = |line: &Line| line.bytes.iter().take_while(|byte| is_blank(**byte)).count();
-    let closing = match lines.iter().position(|line| line.bytes[blanks_of(line)..].starts_with(label)) {
+    let closing = match lines.iter().position(|line| closes(&line.bytes[blanks_of(line)..], label)) {
         Some(closing) => closing,
         None => return Sheet::Refused { number: 1, at: body.len() },
     };
@@ -49,6 +51,12 @@ pub fn sheet(body: &[u8], label: &[u8]) -> Sheet {
     let last_break = if closing > 0 { lines[closing - 1].end.len() } else { 0 };
     text.truncate(text.len() - last_break);
     Sheet::Closed { text, blank: indentation.first().copied(), width, end }
+}
+
+/// Whether a line closes the block, by what stands behind its blanks: the label, and then no identifier byte.
+fn closes(rest: &[u8], label: &[u8]) -> bool {
+    let behind = rest.strip_prefix(label).map(<[u8]>::first);
+    behind.map_or(false, |byte| !byte.map_or(false, |byte| is_identifier(*byte)))
 }
 
 fn is_blank(byte: u8) -> bool {

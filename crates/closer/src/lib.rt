@@ -1,4 +1,4 @@
-// The closer of a text block: behind an LF, blanks, then the label's bytes, followed by anything at all.
+// The closer of a text block in the ported modes: behind an LF, blanks, then the label's bytes, followed by anything at all.
 // Of the Rust: the arm of heredoc and nowdoc that meets an LF. A label has at most 64 bytes, a source at most 65,536.
 use unit::Indentation;
 use unit::Match;

@@ -14,24 +14,12 @@ use lib.Dec.{ltb}
 use Rattle.source.specs.Words.{if_then_else_, every}
 use Rattle.source.specs.Demand.{isByte, Apart, Waits}
 use Rattle.source.specs.Refusals.{stackFull}
-use Rattle.source.proofs.Demand.{waits}
+use Rattle.source.proofs.Demand.{apart-by, waits}
 use Rattle.unit.proofs.Stays.{Stays, clash}
 use Rattle.outcome.specs.declared.Change.{Change}
 use Rattle.outcome.specs.Outcomes.{Piece, Outcome, limited}
 
 -- ---- any reading
-
--- what is apart by one reading is apart by another that tells as much
-pub apart-by : {A B : Type 0} (f : List ℕ → A) (g : List ℕ → B) (xs ys : List ℕ)
-    → ((one two : List ℕ) → g (ys ++ one) ≡ g (ys ++ two) → f (xs ++ one) ≡ f (xs ++ two)) → Apart f xs → Apart g ys
-apart-by f g xs ys tells x =
-    record {
-      one = x .one;
-      two = x .two;
-      one-bytes = x .one-bytes;
-      two-bytes = x .two-bytes;
-      apart = λ e. x .apart (tells (x .one) (x .two) e);
-    }
 
 module _ {A : Type 0} (wait : A) (more whole : List ℕ → A) where
   pub waits-along : (more′ whole′ : List ℕ → A) (xs part : List ℕ) → more′ part ≡ more xs

@@ -1,27 +1,28 @@
 -- Demand 3 for what is made of a text, a sheet and a number. Assumes nothing.
 --   textMode-demands, nowdoc-demands    the text modes, from any position on
 --   literal-demands, numbered-demands   the readings
--- A wait's two continuations are the reading's own, and the outcome tells them apart: of a text by its ending, of a sheet by the
--- place of its refusal, of a number altogether.
+-- A wait's two continuations are the reading's own, and the outcome tells them apart: of a text and of a sheet by its ending, of a
+-- number altogether.
 use mathlib.Core.Path.{_≡_, refl, sym, ap, _∙_}
 use mathlib.Core.Bool.{Bool, true, false}
-use mathlib.Core.List.{List, [], _∷_, _++_, append-nil}
+use mathlib.Core.List.{List, [], _∷_, _++_}
 use Prim.Native.Nat.{ℕ, _+_, _-_, _≤_}
 use native.Mathlib.Omega.{arith}
 use lib.Dec.{eqb}
-use lib.ListN.{length, drop, length-drop, length-append}
+use lib.ListN.{length, drop, length-drop}
 use lib.Seq.{take-append-le, drop-append-le}
-use Rattle.source.specs.Words.{if_then_else_, every}
+use Rattle.source.specs.Words.{if_then_else_}
+use Rattle.source.proofs.Demand.{apart-by}
 use Rattle.state.specs.declared.Frame.{Frame}
 use Rattle.state.specs.declared.Reading as state
 use Rattle.token.specs.Kinds.{literalInteger, stringPart}
 use Rattle.unit.specs.declared.Follow.{Follow}
+use Rattle.unit.specs.declared.Indentation.{Indentation}
 use Rattle.unit.specs.declared.Mode.{Mode}
 use Rattle.unit.specs.declared.Stop.{Stop}
 use Rattle.unit.specs.Labels.{Label, Labelled}
 use Rattle.unit.specs.Readings as unit
 use Rattle.unit.proofs.Stays.{Stays, clash}
-use Rattle.unit.proofs.Openings.{oneMore}
 use Rattle.unit.proofs.Inside as within
 use Rattle.unit.proofs.Demand.{ending, text-stays, text-endings, text-never-waits}
 use Rattle.unit.proofs.Stops.{Literal, ReadStops, literal-stops}
@@ -31,13 +32,14 @@ use Rattle.number.proofs.Values.{numberAt-ends}
 use Rattle.number.proofs.Waiting.{number-waits}
 use Rattle.sheet.specs.Sheets as sheet
 use Rattle.sheet.proofs.Inside as sheetWithin
-use Rattle.sheet.proofs.Demand.{sheet-stays, sheet-open, sheet-missing, sheet-never-waits}
+use Rattle.sheet.proofs.Demand as sheetDemand
+use Rattle.sheet.proofs.Demand.{sheet-stays, sheet-endings, sheet-never-waits}
 use Rattle.outcome.specs.declared.Change.{Change}
 use Rattle.outcome.specs.Outcomes.{Piece, Outcome, piece, limited}
 use Rattle.outcome.specs.Texts.{slice, stopChange, variableChange, texted, sheeted, isLeft}
 use Rattle.outcome.specs.Texts.{literal, numberKind, numbered}
 use Rattle.outcome.specs.Steps.{textMode, nowdoc}
-use Rattle.outcome.proofs.Demand.{apart-by, closed, Splits, splits, Demands, told-waits, refused-waits}
+use Rattle.outcome.proofs.Demand.{closed, Splits, Demands, told-waits, refused-waits}
 
 -- bytes that a part has are those of a longer text
 pub slice-append : (n : ℕ) (part rest : List ℕ) (from after : ℕ) → n ≤ from → from ≤ after → after ≤ n + length part
@@ -124,16 +126,17 @@ sheeted-append n part rest (sheet.Sheet value ind amount from after) x =
 sheeted-append n part rest (sheet.Refused number place) x = refl
 sheeted-append n part rest sheet.Wait x = refl
 
--- an outcome that is a refusal is the reading's
-sheeted-refused : (p n : ℕ) (xs : List ℕ) (r : sheet.Reading) (number place : ℕ)
-    → closed p (sheeted n xs r) ≡ Outcome.Refused number place → r ≡ sheet.Refused number place
+-- what an outcome tells of a sheet's ending
+abbrev sheetEnded : Outcome → sheet.Reading
+sheetEnded (Outcome.Told pieces after change finished) = sheet.Sheet [] Indentation.None 0 0 0
+sheetEnded (Outcome.Refused number place) = sheet.Refused number place
+sheetEnded Outcome.Wait = sheet.Wait
+
+sheeted-ended : (p n : ℕ) (xs : List ℕ) (r : sheet.Reading) → sheetEnded (closed p (sheeted n xs r)) ≡ sheetDemand.ending r
 unfolding sheeted limited
-sheeted-refused p n xs (sheet.Sheet value ind amount from after) number place e = clash cc
-sheeted-refused p n xs (sheet.Refused number′ place′) number place e =
-    let a : number′ ≡ number = cc in
-    let b : place′ ≡ place = cc in
-    rw (a, b)
-sheeted-refused p n xs sheet.Wait number place e = clash cc
+sheeted-ended p n xs (sheet.Sheet value ind amount from after) = refl
+sheeted-ended p n xs (sheet.Refused number place) = refl
+sheeted-ended p n xs sheet.Wait = refl
 
 module _ (label : List ℕ) (h : Label label) (n : ℕ) where
   sheeted-stays : (part rest : List ℕ)
@@ -146,17 +149,11 @@ module _ (label : List ℕ) (h : Label label) (n : ℕ) where
 
   sheeted-splits : (p : ℕ) (part : List ℕ) → sheeted n part (sheet.sheetAt label false n part) ≡ Outcome.Wait
       → Splits p (λ c. sheeted n (part ++ c) (sheet.sheetAt label true n (part ++ c)))
-  unfolding sheeted limited every
   sheeted-splits p part k =
-      splits p (λ c. sheeted n (part ++ c) (sheet.sheetAt label true n (part ++ c))) oneMore (Outcome.Refused 1 (n + length part)) _
-      refl
-      (rw (append-nil part, sheet-open label h n part (sheeted-wait n part _ k)))
-      refl
-      (λ e. omega (
-        arith,
-        sheet-missing label h n (part ++ oneMore) (n + length part) (sheeted-refused p n (part ++ oneMore) _ 1 (n + length part) (sym e)),
-        length-append part oneMore,
-      ))
+      apart-by (λ xs. sheetDemand.ending (sheet.sheetAt label true n xs))
+      (λ c. closed p (sheeted n (part ++ c) (sheet.sheetAt label true n (part ++ c)))) part []
+      (λ one two e. sym (sheeted-ended p n (part ++ one) _) ∙ ap sheetEnded e ∙ sheeted-ended p n (part ++ two) _)
+      (sheet-endings label h n part (sheeted-wait n part _ k))
 
   pub nowdoc-demands : (p : ℕ) (nowdocs : state.Reading) → Demands p (λ end. nowdoc nowdocs label end n)
   unfolding nowdoc

@@ -1,120 +1,30 @@
 -- Demand 3 for the sheet reading:
 --   sheet-waits         Label label → Waits Wait (sheetAt label false n) (sheetAt label true n) part
 --   sheet-never-waits   with the end announced the reading doesn't wait
--- What is told of a line stays, and a line with a break is told. So a block that is open misses its closing line where the text
--- ends, and one byte more misses it a place further on. Assumes nothing.
-use Prim.Native.Nat.{ℕ, suc, _+_, _<_}
+--   sheet-endings       a wait has two continuations apart by their endings: the empty one and one identifier byte
+-- What is told of a line stays, and a line with a break is told (Closings). So an open block misses its closing line where the
+-- text ends or, if that is behind the whole label, where it ends with one identifier byte more. Assumes nothing.
+use Prim.Native.Nat.{ℕ, _+_}
+use mathlib.Core.Logic.{_⊎_, inl, inr, ⊎-elim}
 use mathlib.Core.Path.{_≡_, refl, ap, sym, _∙_}
-use mathlib.Core.Bool.{Bool, true, false, _||_}
+use mathlib.Core.Bool.{true, false}
 use mathlib.Core.List.{List, [], _∷_, _++_, append-nil}
 use native.Mathlib.Omega.{arith}
-use lib.Dec.{eqb}
 use lib.ListN.{length, length-append}
-use borrow.Author.Tests.{eqb-true}
-use Rattle.source.specs.Words.{if_then_else_, _is_, every}
-use Rattle.source.specs.Bytes.{isBlank, isIdentifier}
+use Rattle.source.specs.Words.{every}
 use Rattle.source.specs.Demand.{Apart, Waits}
-use Rattle.source.proofs.Demand.{waits}
-use Rattle.source.proofs.Tests.{&&-left, &&-right}
+use Rattle.source.proofs.Demand.{apart-by, waits}
 use Rattle.unit.specs.declared.Indentation.{Indentation}
-use Rattle.unit.specs.declared.Match.{Match}
-use Rattle.unit.specs.Closers.{matched, indented}
 use Rattle.unit.specs.Labels.{Label}
-use Rattle.unit.proofs.Stays.{Stays, clash, if-stays, matched-stays}
-use Rattle.unit.proofs.Openings.{oneMore, blank-plainly, identifier-plainly}
+use Rattle.unit.proofs.Stays.{Stays, clash}
+use Rattle.unit.proofs.Openings.{oneMore}
 use Rattle.sheet.specs.declared.Line.{Line}
 use Rattle.sheet.specs.Bodies.{Text, Kept, Stray, lines}
-use Rattle.sheet.specs.Sheets.{judgedLine, lineKind, Block, Closed, Missing, Open, withLine, told, block}
+use Rattle.sheet.specs.Sheets.{lineKind, Block, Closed, Missing, Open, withLine, told, block}
 use Rattle.sheet.specs.Sheets.{Reading, Sheet, Refused, Wait, filled, stripped, answered, sheetAt}
-use Rattle.sheet.proofs.Lines.{total, total-lines, hasBreak, Lined, none, last, broken, line-break, lines-lined}
+use Rattle.sheet.proofs.Lines.{total, total-lines, line-break, Grown, begun, grown, beside, lines-grown}
 use Rattle.sheet.proofs.Lines.{Continues, behind, longer, alike, lines-append}
-
--- ---- what is told of a line stays
-
-judgedLine-stays : (ind : Indentation) (amount : ℕ) (m m′ : Match) → Stays Match.Undecided m m′
-    → Stays Line.Undecided (judgedLine m false ind amount) (judgedLine m′ true ind amount)
-unfolding judgedLine
-judgedLine-stays ind amount Match.Whole m′ s k = rw (s (λ (z : Match.Whole ≡ Match.Undecided). clash cc))
-judgedLine-stays ind amount Match.Other m′ s k = rw (s (λ (z : Match.Other ≡ Match.Undecided). clash cc))
-judgedLine-stays ind amount Match.Undecided m′ s k = absurd (k refl)
-
-lineKind-stays : (label : List ℕ) → 0 < length label → (ind : Indentation) (amount : ℕ) (xs more : List ℕ)
-    → Stays Line.Undecided (lineKind label false ind amount xs) (lineKind label true ind amount (xs ++ more))
-unfolding lineKind matched judgedLine
-lineKind-stays [] h ind amount xs more k = absurd (omega arith)
-lineKind-stays (a ∷ label) h ind amount [] more k = absurd (k refl)
-lineKind-stays (a ∷ label) h ind amount (b ∷ xs) more k =
-    if-stays (isBlank b) (lineKind-stays (a ∷ label) h (indented ind b) (suc amount) xs more)
-    (judgedLine-stays ind amount _ _ (matched-stays (a ∷ label) (b ∷ xs) more))
-    k
-
--- with the end announced, a line that is not told is a line of the body
-unfoldable ended : Line → Line
-ended (Line.Closes ind amount) = Line.Closes ind amount
-ended Line.Body = Line.Body
-ended Line.Undecided = Line.Body
-
-judgedLine-ended : (m : Match) (ind : Indentation) (amount : ℕ)
-    → judgedLine m true ind amount ≡ ended (judgedLine m false ind amount)
-unfolding judgedLine ended
-judgedLine-ended Match.Whole ind amount = refl
-judgedLine-ended Match.Other ind amount = refl
-judgedLine-ended Match.Undecided ind amount = refl
-
-lineKind-ended : (label : List ℕ) (ind : Indentation) (amount : ℕ) (xs : List ℕ)
-    → lineKind label true ind amount xs ≡ ended (lineKind label false ind amount xs)
-unfolding lineKind
-lineKind-ended label ind amount [] = judgedLine-ended (matched label []) ind amount
-lineKind-ended label ind amount (b ∷ rest) =
-    go (isBlank b) _ _ (lineKind-ended label (indented ind b) (suc amount) rest)
-    (judgedLine-ended (matched label (b ∷ rest)) ind amount)
-  where
-    go : (t : Bool) {u v : Line} (u′ v′ : Line) → u ≡ ended u′ → v ≡ ended v′
-        → (if t then u else v) ≡ ended (if t then u′ else v′)
-    go true u′ v′ x y = x
-    go false u′ v′ x y = y
-
--- a line with a break is told
-later-break : (t : Bool) (later : Bool) → t ≡ false → (t || later) ≡ true → later ≡ true
-later-break t later e h = rw e at h
-
-matched-told : (label ys : List ℕ) → every isIdentifier label ≡ true → hasBreak ys ≡ true
-    → matched label ys ≡ Match.Undecided → ⊥
-unfolding matched hasBreak every
-matched-told [] ys i h e = clash cc
-matched-told (a ∷ label) [] i h e = clash cc
-matched-told (a ∷ label) (y ∷ ys) i h e =
-    go (eqb a y) refl (matched-told label ys (&&-right (isIdentifier a) (every isIdentifier label) i)) e
-  where
-    go : (t : Bool) → eqb a y ≡ t → (hasBreak ys ≡ true → matched label ys ≡ Match.Undecided → ⊥)
-        → (if t then matched label ys else Match.Other) ≡ Match.Undecided → ⊥
-    go true q later z =
-        let first : isIdentifier a ≡ true = &&-left (isIdentifier a) (every isIdentifier label) i in
-        let lf : (y is "\n") ≡ false = rw (eqb-true a y q) at (identifier-plainly a first .lf) in
-        later (later-break (y is "\n") (hasBreak ys) lf h) z
-    go false q later z = clash cc
-
-judgedLine-undecided : (m : Match) (ind : Indentation) (amount : ℕ) → judgedLine m false ind amount ≡ Line.Undecided
-    → m ≡ Match.Undecided
-unfolding judgedLine
-judgedLine-undecided Match.Whole ind amount e = clash cc
-judgedLine-undecided Match.Other ind amount e = clash cc
-judgedLine-undecided Match.Undecided ind amount e = refl
-
-lineKind-told : (label : List ℕ) → every isIdentifier label ≡ true → (ind : Indentation) (amount : ℕ) (line : List ℕ)
-    → hasBreak line ≡ true → lineKind label false ind amount line ≡ Line.Undecided → ⊥
-unfolding lineKind hasBreak
-lineKind-told label i ind amount [] h e = clash cc
-lineKind-told label i ind amount (b ∷ rest) h e =
-    go (isBlank b) refl (lineKind-told label i (indented ind b) (suc amount) rest) e
-  where
-    go : (t : Bool) → isBlank b ≡ t
-        → (hasBreak rest ≡ true → lineKind label false (indented ind b) (suc amount) rest ≡ Line.Undecided → ⊥)
-        → (if t then lineKind label false (indented ind b) (suc amount) rest
-        else judgedLine (matched label (b ∷ rest)) false ind amount) ≡ Line.Undecided
-        → ⊥
-    go true q later z = later (later-break (b is "\n") (hasBreak rest) (blank-plainly b q .lf) h) z
-    go false q later z = matched-told label (b ∷ rest) i h (judgedLine-undecided _ ind amount z)
+use Rattle.sheet.proofs.Closings.{lineKind-stays, lineKind-open, lineKind-told, lineKind-ended}
 
 -- ---- what is told of a block stays
 
@@ -169,33 +79,48 @@ module _ (label : List ℕ) (h : Label label) where
   block-stays n (alike {line} c) k =
       told-stays n line _ _ _ _ (line-alike line) (λ z. block-stays (n + length line) c z) k
 
-  -- an open block misses its closing line where the text ends
-  block-open : (n : ℕ) {ls : List (List ℕ)} → Lined ls → block label false n ls ≡ Open
-      → block label true n ls ≡ Missing (n + total ls)
-  unfolding block told withLine total ended
-  block-open n none e = ap Missing (omega arith)
-  block-open n (last {line}) e =
-      rw (lineKind-ended label Indentation.None 0 line) (go (lineKind label false Indentation.None 0 line) e)
+  -- a line of the body, and behind it none that closes
+  missed : (n : ℕ) (line : List ℕ) (later : List (List ℕ)) → lineKind label true Indentation.None 0 line ≡ Line.Body
+      → block label true (n + length line) later ≡ Missing (n + length line + total later)
+      → block label true n (line ∷ later) ≡ Missing (n + (length line + total later))
+  unfolding block told withLine
+  missed n line later q e = rw (q, e) (ap Missing (omega arith))
+
+  -- an open block misses its closing line where the text ends, or behind one identifier byte more
+  block-open : (n : ℕ) {ls ls′ : List (List ℕ)} → Grown ls ls′ → block label false n ls ≡ Open
+      → (block label true n ls ≡ Missing (n + total ls)) ⊎ (block label true n ls′ ≡ Missing (n + total ls′))
+  unfolding block told withLine total
+  block-open n begun e = inl (ap Missing (omega arith))
+  block-open n (grown {line}) e = go (lineKind label false Indentation.None 0 line) refl e
     where
-      go : (l : Line) → told l n line Open ≡ Open
-          → told (ended l) n line (Missing (n + length line)) ≡ Missing (n + (length line + 0))
-      go (Line.Closes ind amount) z = clash cc
-      go Line.Body z = ap Missing (omega arith)
-      go Line.Undecided z = ap Missing (omega arith)
-  block-open n (broken {line} {later} b l) e =
-      rw (lineKind-ended label Indentation.None 0 line)
-      (go (lineKind label false Indentation.None 0 line) (lineKind-told label (h .identifiers) Indentation.None 0 line (line-break line b))
-      (λ z. block-open (n + length line) l z) e)
+      alone : (l : List ℕ) → lineKind label true Indentation.None 0 l ≡ Line.Body
+          → block label true n (l ∷ []) ≡ Missing (n + (length l + 0))
+      alone l q = missed n l [] q (ap Missing (omega arith))
+
+      go : (k : Line) → lineKind label false Indentation.None 0 line ≡ k → told k n line Open ≡ Open
+          → (block label true n (line ∷ []) ≡ Missing (n + (length line + 0)))
+          ⊎ (block label true n ((line ++ oneMore) ∷ []) ≡ Missing (n + (length (line ++ oneMore) + 0)))
+      go (Line.Closes ind amount) q z = clash cc
+      go Line.Body q z = inl (alone line (line-alike line (λ y. body-told (sym q ∙ y)) ∙ q))
+      go Line.Undecided q z =
+          ⊎-elim (λ y. inl (alone line y)) (λ y. inr (alone (line ++ oneMore) y))
+          (lineKind-open label (h .some) Indentation.None 0 line q)
+  block-open n (beside {line} {ls} {ls′} b g) e =
+      go (lineKind label false Indentation.None 0 line) refl (λ z. block-open (n + length line) g z) e
     where
-      go : (k : Line) → (k ≡ Line.Undecided → ⊥)
-          → (block label false (n + length line) later ≡ Open
-          → block label true (n + length line) later ≡ Missing (n + length line + total later))
-          → told k n line (block label false (n + length line) later) ≡ Open
-          → told (ended k) n line (block label true (n + length line) later) ≡ Missing (n + (length line + total later))
-      go (Line.Closes ind amount) t ih z = clash cc
-      go Line.Body t ih z =
-          rw (ih (open-withLine line (block label false (n + length line) later) z)) (ap Missing (omega arith))
-      go Line.Undecided t ih z = absurd (t refl)
+      go : (k : Line) → lineKind label false Indentation.None 0 line ≡ k
+          → (block label false (n + length line) ls ≡ Open
+          → (block label true (n + length line) ls ≡ Missing (n + length line + total ls))
+          ⊎ (block label true (n + length line) ls′ ≡ Missing (n + length line + total ls′)))
+          → told k n line (block label false (n + length line) ls) ≡ Open
+          → (block label true n (line ∷ ls) ≡ Missing (n + (length line + total ls)))
+          ⊎ (block label true n (line ∷ ls′) ≡ Missing (n + (length line + total ls′)))
+      go (Line.Closes ind amount) q ih z = clash cc
+      go Line.Body q ih z =
+          let same : lineKind label true Indentation.None 0 line ≡ Line.Body = line-alike line (λ y. body-told (sym q ∙ y)) ∙ q in
+          ⊎-elim (λ y. inl (missed n line ls same y)) (λ y. inr (missed n line ls′ same y))
+          (ih (open-withLine line (block label false (n + length line) ls) z))
+      go Line.Undecided q ih z = absurd (lineKind-told label (h .identifiers) Indentation.None 0 line (line-break line b) q)
 
 -- a closing line is missing nowhere else
 block-missing : (label : List ℕ) (n : ℕ) (ls : List (List ℕ)) (p : ℕ) → block label true n ls ≡ Missing p → p ≡ n + total ls
@@ -252,6 +177,17 @@ answered-missing size n (Closed body ind amount place) p e = absurd (stripped-cl
 answered-missing size n (Missing place) p e = let z : place ≡ p = cc in ap Missing z
 answered-missing size n Open p e = let z : _≡_ {A = ℕ} 0 1 = cc in clash z
 
+-- what a reading tells but for its sheet
+abbrev pub ending : Reading → Reading
+ending (Sheet value ind amount place after) = Sheet [] Indentation.None 0 0 0
+ending (Refused number place) = Refused number place
+ending Wait = Wait
+
+ending-refused : (r : Reading) (number place : ℕ) → ending r ≡ Refused number place → r ≡ Refused number place
+ending-refused (Sheet value ind amount from after) number place e = clash cc
+ending-refused (Refused number′ place′) number place e = e
+ending-refused Wait number place e = clash cc
+
 is-wait : (r : Reading) → Dec (r ≡ Wait)
 is-wait (Sheet value ind amount place after) = no (λ (z : Sheet value ind amount place after ≡ Wait). clash cc)
 is-wait (Refused number place) = no (λ (z : Refused number place ≡ Wait). clash cc)
@@ -264,30 +200,48 @@ module _ (label : List ℕ) (h : Label label) (n : ℕ) where
   sheet-stays part k rest =
       ap (answered (length label) n) (block-stays label h n (lines-append part rest) (λ z. k (rw z)))
 
-  -- an open block is refused where the text ends, and no sheet is refused so anywhere else
-  pub sheet-open : (part : List ℕ) → sheetAt label false n part ≡ Wait → sheetAt label true n part ≡ Refused 1 (n + length part)
+  -- no sheet is refused so but where its text ends
+  missing-place : (xs : List ℕ) (p : ℕ) → ending (sheetAt label true n xs) ≡ Refused 1 p → p ≡ n + length xs
+  unfolding sheetAt
+  missing-place xs p e =
+      omega (arith, block-missing label n (lines xs) p (answered-missing (length label) n _ p (ending-refused _ 1 p e)), total-lines xs)
+
+  -- an open block is refused where the text ends, or behind one identifier byte more
+  sheet-open : (part : List ℕ) → sheetAt label false n part ≡ Wait
+      → (sheetAt label true n part ≡ Refused 1 (n + length part))
+      ⊎ (sheetAt label true n (part ++ oneMore) ≡ Refused 1 (n + length (part ++ oneMore)))
   unfolding sheetAt answered
   sheet-open part k =
-      rw (block-open label h n (lines-lined part) (answered-wait (length label) n _ k), total-lines part)
-
-  pub sheet-missing : (xs : List ℕ) (p : ℕ) → sheetAt label true n xs ≡ Refused 1 p → p ≡ n + length xs
-  unfolding sheetAt
-  sheet-missing xs p e =
-      omega (arith, block-missing label n (lines xs) p (answered-missing (length label) n _ p e), total-lines xs)
+      ⊎-elim (λ y. inl (missed part y)) (λ y. inr (missed (part ++ oneMore) y))
+      (block-open label h n (lines-grown part) (answered-wait (length label) n _ k))
+    where
+      missed : (xs : List ℕ) → block label true n (lines xs) ≡ Missing (n + total (lines xs))
+          → answered (length label) n (block label true n (lines xs)) ≡ Refused 1 (n + length xs)
+      missed xs e = rw (e, total-lines xs)
 
   -- the text as it is, and with one byte more
-  sheet-apart : (part : List ℕ) → sheetAt label false n part ≡ Wait → Apart (sheetAt label true n) part
+  pub sheet-endings : (part : List ℕ) → sheetAt label false n part ≡ Wait → Apart (λ xs. ending (sheetAt label true n xs)) part
   unfolding every
-  sheet-apart part k =
+  sheet-endings part k =
       record {
         one = [];
         two = oneMore;
         one-bytes = refl;
         two-bytes = refl;
-        apart = λ z.
-            let now : sheetAt label true n (part ++ []) ≡ Refused 1 (n + length part) = rw append-nil (sheet-open part k) in
-            omega (arith, sheet-missing (part ++ oneMore) (n + length part) (sym z ∙ now), length-append part oneMore);
+        apart = λ z. go (rw append-nil at z) (sheet-open part k);
       }
+    where
+      go : ending (sheetAt label true n part) ≡ ending (sheetAt label true n (part ++ oneMore))
+          → (sheetAt label true n part ≡ Refused 1 (n + length part))
+          ⊎ (sheetAt label true n (part ++ oneMore) ≡ Refused 1 (n + length (part ++ oneMore)))
+          → ⊥
+      go z (inl e) = omega (arith, missing-place (part ++ oneMore) (n + length part) (sym z ∙ ap ending e), length-append part oneMore)
+      go z (inr e) = omega (arith, missing-place part (n + length (part ++ oneMore)) (z ∙ ap ending e), length-append part oneMore)
+
+  sheet-apart : (part : List ℕ) → sheetAt label false n part ≡ Wait → Apart (sheetAt label true n) part
+  sheet-apart part k =
+      apart-by (λ xs. ending (sheetAt label true n xs)) (sheetAt label true n) part part (λ one two e. ap ending e)
+      (sheet-endings part k)
 
 pub sheet-waits : (label : List ℕ) → Label label → (n : ℕ) (part : List ℕ)
     → Waits Wait (sheetAt label false n) (sheetAt label true n) part
@@ -296,17 +250,17 @@ sheet-waits label h n part = waits Wait _ _ part (is-wait _) (sheet-stays label 
 -- ---- with the end announced nothing waits
 
 block-told : (label : List ℕ) (n : ℕ) (ls : List (List ℕ)) → block label true n ls ≡ Open → ⊥
-unfolding block told ended
+unfolding block told
 block-told label n [] e = clash cc
 block-told label n (line ∷ later) e =
-    go (lineKind label false Indentation.None 0 line) (block-told label (n + length line) later)
-    (rw (lineKind-ended label Indentation.None 0 line) at e)
+    go (lineKind label true Indentation.None 0 line) (lineKind-ended label Indentation.None 0 line)
+    (block-told label (n + length line) later) e
   where
-    go : (k : Line) → (block label true (n + length line) later ≡ Open → ⊥)
-        → told (ended k) n line (block label true (n + length line) later) ≡ Open → ⊥
-    go (Line.Closes ind amount) ih z = clash cc
-    go Line.Body ih z = ih (open-withLine line _ z)
-    go Line.Undecided ih z = ih (open-withLine line _ z)
+    go : (k : Line) → (k ≡ Line.Undecided → ⊥) → (block label true (n + length line) later ≡ Open → ⊥)
+        → told k n line (block label true (n + length line) later) ≡ Open → ⊥
+    go (Line.Closes ind amount) t ih z = clash cc
+    go Line.Body t ih z = ih (open-withLine line _ z)
+    go Line.Undecided t ih z = t refl
 
 pub sheet-never-waits : (label : List ℕ) (n : ℕ) (xs : List ℕ) → sheetAt label true n xs ≡ Wait → ⊥
 unfolding sheetAt

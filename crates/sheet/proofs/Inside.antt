@@ -4,7 +4,7 @@
 --   sheet-inside   InsideReading n (n + length xs) (sheetAt label end n xs)
 -- Assumes nothing.
 use Prim.Native.Nat.{ℕ, suc, _+_, _≤_}
-use mathlib.Core.Path.{_≡_, refl}
+use mathlib.Core.Path.{_≡_, refl, sym, _∙_}
 use mathlib.Core.Bool.{Bool, _&&_}
 use mathlib.Core.List.{List, [], _∷_}
 use native.Mathlib.Omega.{arith}
@@ -20,9 +20,10 @@ use Rattle.unit.specs.Closers.{matched, indented}
 use Rattle.unit.proofs.Inside.{FaultInside, ReadInside, matched-length}
 use Rattle.sheet.specs.declared.Line.{Line}
 use Rattle.sheet.specs.Bodies.{Text, Kept, Stray, Indent, lines, isOver, unindented, followed, bodyText, unbroken}
-use Rattle.sheet.specs.Sheets.{judgedLine, lineKind, Block, Closed, Missing, Open, withLine, told, block}
+use Rattle.sheet.specs.Sheets.{closingLabel, judgedLine, lineKind, Block, Closed, Missing, Open, withLine, told, block}
 use Rattle.sheet.specs.Sheets.{Reading, Sheet, Refused, Wait, filled, stripped, answered, sheetAt}
 use Rattle.sheet.proofs.Lines.{total, total-lines}
+use Rattle.sheet.proofs.Closings.{bounded, closingLabel-bounded}
 
 -- ---- the closing line
 
@@ -32,10 +33,20 @@ LineInside size hi (Line.Closes ind amount) = amount + size ≤ hi
 LineInside size hi Line.Body = Unit {0}
 LineInside size hi Line.Undecided = Unit {0}
 
+bounded-whole : (m behind : Match) → bounded m behind ≡ Match.Whole → m ≡ Match.Whole
+unfolding bounded
+bounded-whole Match.Whole behind e = refl
+bounded-whole Match.Other behind e = e
+bounded-whole Match.Undecided behind e = e
+
+closingLabel-length : (label : List ℕ) (end : Bool) (ys : List ℕ) → closingLabel label end ys ≡ Match.Whole → length label ≤ length ys
+closingLabel-length label end ys e =
+    matched-length label ys (bounded-whole (matched label ys) _ (sym (closingLabel-bounded label end ys) ∙ e))
+
 judgedLine-inside : (label ys : List ℕ) (end : Bool) (ind : Indentation) (amount hi : ℕ) → amount + length ys ≤ hi
-    → LineInside (length label) hi (judgedLine (matched label ys) end ind amount)
+    → LineInside (length label) hi (judgedLine (closingLabel label end ys) end ind amount)
 unfolding judgedLine
-judgedLine-inside label ys end ind amount hi h = go (matched label ys) (matched-length label ys)
+judgedLine-inside label ys end ind amount hi h = go (closingLabel label end ys) (closingLabel-length label end ys)
   where
     go : (m : Match) → (m ≡ Match.Whole → length label ≤ length ys) → LineInside (length label) hi (judgedLine m end ind amount)
     go Match.Whole l = omega (arith, l refl)

@@ -1,4 +1,6 @@
 pub mod Lines
+pub mod Closings
+pub mod Captions
 pub mod Demand
 pub mod Inside
 pub mod Steps

@@ -2,6 +2,7 @@
 --   total, total-lines       the lines of a text have its bytes
 --   Lined, lines-lined       a line that others follow has a break, at its end
 --   Continues, lines-append  the lines of a text and of a longer one: the last line may go on
+--   Grown, lines-grown       the lines of a text and with one byte more, no break: the last line goes on, or one begins
 --   flat, flat-lines, lines-flat   the lines of a text one after the other are the text, and back
 -- Assumes nothing.
 use Prim.Native.Nat.{ℕ, suc, _+_}
@@ -12,6 +13,7 @@ use native.Mathlib.Omega.{arith}
 use lib.ListN.{length, length-append}
 use Rattle.source.specs.Words.{if_then_else_, _is_, every}
 use Rattle.source.proofs.Tests.{choice, &&-left, &&-right}
+use Rattle.unit.proofs.Openings.{oneMore}
 use Rattle.sheet.specs.Bodies.{inFront, lines}
 use Rattle.sheet.specs.Scans.{isLine}
 
@@ -96,6 +98,28 @@ unfolding lines
 lines-append [] more = behind
 lines-append (b ∷ xs) more =
     if-continues (b is "\n") (alike (lines-append xs more)) (inFront-continues b (lines-append xs more))
+
+pub data Grown : List (List ℕ) → List (List ℕ) → Type 0 where
+  begun : Grown [] (oneMore ∷ [])
+  grown : {line : List ℕ} → Grown (line ∷ []) ((line ++ oneMore) ∷ [])
+  beside : {line : List ℕ} {ls ls′ : List (List ℕ)} → isLine line ≡ true → Grown ls ls′ → Grown (line ∷ ls) (line ∷ ls′)
+
+inFront-grown : (b : ℕ) {ls ls′ : List (List ℕ)} → (b is "\n") ≡ false → Grown ls ls′ → Grown (inFront b ls) (inFront b ls′)
+unfolding inFront
+inFront-grown b e begun = grown
+inFront-grown b e grown = grown
+inFront-grown b e (beside {line} h g) = beside (line-front b line e h) g
+
+pub lines-grown : (xs : List ℕ) → Grown (lines xs) (lines (xs ++ oneMore))
+unfolding lines inFront isLine
+lines-grown [] = begun
+lines-grown (b ∷ xs) = go (b is "\n") refl (lines-grown xs)
+  where
+    go : (t : Bool) → (b is "\n") ≡ t → Grown (lines xs) (lines (xs ++ oneMore))
+        → Grown (if t then (b ∷ []) ∷ lines xs else inFront b (lines xs))
+        (if t then (b ∷ []) ∷ lines (xs ++ oneMore) else inFront b (lines (xs ++ oneMore)))
+    go true e g = beside {line = b ∷ []} (rw e) g
+    go false e g = inFront-grown b e g
 
 unfoldable pub flat : List (List ℕ) → List ℕ
 flat [] = []

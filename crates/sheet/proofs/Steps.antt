@@ -7,19 +7,21 @@ use native.Mathlib.Omega.{arith}
 use native.Mathlib.Numerals.{add-one}
 use lib.Dec.{eqb}
 use lib.ListN.{length, getD, drop, length-drop, drop-of-length-le}
-use lib.Seq.{getD-drop}
+use lib.Seq.{getD-drop, drop-drop}
 use borrow.Author.Tests.{eq-eqb, ne-eqb, le-leb, lt-leb, not-true, not-false}
 use Rattle.source.specs.Words.{if_then_else_, _is_, run}
-use Rattle.source.specs.Bytes.{isBlank, isNoBreak}
+use Rattle.source.specs.Bytes.{isBlank, isIdentifier, isNoBreak}
 use Rattle.source.specs.Identifiers.{RunEnd}
 use Rattle.source.proofs.Words.{drop-one}
 use Rattle.unit.specs.declared.Indentation.{Indentation}
 use Rattle.unit.specs.declared.Match.{Match}
 use Rattle.unit.specs.Closers.{matched, indented}
+use Rattle.unit.proofs.Inside.{matched-length}
 use Rattle.sheet.specs.declared.Line.{Line}
 use Rattle.sheet.specs.Bodies.{isBreak, isOver}
-use Rattle.sheet.specs.Sheets.{judgedLine, lineKind}
+use Rattle.sheet.specs.Sheets.{closingLabel, judgedLine, lineKind}
 use Rattle.sheet.specs.Scans.{lineLength, LineEnd, offsetOf, isStray, breakOf}
+use Rattle.sheet.proofs.Closings.{bounded, closingLabel-bounded}
 use Rattle.sheet.proofs.Inside.{run-length}
 
 -- a line is what stands before its break, and the break where there is one
@@ -44,7 +46,48 @@ module _ (src : List ℕ) (at n : ℕ) (h : at < length src) (r : RunEnd isNoBre
 
 pub ruleset lineEnds = (lineEnd-break, lineEnd-end)
 
--- a label there, another byte, or the end of the part
+-- behind the label: an identifier byte, another byte, or the end of the part
+module _ (line : List ℕ) (at : ℕ) (end : Bool) where
+  pub behind-end : length line ≤ at → end ≡ true → Match.Whole ≡ closingLabel [] end (drop at line)
+  unfolding closingLabel
+  behind-end h t = rw (drop-of-length-le line h, t)
+
+  pub behind-more : length line ≤ at → end ≡ false → Match.Undecided ≡ closingLabel [] end (drop at line)
+  unfolding closingLabel
+  behind-more h t = rw (drop-of-length-le line h, t)
+
+  module _ (h : at < length line) (flag : Bool) (f : flag ≡ isIdentifier (getD line at 0)) where
+    pub behind-identifier : flag ≡ true → Match.Other ≡ closingLabel [] end (drop at line)
+    unfolding closingLabel
+    behind-identifier t = rw (drop-one line at h, ← f, t)
+
+    pub behind-other : flag ≡ false → Match.Whole ≡ closingLabel [] end (drop at line)
+    unfolding closingLabel
+    behind-other t = rw (drop-one line at h, ← f, t)
+
+pub ruleset behinds = (behind-end, behind-more, behind-identifier, behind-other)
+
+-- the label, another byte, or the end of the part
+module _ (label line : List ℕ) (at : ℕ) (end : Bool) (m : Match) (e : m ≡ matched label (drop at line)) where
+  pub label-inside : at ≤ length line → m ≡ Match.Whole → at + length label ≤ length line
+  label-inside h w = omega (arith, matched-length label (drop at line) (sym e ∙ w), length-drop at line)
+
+  pub label-whole : (r : Match) → m ≡ Match.Whole → r ≡ closingLabel [] end (drop (at + length label) line)
+      → r ≡ closingLabel label end (drop at line)
+  unfolding bounded
+  label-whole r w h = h ∙ rw (closingLabel-bounded label end (drop at line), ← e, w, drop-drop (length label) at line)
+
+  pub label-other : m ≡ Match.Other → Match.Other ≡ closingLabel label end (drop at line)
+  unfolding bounded
+  label-other w = rw (closingLabel-bounded label end (drop at line), ← e, w)
+
+  pub label-undecided : m ≡ Match.Undecided → Match.Undecided ≡ closingLabel label end (drop at line)
+  unfolding bounded
+  label-undecided w = rw (closingLabel-bounded label end (drop at line), ← e, w)
+
+pub ruleset labels = (label-inside, label-whole, label-other, label-undecided)
+
+-- it closes the line, makes it one of the body, or leaves it open
 module _ (end : Bool) (ind : Indentation) (amount : ℕ) where
   pub judgedLine-arm : (m arm : Match) (r : Line) → m ≡ arm → r ≡ judgedLine arm end ind amount → r ≡ judgedLine m end ind amount
   judgedLine-arm m arm r e h = rw e h
@@ -77,7 +120,7 @@ module _ (label line : List ℕ) (end : Bool) where
   indenting-first = record { inside = omega arith; same = refl }
 
   module _ (ind : Indentation) (i : ℕ) (l : Indenting label line end ind i) where
-    module _ (m : Match) (r : Line) (e : m ≡ matched label (drop i line)) (f : r ≡ judgedLine m end ind i) where
+    module _ (m : Match) (r : Line) (e : m ≡ closingLabel label end (drop i line)) (f : r ≡ judgedLine m end ind i) where
       pub indenting-end : length line ≤ i → r ≡ lineKind label end Indentation.None 0 line
       unfolding lineKind
       indenting-end h = f ∙ rw e (sym (l .same ∙ rw (drop-of-length-le line h)))

@@ -1,25 +1,35 @@
--- The sheet reading of a nowdoc block (document 01, "Sheet reading"), from the cursor on, which counts as a line's start.
--- n is the place of what is left, `end` says that the text is all there.
---   lineKind     what a line is to the block: blanks and then the label close it
---   block        the lines before the closing line, its indentation and where its label stands; no such line is 1, at the source's end
---   sheetAt      what contracts cite: a mixed indentation is 4, at the label, before any 13; the indentation comes off each
---                earlier line; the last break goes
+-- The sheet reading of a nowdoc block (document 01, "Sheet reading", with request P1), from the cursor on, which counts as a
+-- line's start. n is the place of what is left, `end` says that the text is all there.
+--   closingLabel   the label, and then no identifier byte: another byte, or the announced end
+--   lineKind       what a line is to the block: blanks and then such a label close it
+--   block          the lines before the closing line, its indentation and where its label stands; no such line is 1, at the
+--                  source's end
+--   sheetAt        what contracts cite: a mixed indentation is 4, at the label, before any 13; the indentation comes off each
+--                  earlier line; the last break goes
 use Prim.Native.Nat.{ℕ, suc, _+_}
 use Prim.Native.Char.{code}
 use mathlib.Core.Bool.{Bool, true}
 use mathlib.Core.List.{List, [], _∷_}
 use mathlib.Core.Path.{_≡_, refl}
+use lib.Dec.{eqb}
 use lib.ListN.{length}
 use Rattle.source.specs.Refusals.{unexpectedEndOfFile, invalidDocIndentation, strayIndentation}
 use Rattle.source.specs.Words.{if_then_else_, run, bytes}
-use Rattle.source.specs.Bytes.{isBlank}
+use Rattle.source.specs.Bytes.{isBlank, isIdentifier}
 use Rattle.unit.specs.declared.Indentation.{Indentation}
 use Rattle.unit.specs.declared.Match.{Match}
-use Rattle.unit.specs.Closers.{matched, indented}
+use Rattle.unit.specs.Closers.{indented}
 use Rattle.sheet.specs.declared.Line.{Line}
 use Rattle.sheet.specs.Bodies.{Text, Kept, Stray, lines, inFront, isBreak, isOver, unindented, followed, bodyText, unbroken}
 
 -- the label against what is left of a line behind its blanks
+unfoldable pub closingLabel : List ℕ → Bool → List ℕ → Match
+closingLabel [] end [] = if end then Match.Whole else Match.Undecided
+closingLabel [] end (b ∷ rest) = if isIdentifier b then Match.Other else Match.Whole
+closingLabel (a ∷ label) end [] = Match.Undecided
+closingLabel (a ∷ label) end (b ∷ rest) = if eqb a b then closingLabel label end rest else Match.Other
+
+-- what it makes of the line
 unfoldable pub judgedLine : Match → Bool → Indentation → ℕ → Line
 judgedLine Match.Whole end ind amount = Line.Closes ind amount
 judgedLine Match.Other end ind amount = Line.Body
@@ -27,10 +37,10 @@ judgedLine Match.Undecided end ind amount = if end then Line.Body else Line.Unde
 
 -- behind so many blanks
 unfoldable pub lineKind : List ℕ → Bool → Indentation → ℕ → List ℕ → Line
-lineKind label end ind amount [] = judgedLine (matched label []) end ind amount
+lineKind label end ind amount [] = judgedLine (closingLabel label end []) end ind amount
 lineKind label end ind amount (b ∷ rest) =
     if isBlank b then lineKind label end (indented ind b) (suc amount) rest
-    else judgedLine (matched label (b ∷ rest)) end ind amount
+    else judgedLine (closingLabel label end (b ∷ rest)) end ind amount
 
 pub data Block : Type 0 where
   Closed : List (List ℕ) → Indentation → ℕ → ℕ → Block
@@ -83,9 +93,11 @@ sheetAt label end n xs = answered (length label) n (block label end n (lines xs)
 
 -- worked sheets o and p
 sheet-o : sheetAt (bytes "EOT") true 0 (bytes "  ab\n   c\n\n  EOT") ≡ Sheet (bytes "ab\n c\n") Indentation.Space 2 13 16
-unfolding sheetAt answered stripped filled block told withLine lineKind judgedLine matched indented isBlank bodyText followed unindented unbroken isOver isBreak lines inFront run bytes
+unfolding sheetAt answered stripped filled block told withLine lineKind judgedLine closingLabel indented isBlank bodyText
+    followed unindented unbroken isOver isBreak lines inFront run bytes
 sheet-o = refl
 
 sheet-p : sheetAt (bytes "EOT") true 0 (bytes " a\n  EOT") ≡ Refused 13 1
-unfolding sheetAt answered stripped filled block told withLine lineKind judgedLine matched indented isBlank bodyText followed unindented isOver isBreak lines inFront run bytes
+unfolding sheetAt answered stripped filled block told withLine lineKind judgedLine closingLabel indented isBlank bodyText
+    followed unindented isOver isBreak lines inFront run bytes
 sheet-p = refl

@@ -1,25 +1,24 @@
 // The sheet reading of a nowdoc block: the closing line's indentation comes off each row, and the last break goes.
-// Of document 01, not of the Rust. A label has at most 64 bytes, a source at most 65,536.
-// In order: the lines of a source; the closing line; what is left of a line and of the body; the scan, which writes nothing;
-// the writer.
+// Of document 01, with request P1, not of the Rust. A label has at most 64 bytes, a source at most 65,536.
+// In order: the closing line (closing); what is left of a line and of the body; the scan, which writes nothing; the writer.
 use unit::Indentation;
-use unit::Match;
 ghost use mathlib.Core.Path.{_≡_};
 ghost use mathlib.Core.Bool.{true, false};
-ghost use Prim.Native.Nat.{_+_, _-_, _≤_, _<_};
+ghost use Prim.Native.Nat.{_≤_};
 ghost use lib.Dec.{eqb};
 ghost use lib.ListN.{length, take, drop};
 ghost use Rattle.source.specs.Words.{run};
 ghost use Rattle.source.specs.Bytes.{isBlank};
-ghost use Rattle.unit.specs.declared.Indentation.{Indentation};
 ghost use Rattle.sheet.specs.Bodies.{lines, isOver, bodyText};
-ghost use Rattle.sheet.specs.Sheets.{judgedLine, lineKind, block, filled, stripped, sheetAt};
-ghost use Rattle.sheet.specs.Scans.{LineEnd, found, offsetOf, isStray, sizeOf, breakOf, Body, measured, leftOf, valueOf, Lesser, Left, Closing, Measured};
+ghost use Rattle.sheet.specs.Sheets.{filled, stripped, sheetAt};
+ghost use Rattle.sheet.specs.Scans.{offsetOf, isStray, sizeOf, breakOf, Body, measured, leftOf, valueOf, Lesser, Left, Closing, Measured};
 ghost use Rattle.source.specs.Laid.{laid};
+
+mod closing;
 
 // What a line is to the block.
 pub enum Line {
-    // Blanks, then the label: it closes the block.
+    // Blanks, then the label and no identifier byte: it closes the block.
     Closes {
         indentation: Indentation,
         amount: usize,
@@ -63,86 +62,6 @@ pub enum Scanned {
         place: usize,
     },
     Wait,
-}
-
-// Where the line at `at` ends, behind its break.
-fn line_end(src: &[u8], at: usize) -> usize
-    requires { ⌜ at < length (now src) ⌝ }
-    ensures { λ r. ⌜ LineEnd (now (src .entry)) at r ⌝ }
-{
-    let n = source::break_end(src, at);
-    if n < src.len() {
-        return n + 1;
-    }
-    n
-}
-
-// What the label makes of a line.
-fn judged_as(m: Match, end: bool, ind: Indentation, amount: usize) -> Line
-    ensures { λ r. ⌜ r ≡ judgedLine m end ind amount ⌝ }
-{
-    match m {
-        Match::Whole => Line::Closes {
-            indentation: ind,
-            amount,
-        },
-        Match::Other => Line::Body,
-        Match::Undecided => {
-            if end {
-                return Line::Body;
-            }
-            Line::Undecided
-        }
-    }
-}
-
-// What one line is to the block.
-fn line_kind(line: &[u8], label: &[u8], end: bool) -> Line
-    requires { ⌜ (length (now line) ≤ 65536) × (length (now label) ≤ 64) ⌝ }
-    ensures { λ r. ⌜ r ≡ lineKind (now (label .entry)) end Indentation.None 0 (now (line .entry)) ⌝ }
-{
-    let mut i = 0;
-    let mut ind = Indentation::None;
-    while i < line.len() {
-        let b = line[i];
-        if !source::is_blank(b) {
-            return judged_as(closer::match_at(line, i, label), end, ind, i);
-        }
-        ind = closer::indented_by(ind, b);
-        i += 1;
-    }
-    judged_as(closer::match_at(line, i, label), end, ind, i)
-}
-
-// The first line from `at` on that closes the block.
-fn find_closer(src: &[u8], label: &[u8], at: usize, end: bool) -> Found
-    requires { ⌜ (at ≤ length (now src)) × (length (now src) ≤ 65536) × (length (now label) ≤ 64) ⌝ }
-    ensures { λ r. ⌜ r ≡ found (block (now (label .entry)) end at (lines (drop at (now (src .entry))))) ⌝ }
-{
-    let mut i = at;
-    while i < src.len() {
-        let next = line_end(src, i);
-        let kind = line_kind(&src[i..next], label, end);
-        match kind {
-            Line::Closes {
-                indentation,
-                amount,
-            } => {
-                return Found::Closed {
-                    indentation,
-                    amount,
-                    place: i + amount,
-                }
-            }
-            Line::Undecided => return Found::Open,
-            Line::Body => {}
-        }
-        i = next;
-    }
-    if end {
-        return Found::Missing;
-    }
-    Found::Open
 }
 
 // How many blanks a line starts with.
@@ -211,7 +130,7 @@ fn strip_len(body: &[u8], at: usize, blank: u8, width: usize) -> Size
     let mut i = at;
     let mut len = 0;
     while i < body.len() {
-        let next = line_end(body, i);
+        let next = closing::line_end(body, i);
         let off = offset_of(&body[i..next], blank, width);
         let k = i + off;
         if is_stray(&body[i..next], blank, width) {
@@ -313,7 +232,7 @@ pub fn scan_sheet(src: &[u8], label: &[u8], at: usize, end: bool) -> Scanned
     requires { ⌜ (at ≤ length (now src)) × (length (now src) ≤ 65536) × (length (now label) ≤ 64) ⌝ }
     ensures { λ r. ⌜ r ≡ measured (sheetAt (now (label .entry)) end at (drop at (now (src .entry)))) ⌝ }
 {
-    let closing = find_closer(src, label, at, end);
+    let closing = closing::find_closer(src, label, at, end);
     match closing {
         Found::Closed {
             indentation,
@@ -353,7 +272,7 @@ fn write_body(body: &[u8], at: usize, blank: u8, width: usize, len: usize, dst: 
     let mut i = at;
     let mut j = 0;
     while j < len {
-        let next = line_end(body, i);
+        let next = closing::line_end(body, i);
         let off = offset_of(&body[i..next], blank, width);
         let k = i + off;
         let count = lesser(next - k, len - j);
@@ -381,7 +300,7 @@ pub fn write_sheet(src: &[u8], label: &[u8], at: usize, end: bool, len: usize, d
     requires { ⌜ Measured (now src) (now label) at end len (length (now dst)) ⌝ }
     ensures { λ r. ⌜ now (dst .exit) ≡ laid (now (dst .entry)) 0 (valueOf (sheetAt (now (label .entry)) end at (drop at (now (src .entry))))) ⌝ }
 {
-    let closing = find_closer(src, label, at, end);
+    let closing = closing::find_closer(src, label, at, end);
     match closing {
         Found::Closed {
             indentation,

@@ -1,6 +1,8 @@
-// Runs every worked sheet of document 01, starred or not, through step or a reading, and prints what came of it: a line a text.
-// A line is the letter, then each token (kind, line, column, position, detail, length, and the value's bytes in hexadecimal),
-// then `end` or `finished` and the position, or `refused`, the number and its line, column and position.
+// Runs every worked sheet of document 01, starred or not, and of request P1 through step or a reading, and prints what came of it:
+// a line a text. A line is the letter, then each token (kind, line, column, position, detail, length, and the value's bytes in
+// hexadecimal), then `end` or `finished` and the position, or `refused`, the number and its line, column and position.
+// A line of sheets x and y has marks in place of that, for 32 bytes from the one named on, as each follows a label: c where the block
+// closes, r where the label begins a row, w where the step waits.
 use libc::STDOUT_FILENO;
 use source::Span;
 use state::Answer;
@@ -197,10 +199,85 @@ fn block_sheets() {
     step(b'p', nowdoc(5), Reading::Sheet, b" a\n  EOT", true);
 }
 
-// Every sheet, in the order of document 01.
+// Sheets q to w: a street whose name begins with the label, and the label at the end of a script and of a part. The last is ported.
+fn caption_sheets() {
+    let street = b"ab\nEOTstrasse\nc\nEOT;";
+    step(b'q', nowdoc(16), Reading::Sheet, street, true);
+    step(b'r', nowdoc(11), Reading::Sheet, b"EOTstrasse\nEOT", true);
+    step(b's', nowdoc(2), Reading::Sheet, b"a\nEOT", true);
+    step(b't', nowdoc(2), Reading::Sheet, b"a\nEOT", false);
+    step(b't', nowdoc(2), Reading::Sheet, b"a\nEOT;", false);
+    step(b't', nowdoc(2), Reading::Sheet, b"a\nEOTs", false);
+    step(b'u', nowdoc(13), Reading::Sheet, b"EOTstrasse\n  EOT", true);
+    step(
+        b'v',
+        nowdoc(13),
+        Reading::Sheet,
+        b" \tEOTstrasse\nEOT",
+        true,
+    );
+    step(b'w', nowdoc(16), Reading::Ported, street, true);
+}
+
+// The mark of an answer to a text that ends behind the label and one byte.
+fn mark_of(answer: Answer) -> u8 {
+    match answer {
+        Answer::Done => b'c',
+        Answer::Finished => b'?',
+        Answer::Refused { number, span } => {
+            if number == source::WAIT {
+                return b'w';
+            }
+            if number == source::UNEXPECTED_END_OF_FILE {
+                return b'r';
+            }
+            b'?'
+        }
+    }
+}
+
+// The mark of a byte behind the label.
+fn print_mark(b: u8, end: bool) {
+    let src = [b'a', b'\n', b'E', b'O', b'T', b];
+    let mut list = [0u32; 24];
+    let mut pool = [0u8; 32];
+    let s = standing(nowdoc(2), Reading::Sheet);
+    let t = lexer::step(&src, end, s, &mut list, &mut pool);
+    let answer = t.answer;
+    let mark = [mark_of(answer)];
+    io::write_all(STDOUT_FILENO, &mark);
+}
+
+// The beginning of a line of marks: the letter, and the first byte.
+fn print_first(letter: u8, b: u8) {
+    let name = [letter, b':', b' '];
+    io::write_all(STDOUT_FILENO, &name);
+    print_byte(b);
+    io::write_all(STDOUT_FILENO, b" ");
+}
+
+// Sheet x with the end announced, y with more: a row, and the label with each byte behind it.
+fn behind_label(letter: u8, end: bool) {
+    let mut n: u32 = 0;
+    while n < 256 {
+        if n & 31 == 0 {
+            print_first(letter, n as u8);
+        }
+        print_mark(n as u8, end);
+        if n & 31 == 31 {
+            io::write_all(STDOUT_FILENO, b"\n");
+        }
+        n += 1;
+    }
+}
+
+// Every sheet, in the order of document 01, then those of request P1.
 fn main() {
     initial_sheets();
     quoted_sheets();
     number_sheets();
     block_sheets();
+    caption_sheets();
+    behind_label(b'x', true);
+    behind_label(b'y', false);
 }

@@ -5,6 +5,18 @@ use mathlib.Core.List.{List, _++_}
 use Prim.Native.Nat.{ℕ}
 use Rattle.source.specs.Demand.{Apart, Waits}
 
+-- what is apart by one reading is apart by another that tells as much
+pub apart-by : {A B : Type 0} (f : List ℕ → A) (g : List ℕ → B) (xs ys : List ℕ)
+    → ((one two : List ℕ) → g (ys ++ one) ≡ g (ys ++ two) → f (xs ++ one) ≡ f (xs ++ two)) → Apart f xs → Apart g ys
+apart-by f g xs ys tells x =
+    record {
+      one = x .one;
+      two = x .two;
+      one-bytes = x .one-bytes;
+      two-bytes = x .two-bytes;
+      apart = λ e. x .apart (tells (x .one) (x .two) e);
+    }
+
 pub waits : {A : Type 0} (wait : A) (more whole : List ℕ → A) (part : List ℕ) → Dec (more part ≡ wait)
     → ((more part ≡ wait → ⊥) → (rest : List ℕ) → whole (part ++ rest) ≡ more part)
     → (more part ≡ wait → Apart whole part)

@@ -13,7 +13,7 @@ use lib.ListN.{length, length-append}
 use Rattle.source.specs.Words.{if_then_else_, every}
 use Rattle.source.specs.Demand.{Apart, Waits}
 use Rattle.source.specs.Refusals.{stackFull}
-use Rattle.source.proofs.Demand.{waits}
+use Rattle.source.proofs.Demand.{apart-by, waits}
 use Rattle.unit.specs.declared.Follow.{Follow}
 use Rattle.unit.specs.declared.Mode.{Mode}
 use Rattle.unit.specs.declared.Stop.{Stop}
@@ -219,14 +219,9 @@ module _ (m : Mode) (label : List ℕ) (p : ℕ) where
       → collected m label true 0 n (b ∷ (xs ++ more)) ≡ onto vs (collected m label true k (suc n) (xs ++ more)))
       → Apart (endingAt k (suc n)) xs → Apart (endingAt 0 n) (b ∷ xs)
   onto-apart n b xs vs k s x =
-      record {
-        one = x .one;
-        two = x .two;
-        one-bytes = x .one-bytes;
-        two-bytes = x .two-bytes;
-        apart =
-            λ e. x .apart (sym (ap (ending p) (s (x .one)) ∙ ending-onto p vs _) ∙ e ∙ ap (ending p) (s (x .two)) ∙ ending-onto p vs _);
-      }
+      apart-by (endingAt k (suc n)) (endingAt 0 n) xs (b ∷ xs)
+      (λ one two e. sym (ap (ending p) (s one) ∙ ending-onto p vs _) ∙ e ∙ ap (ending p) (s two) ∙ ending-onto p vs _)
+      x
 
   end-apart : (skip n : ℕ) → Apart (endingAt skip n) []
   unfolding every
@@ -295,25 +290,14 @@ module _ (m : Mode) (label : List ℕ) (h : Labelled m label) (n : ℕ) where
       → Apart (λ xs. ending p (textAt m label true n xs)) part
   unfolding textAt
   text-endings p part k =
-      let x = collected-waits m label h p 0 n part (finished-wait m _ k) in
-      record {
-        one = x .one;
-        two = x .two;
-        one-bytes = x .one-bytes;
-        two-bytes = x .two-bytes;
-        apart = λ e. x .apart (sym (ending-finished p m _) ∙ e ∙ ending-finished p m _);
-      }
+      apart-by _ (λ xs. ending p (textAt m label true n xs)) part part
+      (λ one two e. sym (ending-finished p m _) ∙ e ∙ ending-finished p m _)
+      (collected-waits m label h p 0 n part (finished-wait m _ k))
 
   text-apart : (part : List ℕ) → textAt m label false n part ≡ Wait → Apart (textAt m label true n) part
   text-apart part k =
-      let x = text-endings n part k in
-      record {
-        one = x .one;
-        two = x .two;
-        one-bytes = x .one-bytes;
-        two-bytes = x .two-bytes;
-        apart = λ e. x .apart (ap (ending n) e);
-      }
+      apart-by (λ xs. ending n (textAt m label true n xs)) (textAt m label true n) part part (λ one two e. ap (ending n) e)
+      (text-endings n part k)
 
   -- demand 3, from the position n on
   pub text-waits : (part : List ℕ) → Waits Wait (textAt m label false n) (textAt m label true n) part

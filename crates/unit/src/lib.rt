@@ -32,7 +32,7 @@ pub enum Indentation {
     Mixed,
 }
 
-// A label against the text: it stands there, another byte comes first, or the part ends within it.
+// A label against the text: it stands there, it does not, or the part ends before that is told.
 pub enum Match {
     Whole,
     Other,

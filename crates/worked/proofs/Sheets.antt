@@ -1,6 +1,5 @@
--- The worked sheets of document 01 hold: each row of the table finds what it says, by computing the definitions. Assumes nothing.
-use mathlib.Core.Path.{_≡_, refl}
-use mathlib.Core.Bool.{true, false}
+-- The worked sheets hold: each row of the table finds what it says, by computing the definitions. Assumes nothing.
+use mathlib.Core.Path.{refl}
 use Rattle.source.specs.Words.{bytes, every, run}
 use Rattle.source.specs.Bytes.{isDigit, isOctal, isHex, isLetter, isStart, isIdentifier, isBlank}
 use Rattle.source.specs.Cursor.{passedByte, passed}
@@ -16,7 +15,7 @@ use Rattle.unit.specs.Units.{unitAt}
 use Rattle.unit.specs.Readings.{onto, taken, afterOf, collected, trimmed, losesBreak, finished, textAt}
 use Rattle.number.specs.Numbers as number
 use Rattle.sheet.specs.Bodies as bodies
-use Rattle.sheet.specs.Sheets.{judgedLine, lineKind, withLine, told, block, filled, stripped, answered, sheetAt}
+use Rattle.sheet.specs.Sheets.{closingLabel, judgedLine, lineKind, withLine, told, block, filled, stripped, answered, sheetAt}
 use Rattle.outcome.specs.Outcomes.{unlessEmpty, values, limited}
 use Rattle.outcome.specs.Initials.{lower, fullTag, openTag, tag, orLater, tagged, tagKind, tagLength, inlined, initial}
 use Rattle.outcome.specs.Openings.{lineFeed, docBreak, docQuote, docEnd, docName, docStart, docLabel, thirdLess, opening, docFrame}
@@ -51,6 +50,6 @@ unfolding bytes every run isDigit isOctal isHex isLetter isStart isIdentifier is
     number.followed number.power number.exponent number.fraction number.digitAhead number.powerAhead
     number.decided number.marked number.tail number.decimal number.prefixed number.numberIn number.numberAt
     number.scanned number.lowerExponent number.spelling number.spelled number.valueOf bodies.inFront bodies.lines
-    bodies.isBreak bodies.isOver bodies.unindented bodies.followed bodies.bodyText bodies.unbroken judgedLine
+    bodies.isBreak bodies.isOver bodies.unindented bodies.followed bodies.bodyText bodies.unbroken closingLabel judgedLine
     lineKind withLine told block filled stripped answered sheetAt
-sheets-hold = (refl, (refl, (refl, (refl, (refl, (refl, (refl, (refl, (refl, (refl, (refl, (refl, (refl, (refl, (refl, (refl, tt))))))))))))))))
+sheets-hold = (refl, (refl, (refl, (refl, (refl, (refl, (refl, (refl, (refl, (refl, (refl, (refl, (refl, (refl, (refl, (refl, (refl, (refl, (refl, (refl, (refl, (refl, (refl, (refl, (refl, tt)))))))))))))))))))))))))

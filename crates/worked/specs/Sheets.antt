@@ -1,4 +1,5 @@
--- The starred worked sheets of document 01 as one table: the letter, the reading, the text, and what a host finds after the call.
+-- The starred worked sheets of document 01, and q to w of request P1, as one table: the letter, the reading, the text, and what a
+-- host finds after the call.
 -- Text after the opening quote or break, positions from its start; a block's label is a range of the text; ample room.
 --   Call       the step with this top frame and this reading of Nowdoc frames, or one of the readings
 --   Written    a token as a host finds it in list and pool
@@ -12,16 +13,16 @@ use Prim.Native.String.{String}
 use mathlib.Core.Bool.{Bool, true, false}
 use mathlib.Core.List.{List, [], _∷_}
 use mathlib.Core.Path.{_≡_}
-use lib.ListN.{getD, set, take, drop, replicate}
+use lib.ListN.{getD, take, drop, replicate}
 use Rattle.source.specs.Words.{bytes}
 use Rattle.source.specs.Cursor.{origin}
-use Rattle.source.specs.Refusals.{invalidUnicodeEscape, invalidOctalEscape, invalidDocIndentation, wait}
+use Rattle.source.specs.Refusals.{invalidUnicodeEscape, invalidOctalEscape, invalidDocIndentation, strayIndentation, wait}
 use Rattle.source.specs.declared.Span.{Span}
 use Rattle.state.specs.declared.Answer.{Answer}
 use Rattle.state.specs.declared.Frame.{Frame}
 use Rattle.state.specs.declared.Reading.{Reading}
 use Rattle.state.specs.declared.Session.{Session}
-use Rattle.token.specs.Kinds.{inlineHtml, openTagFull, openTagShort, stringPart, variable, endDocStringSpace}
+use Rattle.token.specs.Kinds.{inlineHtml, openTagFull, openTagShort, stringPart, variable, endDocStringNone, endDocStringSpace}
 use Rattle.token.specs.Kinds.{literalSingleQuotedString, literalDoubleQuotedString, literalInteger}
 use Rattle.lexer.specs.Turns.{After}
 use Rattle.lexer.specs.Calls.{stepped, readNumber, readSingle, readDouble}
@@ -111,6 +112,13 @@ label start len = Frame.Nowdoc (record { start = start; len = len })
 abbrev row : Char → Call → Bool → String → Found → Sheet
 row letter call end text gives = record { letter = letter; call = call; end = end; text = text; gives = gives }
 
+-- the text of a block, and the label EOT without indentation
+abbrev closed : String → List Written
+closed text =
+    record { kind = stringPart; detail = 0; span = origin; value = bytes text }
+    ∷ record { kind = endDocStringNone; detail = 0; span = origin; value = bytes "EOT" }
+    ∷ []
+
 abbrev initial : Call
 initial = Step Frame.Initial Reading.Ported
 
@@ -148,6 +156,15 @@ table =
     (record { kind = stringPart; detail = 0; span = origin; value = bytes "ab\n c\n" }
     ∷ record { kind = endDocStringSpace; detail = 2; span = origin; value = bytes "EOT" }
     ∷ []))
+    ∷ row "q" (Step (label 16 3) Reading.Sheet) true "ab\nEOTstrasse\nc\nEOT;" (done 19 (closed "ab\nEOTstrasse\nc"))
+    ∷ row "r" (Step (label 11 3) Reading.Sheet) true "EOTstrasse\nEOT" (done 14 (closed "EOTstrasse"))
+    ∷ row "s" (Step (label 2 3) Reading.Sheet) true "a\nEOT" (done 5 (closed "a"))
+    ∷ row "t" (Step (label 2 3) Reading.Sheet) false "a\nEOT" (refused wait origin)
+    ∷ row "t" (Step (label 2 3) Reading.Sheet) false "a\nEOT;" (done 5 (closed "a"))
+    ∷ row "t" (Step (label 2 3) Reading.Sheet) false "a\nEOTs" (refused wait origin)
+    ∷ row "u" (Step (label 13 3) Reading.Sheet) true "EOTstrasse\n  EOT" (refused strayIndentation origin)
+    ∷ row "v" (Step (label 13 3) Reading.Sheet) true " \tEOTstrasse\nEOT" (done 16 (closed " \tEOTstrasse"))
+    ∷ row "w" (Step (label 16 3) Reading.Ported) true "ab\nEOTstrasse\nc\nEOT;" (done 6 (closed "ab"))
     ∷ []
 
 abbrev pub Holds : Sheet → Type 0

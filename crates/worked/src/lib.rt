@@ -1,1 +1,2 @@
-// The worked sheets of document 01 that are its proved set: one table, one statement (specs/Sheets.antt, proofs/Sheets.antt).
+// The worked sheets that are document 01's proved set, and those of request P1: one table, one statement
+// (specs/Sheets.antt, proofs/Sheets.antt).

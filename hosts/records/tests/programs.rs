@@ -10,8 +10,9 @@ use records::{pool_beside, quoted, with_ending, POOL, RECORDS};
 const WRITE: &str = env!("CARGO_BIN_EXE_write-records");
 const PRINT: &str = env!("CARGO_BIN_EXE_print-records");
 
-const GOOD: [&str; 3] = ["station-forecourt", "street-crossing", "tabs-before-closer"];
+const GOOD: [&str; 4] = ["station-forecourt", "street-crossing", "street-names", "tabs-before-closer"];
 const REFUSED: [&str; 2] = ["faulty/closer-missing", "faulty/closer-with-spaces-and-tabs"];
+const REFUSED_AS_SHEETS: [&str; 2] = ["faulty/label-with-letters", "faulty/row-with-less-indentation"];
 
 /// What stands in a file of sheets/.
 fn stored(name: &str, ending: &str) -> String {
@@ -45,7 +46,7 @@ fn written(script: &Path, words: &[&Path]) -> (Vec<Record>, Vec<u8>) {
 
 #[test]
 fn records_are_the_rows_that_are_stored() {
-    for name in GOOD.iter().chain(&["faulty/row-with-less-indentation"]) {
+    for name in GOOD.iter().chain(&REFUSED_AS_SHEETS) {
         let script = copy(name, "rows");
         let (all, pool) = written(&script, &[&script]);
         let mut rows = String::new();
@@ -79,8 +80,8 @@ fn sheets_are_the_relief_that_is_stored() {
 
 #[test]
 fn refused_sheets_write_nothing() {
-    let stray = (&"faulty/row-with-less-indentation", &["--sheet"][..]);
-    for (name, flags) in REFUSED.iter().map(|name| (name, &[][..])).chain([stray]) {
+    let as_sheets = REFUSED_AS_SHEETS.iter().map(|name| (name, &["--sheet"][..]));
+    for (name, flags) in REFUSED.iter().map(|name| (name, &[][..])).chain(as_sheets) {
         let script = copy(name, "refused");
         let mut words: Vec<&Path> = flags.iter().map(Path::new).collect();
         words.push(&script);

@@ -7,7 +7,8 @@ use crate::numbers::choices::*;
 pub enum Reading {
     /// As the lexer that was carried over reads them.
     Ported,
-    /// As a sheet: the closing line's indentation comes off each row.
+    /// As a sheet: the closing line's indentation comes off each row, and no letter, digit, `_` or byte from 0x80 on stands
+    /// behind a closing label.
     Sheet,
 }
 

@@ -1,20 +1,15 @@
 //! Random scripts, sessions and bytes: no call panics, a refused call leaves everything, parts of any size give the same.
 
+mod lent;
+
 use cases::pieces::script;
 use cases::random::Random;
+use lent::Lent;
 use puretakoi::{
     limits, records, refusals, End, Event, Frame, Label, Progress, Reading, Refusal, Session, Span, Stream, Token,
 };
 
 const TRIES: usize = 20_000;
-
-/// What is lent to a call, and what must stay where it is refused.
-#[derive(Clone, Debug, PartialEq)]
-struct Lent {
-    session: Session,
-    list: Vec<u32>,
-    pool: Vec<u8>,
-}
 
 /// One of the calls, with arguments that may be wild.
 fn call(lent: &mut Lent, src: &[u8], random: &mut Random) -> Result<(), Refusal> {

@@ -50,6 +50,34 @@ fn a_stray_row_is_refused_in_the_sheet_reading_alone() {
     assert_eq!(read(script, 5, Reading::Ported).1, Event::Finished(26));
 }
 
+/// A label at the end of a part waits for a byte more, or for the announced end; in the ported reading it closes at once.
+#[test]
+fn a_part_that_ends_in_the_label() {
+    let first = b"<?php <<<'EOT'\nab\nEOT";
+    let block = |behind: &[u8]| {
+        let mut stream = Stream::new(Reading::Sheet);
+        stream.feed(first).unwrap();
+        assert!(matches!(stream.next(), Event::Tokens(tokens) if tokens.len() == 1));
+        assert_eq!(stream.next(), Event::Wait);
+        stream.feed(behind).unwrap();
+        stream
+    };
+    let text = |event| match event {
+        Event::Tokens(tokens) => tokens[0].value.clone(),
+        other => panic!("{:?}", other),
+    };
+    assert_eq!(text(block(b";").next()), b"ab");
+    let mut longer = block(b"s");
+    assert_eq!(longer.next(), Event::Wait);
+    longer.feed(b"trasse\nEOT").unwrap();
+    assert_eq!(longer.next(), Event::Wait);
+    longer.finish();
+    assert_eq!(text(longer.next()), b"ab\nEOTstrasse");
+    let mut ported = Stream::new(Reading::Ported);
+    ported.feed(first).unwrap();
+    assert!(matches!(ported.next(), Event::Tokens(tokens) if tokens.len() == 3 && tokens[1].value == b"ab"));
+}
+
 #[test]
 fn the_last_event_comes_again_and_nothing_can_be_added() {
     let mut stream = Stream::new(Reading::Ported);

@@ -1,18 +1,13 @@
 //! A walk is as many steps, up to one that is not done: the same answer, records, values and session.
 
+mod lent;
+
 use cases::pieces::script;
 use cases::random::Random;
+use lent::Lent;
 use puretakoi::{kinds, refusals, End, Frame, Label, Progress, Reading, Refusal, Session, Span};
 
 const TRIES: usize = 20_000;
-
-/// What is lent to a call.
-#[derive(Clone, Debug, PartialEq)]
-struct Lent {
-    session: Session,
-    list: Vec<u32>,
-    pool: Vec<u8>,
-}
 
 impl Lent {
     fn new(reading: Reading, places: usize, bytes: usize) -> Lent {
@@ -67,6 +62,7 @@ const SCRIPTS: &[&[u8]] = &[
     b"<?php \"kerb $a[1] {$b} ${c} $d->e\"; \"open $f",
     b"<?php <<<'EOT'\n  ab\n   c\n  EOT;\n<<<E\n$a\n E; 'legend'",
     b"<?php <<<'EOT'\n  ab\n c\n  EOT; 1;",
+    b"<?php <<<'EOT'\n  EOTs\n  EOT",
     b"<?php { { '\\'' } \"\\400\" } 1;",
 ];
 

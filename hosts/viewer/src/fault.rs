@@ -119,7 +119,11 @@ fn open(script: &[u8], session: &Session, span: Span) -> Option<Open> {
         Frame::Heredoc(_) => (format!("heredoc block {}", name()), "its closing line is missing".to_string(), span),
         Frame::Nowdoc(_) => {
             let near = near_closer(script, session).map_or_else(String::new, |near| format!(", but {}", near));
-            (format!("nowdoc block {}", name()), format!("no line behind it starts with its label{}", near), span)
+            (
+                format!("nowdoc block {}", name()),
+                format!("no line behind it starts with its label as a word of its own{}", near),
+                span,
+            )
         }
         Frame::VarOffset => ("bracket".to_string(), "the ] is missing".to_string(), span),
         _ => return None,
@@ -147,20 +151,50 @@ fn lines<'a>(script: &'a [u8], session: &Session) -> impl Iterator<Item = (u32, 
 /// The number and the blanks of the line that closes the block that is being read.
 fn closing_line<'a>(script: &'a [u8], session: &Session) -> Option<(u32, &'a [u8])> {
     let label = label(session, script)?;
-    let closer = lines(script, session).find(|(_number, _blanks, rest)| rest.starts_with(label));
+    let closer = lines(script, session).find(|(_number, _blanks, rest)| closes(rest, label));
     closer.map(|(number, blanks, _rest)| (number, blanks))
 }
 
-/// The first line that would close the block if its label were written or placed rightly, in words.
+/// The line that would close an open block if its label were written, ended or placed rightly, in words. Of the lines in which a word
+/// goes on behind the label one that ends as closing lines do comes first, for others may be captions.
 fn near_closer(script: &[u8], session: &Session) -> Option<String> {
     let label = label(session, script).filter(|label| !label.is_empty())?;
-    lines(script, session).find_map(|(number, _blanks, rest)| {
-        if rest.get(..label.len()).map_or(false, |front| front.eq_ignore_ascii_case(label)) {
-            return Some(format!("line {} has it in other letter case", number));
-        }
-        let within = rest.windows(label.len()).any(|part| part == label);
-        within.then(|| format!("line {} has it behind other characters", number))
-    })
+    let small = label.to_ascii_lowercase();
+    let first = |is_near: &dyn Fn(&[u8]) -> bool| lines(script, session).find(|(_number, _blanks, rest)| is_near(rest));
+    if let Some((number, _blanks, _rest)) = first(&|rest| closes(&rest.to_ascii_lowercase(), &small)) {
+        return Some(format!("line {} has it in other letter case", number));
+    }
+    let is_longer = |rest: &[u8]| rest.starts_with(label);
+    let longer = first(&|rest| is_longer(rest) && ends_as_a_closing_line(rest)).or_else(|| first(&is_longer));
+    if let Some((number, _blanks, rest)) = longer {
+        return Some(format!("in line {} {} the label", number, what_follows(&rest[label.len()..])));
+    }
+    let within = first(&|rest| (1..rest.len()).any(|at| closes(&rest[at..], label)));
+    within.map(|(number, _blanks, _rest)| format!("line {} has it behind other characters", number))
+}
+
+/// Whether a line closes a nowdoc block by what follows its blanks: the label, and then no byte of an identifier.
+fn closes(rest: &[u8], label: &[u8]) -> bool {
+    rest.strip_prefix(label).map_or(false, |behind| !behind.first().map_or(false, is_part_of_a_word))
+}
+
+/// Whether `;`, `,` or `)` follows the word that a line starts with.
+fn ends_as_a_closing_line(rest: &[u8]) -> bool {
+    rest.iter().find(|byte| !is_part_of_a_word(byte)).map_or(false, |byte| b";,)".contains(byte))
+}
+
+/// Whether a byte is one of an identifier.
+fn is_part_of_a_word(byte: &u8) -> bool {
+    byte.is_ascii_alphanumeric() || *byte == b'_' || *byte >= 0x80
+}
+
+/// What the part of a word behind a label begins with, in words.
+fn what_follows(bytes: &[u8]) -> String {
+    match bytes.first() {
+        Some(byte) if byte.is_ascii_alphabetic() => "letters follow".to_string(),
+        Some(byte) if byte.is_ascii_digit() => "digits follow".to_string(),
+        _ => format!("{} follows", character_in_words(bytes)),
+    }
 }
 
 /// Whether a byte is a space or a tab.

@@ -3,7 +3,7 @@
 use crate::fault::{counted, is_blank, Fault, Mark};
 use crate::sheet::{Block, Ending, Sheet};
 use crate::shown::{pieces, shown};
-use crate::text::{block_form, block_name, remark_text, verdict, what_was_read, Totals};
+use crate::text::{block_form, block_name, verdict, what_was_read, Totals};
 
 const STYLE: &str = include_str!("page.css");
 
@@ -68,17 +68,13 @@ pub fn escaped(text: &str) -> String {
     out
 }
 
-/// A block of a sheet, whose path comes escaped: its heading, its picture and rows, and a remark.
+/// A block of a sheet, whose path comes escaped: its heading, its picture and rows.
 fn block_text(path: &str, block: &Block, number: usize, id: &str) -> String {
     let name = escaped(&block_name(block, number));
     let form = escaped(&block_form(block));
     let relief =
         if block.widest() == 0 { String::new() } else { relief(block, &format!("{}, block {}", path, number), id) };
-    let remark = block
-        .remark
-        .as_ref()
-        .map_or_else(String::new, |remark| format!("<p class=\"remark\">{}</p>\n", escaped(&remark_text(remark))));
-    format!("<h3>{}</h3>\n<p>{}</p>\n{}{}", name, form, relief, remark)
+    format!("<h3>{}</h3>\n<p>{}</p>\n{}", name, form, relief)
 }
 
 /// A block's picture, and beside that its rows as text.

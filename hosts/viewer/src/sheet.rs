@@ -1,6 +1,6 @@
 //! A script as a sheet: its nowdoc blocks by the sheet reading, and how the reading ended.
 
-use puretakoi::{kinds, Frame, Session, Span};
+use puretakoi::{kinds, Frame, Span};
 
 use crate::fault::Fault;
 use crate::reader::{Reader, Step};
@@ -34,19 +34,6 @@ pub struct Block {
     pub indentation: Indentation,
     /// Its rows without their breaks.
     pub rows: Vec<Vec<u8>>,
-    /// What its closing line starts with, where that is no closer to PHP.
-    pub remark: Option<Remark>,
-}
-
-/// A closing label with letters behind it, which PHP would read as a row.
-#[derive(Debug, PartialEq, Eq)]
-pub struct Remark {
-    /// The closing line's number.
-    pub line: u32,
-    /// The label.
-    pub label: Vec<u8>,
-    /// The letters, digits and further bytes of identifiers that follow the label.
-    pub behind: Vec<u8>,
 }
 
 /// A closing line's indentation.
@@ -88,11 +75,6 @@ impl Sheet {
     pub fn rows(&self) -> usize {
         self.blocks.iter().map(|block| block.rows.len()).sum()
     }
-
-    /// How many of its blocks have a remark.
-    pub fn remarks(&self) -> usize {
-        self.blocks.iter().filter(|block| block.remark.is_some()).count()
-    }
 }
 
 /// The block that a step read, if it was in one.
@@ -110,17 +92,7 @@ fn block(script: &[u8], step: &Step) -> Option<Block> {
         _ => Indentation::None,
     };
     let rows = rows(text, step.after.line().saturating_sub(step.before.line()));
-    let remark = remark(script, step.after, &label);
-    Some(Block { span: step.opening, label, indentation, rows, remark })
-}
-
-/// The remark on a block that was closed just before the cursor, if bytes of an identifier follow.
-fn remark(script: &[u8], session: &Session, label: &[u8]) -> Option<Remark> {
-    let rest = script.get(session.position() as usize..)?;
-    let is_part = |byte: &&u8| byte.is_ascii_alphanumeric() || **byte == b'_' || **byte >= 0x80;
-    let behind: Vec<u8> = rest.iter().take_while(is_part).copied().collect();
-    let found = Remark { line: session.line(), label: label.to_vec(), behind };
-    Some(found).filter(|remark| !remark.behind.is_empty())
+    Some(Block { span: step.opening, label, indentation, rows })
 }
 
 /// The rows of a block's text. A text of no bytes is no row or an empty one: the lines tell.

@@ -1,14 +1,11 @@
 //! A sheet as text: the whole of one, or a line for each of many and a summary.
 
 use crate::fault::{counted, Fault, Mark};
-use crate::sheet::{Block, Ending, Indentation, Remark, Sheet};
+use crate::sheet::{Block, Ending, Indentation, Sheet};
 use crate::shown::{cut, marked, shown};
 
 /// The fewest columns that a row is cut to.
 const FEWEST_COLUMNS: usize = 2;
-
-/// The most columns that a remark gives a word of the script.
-const WORD_COLUMNS: usize = 40;
 
 /// How many sheets of which kind, with their blocks and rows.
 #[derive(Clone, Copy, Debug, Default, PartialEq, Eq)]
@@ -23,8 +20,6 @@ pub struct Totals {
     pub blocks: usize,
     /// Rows of all blocks.
     pub rows: usize,
-    /// Blocks with a remark.
-    pub remarks: usize,
 }
 
 impl Totals {
@@ -36,7 +31,6 @@ impl Totals {
         }
         self.blocks += sheet.blocks.len();
         self.rows += sheet.rows();
-        self.remarks += sheet.remarks();
     }
 
     /// Counts what others counted.
@@ -46,13 +40,12 @@ impl Totals {
         self.unread += others.unread;
         self.blocks += others.blocks;
         self.rows += others.rows;
-        self.remarks += others.remarks;
     }
 
     /// The summary, in one line.
     pub fn summary(&self) -> String {
         let sheets = counted(self.good + self.refused, "sheet");
-        let held = held(self.blocks, self.rows, self.remarks);
+        let held = held(self.blocks, self.rows);
         let unread = if self.unread == 0 { String::new() } else { format!(", {} not read", self.unread) };
         format!("{}, {}: {} ok, {} refused{}", sheets, held, self.good, self.refused, unread)
     }
@@ -64,7 +57,6 @@ pub fn whole(path: &str, sheet: &Sheet, columns: Option<usize>) -> String {
     for (block, number) in sheet.blocks.iter().zip(1..) {
         lines.push(format!("{}: {}", block_name(block, number), block_form(block)));
         lines.extend(numbered_rows(block, columns));
-        lines.extend(block.remark.as_ref().map(remark_text));
         lines.push(String::new());
     }
     if let Ending::Refused(fault) = &sheet.ending {
@@ -82,7 +74,7 @@ pub fn line(path: &str, sheet: &Sheet) -> String {
 
 /// Blocks, rows, and ok or the refusal.
 pub fn verdict(sheet: &Sheet) -> String {
-    let held = held(sheet.blocks.len(), sheet.rows(), sheet.remarks());
+    let held = held(sheet.blocks.len(), sheet.rows());
     match &sheet.ending {
         Ending::Finished(_) => format!("{}, ok", held),
         Ending::Refused(fault) => {
@@ -107,31 +99,17 @@ pub fn block_form(block: &Block) -> String {
     format!("{}, {}, widest {}", indentation, counted(block.rows.len(), "row"), counted(block.widest(), "byte"))
 }
 
-/// What to look at where a block closes at a label with letters behind it.
-pub fn remark_text(remark: &Remark) -> String {
-    let word = cut(&[&remark.label[..], &remark.behind].concat(), Some(WORD_COLUMNS));
-    let follow = if remark.behind.first().map_or(false, u8::is_ascii_digit) { "digits" } else { "letters" };
-    format!(
-        "Look at line {}: the block closes at \"{}\", where {} follow the label {}; PHP would read this line as a row.",
-        remark.line,
-        word,
-        follow,
-        cut(&remark.label, Some(WORD_COLUMNS))
-    )
-}
-
 /// How far a sheet was read.
 pub fn what_was_read(sheet: &Sheet) -> String {
-    let held = held(sheet.blocks.len(), sheet.rows(), sheet.remarks());
+    let held = held(sheet.blocks.len(), sheet.rows());
     match sheet.ending {
         Ending::Finished(position) => format!("Read to the end, {}: {}.", counted(position as usize, "byte"), held),
         Ending::Refused(_) => format!("Read before the refusal: {}.", held),
     }
 }
 
-fn held(blocks: usize, rows: usize, remarks: usize) -> String {
-    let remarks = if remarks == 0 { String::new() } else { format!(", {}", counted(remarks, "remark")) };
-    format!("{}, {}{}", counted(blocks, "block"), counted(rows, "row"), remarks)
+fn held(blocks: usize, rows: usize) -> String {
+    format!("{}, {}", counted(blocks, "block"), counted(rows, "row"))
 }
 
 /// The rows, each behind its number.

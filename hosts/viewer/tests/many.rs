@@ -17,7 +17,7 @@ fn a_folder_gives_a_line_a_sheet() {
 fn several_at_a_time_give_the_same() {
     let all = |jobs| run(&["-j", jobs, "sheets", "sheets/tabs.php", "sheets/nowhere.php"]);
     let one = all("1");
-    assert_eq!(one.out.lines().count(), 26, "{}", one.out);
+    assert_eq!(one.out.lines().count(), 27, "{}", one.out);
     for jobs in ["2", "3", "64"] {
         assert_eq!(all(jobs), one);
     }
@@ -42,14 +42,6 @@ fn what_cannot_be_read_is_told_and_the_others_are_read() {
 
     let alone = run(&["sheets/nowhere.php"]);
     assert_eq!((alone.out.as_str(), alone.status, alone.errors), ("", Some(2), got.errors));
-}
-
-#[test]
-fn remarks_are_counted() {
-    let got = run(&["sheets/letters-behind-label.php", "sheets/wide.php"]);
-    let want = "sheets/letters-behind-label.php: 3 blocks, 2 rows, 2 remarks, ok\n\
-                sheets/wide.php: 1 block, 2 rows, ok\n2 sheets, 4 blocks, 4 rows, 2 remarks: 2 ok, 0 refused\n";
-    assert_eq!((got.out.as_str(), got.status), (want, Some(0)));
 }
 
 #[test]

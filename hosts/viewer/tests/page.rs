@@ -47,21 +47,23 @@ fn the_page_marks_refusals() {
         "<p>Before RELIEF stand 2 spaces and 1 tab.</p>\n",
         "<p>Line 9, column 3:</p>\n<pre><code>  <mark>.</mark>.           o    o</code></pre>\n",
         "this row starts with 2 spaces, then &quot;.&quot;.</p>\n",
+        "starts with its label as a word of its own, but in line 13 letters follow the label.</p>\n",
     ] {
         assert!(page.contains(part), "{} is not in {}", part, page);
     }
 }
 
 #[test]
-fn the_page_has_remarks() {
-    let (page, status) = page_of("remarks", &["sheets/letters-behind-label.php"]);
+fn the_page_has_rows_that_start_with_the_label() {
+    let (page, status) = page_of("label", &["sheets/letters-behind-label.php"]);
     assert_eq!(status, Some(0));
-    let first =
-        "</div>\n<p class=\"remark\">Look at line 4: the block closes at &quot;East&quot;, where letters follow \
-                 the label E; PHP would read this line as a row.</p>\n<h3>Block 2 ";
-    assert!(page.contains(first), "{}", page);
-    assert_eq!(page.matches("<p class=\"remark\">").count(), 2, "{}", page);
-    assert!(page.contains("</a>: 3 blocks, 2 rows, 2 remarks, ok</li>\n"), "{}", page);
+    for part in [
+        "<li><code>o</code></li>\n<li><code>East</code></li>\n</ol>\n</div>\n<h3>Block 2 at 6:6, label ROW</h3>\n",
+        "<li><code>ROW_;</code></li>\n<li><code>ROWä</code></li>\n</ol>\n",
+        "</a>: 4 blocks, 7 rows, ok</li>\n",
+    ] {
+        assert!(page.contains(part), "{} is not in {}", part, page);
+    }
 }
 
 #[test]
@@ -85,7 +87,7 @@ fn the_page_needs_nothing_else() {
 
 #[test]
 fn each_byte_that_is_no_blank_is_a_dot() {
-    for name in ["street-crossing", "station-forecourt", "tabs-before-closer"] {
+    for name in ["street-crossing", "station-forecourt", "tabs-before-closer", "street-names"] {
         let sheet = format!("../../../sheets/{}", name);
         let (page, _status) = page_of(name, &[&format!("{}.php", sheet)]);
         // What PHP prints of the blocks.

@@ -21,6 +21,7 @@ const MARKS: &[&str] = &[
     "<<<'A'\r\n",
     "\nA;\n",
     "\n  A\n",
+    "\n  Ax\n",
     " ",
     "\n",
     "$a[",
@@ -113,7 +114,7 @@ fn random_scripts() {
 #[test]
 fn sample_sheets_that_break_off_anywhere() {
     let folder = concat!(env!("CARGO_MANIFEST_DIR"), "/../../sheets");
-    for name in ["street-crossing", "station-forecourt", "tabs-before-closer"] {
+    for name in ["street-crossing", "station-forecourt", "tabs-before-closer", "street-names"] {
         let script = fs::read(format!("{}/{}.php", folder, name)).unwrap();
         (0..=script.len()).for_each(|end| check(&script[..end]));
     }

@@ -37,7 +37,7 @@ fn bytes_that_no_one_sees() {
 }
 
 #[test]
-fn letters_behind_a_closing_label() {
+fn rows_that_start_with_the_label() {
     check("sheets/letters-behind-label.php", &[], 0);
 }
 
@@ -49,6 +49,7 @@ fn refusals_of_what_is_open() {
     check("../../../sheets/faulty/closer-missing.php", &[], 1);
     check("sheets/label-in-other-case.php", &[], 1);
     check("sheets/label-behind-row.php", &[], 1);
+    check("../../../sheets/faulty/label-with-letters.php", &[], 1);
 }
 
 #[test]
@@ -61,7 +62,7 @@ fn refusals_of_escapes() {
 fn refusals_of_indentation() {
     check("../../../sheets/faulty/closer-with-spaces-and-tabs.php", &[], 1);
     check("../../../sheets/faulty/row-with-less-indentation.php", &[], 1);
-    for name in ["spaces-for-tabs", "spaces-at-once", "heredoc-mixed"] {
+    for name in ["spaces-for-tabs", "spaces-at-once", "heredoc-mixed", "label-row-with-less"] {
         check(&format!("sheets/{}.php", name), &[], 1);
     }
 }

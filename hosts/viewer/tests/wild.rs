@@ -36,23 +36,12 @@ fn rows_come_back_as_they_were_put_in() {
             _ => Indentation::Tabs(depth as u32),
         };
         assert_eq!(sheet.blocks[0].indentation, want, "{:?}", script);
-        assert_eq!(sheet.remarks(), 0, "{:?}", script);
-    }
-}
-
-#[test]
-fn a_byte_of_an_identifier_behind_the_label_is_remarked_on() {
-    for byte in 0..=255 {
-        let sheet = Sheet::read(&[b"<?php <<<'AB'\no\nAB", &[byte][..]].concat());
-        let want = matches!(byte, b'a'..=b'z' | b'A'..=b'Z' | b'0'..=b'9' | b'_' | 0x80..=0xFF);
-        let remark = sheet.blocks[0].remark.as_ref().map(|remark| (remark.line, remark.behind.clone()));
-        assert_eq!(remark, want.then(|| (3, vec![byte])), "{}", byte);
     }
 }
 
 /// A row that does not close the block.
 fn row(random: &mut Random) -> String {
-    (0..random.below(6)).map(|_| random.pick(&["o", ".", " ", "\t", "€", "KER"])).collect()
+    (0..random.below(6)).map(|_| random.pick(&["o", ".", " ", "\t", "€", "KER", "KERBo", "KERB7", "KERB€"])).collect()
 }
 
 #[test]
@@ -73,9 +62,9 @@ fn no_bytes_end_it_or_spoil_what_it_writes() {
 
 #[test]
 fn sheets_that_break_off_anywhere_are_shown() {
-    let script = fs::read(tests_folder().join("../../../sheets/tabs-before-closer.php")).unwrap();
-    for end in 0..script.len() {
-        check_written(&script[..end], Some(20));
+    for name in ["tabs-before-closer", "street-names"] {
+        let script = fs::read(tests_folder().join(format!("../../../sheets/{}.php", name))).unwrap();
+        (0..script.len()).for_each(|end| check_written(&script[..end], Some(20)));
     }
 }
 

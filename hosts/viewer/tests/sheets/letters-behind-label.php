@@ -4,7 +4,12 @@ $a = <<<'E'
   East
   E;
 $b = <<<'ROW'
-o
-ROW2;
-$c = <<<'ROW'
+ROW2
+ 	ROWS
+ROW_;
+ROWä
 ROW;
+f(<<<'ROW'
+ROW, <<<'E'
+E7
+E);

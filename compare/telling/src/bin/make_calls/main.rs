@@ -1,6 +1,7 @@
 //! Writes the stored list of calls, a file a group, into a folder: `make_calls FOLDER`. What each call must give is told,
-//! by the Rust's own routines and by document 01, and never by the library that the list is replayed on.
+//! by the Rust's own routines and by documents 01 and 02, and never by the library that the list is replayed on.
 
+mod closers;
 mod edges;
 mod forged;
 mod hosts;
@@ -20,16 +21,16 @@ use telling::Teller;
 /// The lines behind the first of each file.
 const ORIGIN: &str =
     "# CALL => GIVEN as in compare/README.md, from fixed seeds: what the Rust answers, and where it has no such thing what\n\
-     # compare/telling tells of document 01. The library had no part in it. compare/oracle/make-answers makes it again.";
+     # compare/telling tells of documents 01 and 02. The library had no part in it. compare/oracle/make-answers makes it again.";
 
 /// The list has at least and at most this many calls.
-const LEAST: usize = 6_000;
-const MOST: usize = 7_000;
+const LEAST: usize = 8_000;
+const MOST: usize = 9_000;
 
 /// A group's name, what it holds, and its calls.
 type Group = (&'static str, &'static str, fn(&mut Random, &mut Teller) -> Vec<Call>);
 
-const EDGES: [Group; 7] = [
+const EDGES: [Group; 8] = [
     ("parts", "parts with more announced, which wait or are settled, in each mode and reading", edges::parts),
     ("tables", "list and pool just large enough, and too small by one, in each mode and reading", edges::tables),
     (
@@ -41,6 +42,7 @@ const EDGES: [Group; 7] = [
     ("hosts", "fresh, skip, push and pop", hosts::calls),
     ("slices", "sessions and answers that are too short, which is seen before anything else", hosts::short_slices),
     ("walk", "scripts walked in one call: with any most, in parts, in tables that fill on the way", walks::calls),
+    ("closers", "the label of a block and each byte behind it, and rows that begin with the label", closers::calls),
 ];
 
 /// Refusals by which a walk can be stopped behind steps that were done.

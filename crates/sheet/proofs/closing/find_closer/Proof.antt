@@ -1,10 +1,10 @@
--- `sheet::find_closer` meets its contract: the loop keeps `Finding`. Assumes nothing.
+-- `sheet::closing::find_closer` meets its contract: the loop keeps `Finding`. Assumes nothing.
 use Prim.Native.Nat.{_-_}
 use lib.ListN.{length}
 use borrow.Author.Needs.{needs}
 use Rattle.sheet.proofs.Turns.{Finding, finding}
-use Rattle.sheet.proofs.find_closer.Statement.{statement}
-use Rattle.sheet.proofs.find_closer.Tie as tie
+use Rattle.sheet.proofs.closing.find_closer.Statement.{statement}
+use Rattle.sheet.proofs.closing.find_closer.Tie as tie
 
 abbrev Inv : tie.InvT-loop
 Inv src label at end i₀ i = Finding label src at end i

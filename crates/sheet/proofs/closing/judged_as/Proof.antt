@@ -1,8 +1,8 @@
--- `sheet::judged_as` meets its contract: each arm of the match is one law of `Steps`. Assumes nothing.
+-- `sheet::closing::judged_as` meets its contract: each arm of the match is one law of `Steps`. Assumes nothing.
 use borrow.Author.Needs.{needs}
 use Rattle.sheet.proofs.Steps.{judgements}
-use Rattle.sheet.proofs.judged_as.Statement.{statement}
-use Rattle.sheet.proofs.judged_as.Tie as tie
+use Rattle.sheet.proofs.closing.judged_as.Statement.{statement}
+use Rattle.sheet.proofs.closing.judged_as.Tie as tie
 
 pub judged-as-spec : {M : Type 1} → statement M
 judged-as-spec =

@@ -1,10 +1,10 @@
--- `sheet::line_kind` meets its contract: the loop keeps `Indenting`. Assumes nothing.
+-- `sheet::closing::line_kind` meets its contract: the loop keeps `Indenting`. Assumes nothing.
 use Prim.Native.Nat.{_-_}
 use lib.ListN.{length}
 use borrow.Author.Needs.{needs}
 use Rattle.sheet.proofs.Steps.{Indenting, indenting}
-use Rattle.sheet.proofs.line_kind.Statement.{statement}
-use Rattle.sheet.proofs.line_kind.Tie as tie
+use Rattle.sheet.proofs.closing.line_kind.Statement.{statement}
+use Rattle.sheet.proofs.closing.line_kind.Tie as tie
 
 abbrev Inv : tie.InvT-loop
 Inv line label end i₀ ind₀ i ind = Indenting label line end ind i

@@ -1,0 +1,6 @@
+<?php
+$a = <<<'EOT'
+    oo
+  EOTstrasse
+    EOT2
+    EOT;
