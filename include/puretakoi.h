@@ -95,6 +95,7 @@ extern "C" {
 #define PURETAKOI_KIND_LITERAL_DOUBLE_QUOTED_STRING 18 /* ".." without interpolation */
 #define PURETAKOI_KIND_LITERAL_INTEGER 19              /* a whole number */
 #define PURETAKOI_KIND_LITERAL_FLOAT 20                /* a number with a point or an exponent */
+#define PURETAKOI_KIND_COMMENT 21                      /* a comment: its bytes as they stand; a line's without its LF, but with the CR of a CRLF */
 
 /* ---- Refusals. Each call gives the number, or 0. */
 

@@ -4,7 +4,7 @@ use std::collections::HashMap;
 use std::path::Path;
 use std::process::{Command, Output, Stdio};
 
-use crate::kinds::{script, Kind};
+use crate::kinds::script_named;
 use crate::sides::MOST_BYTES;
 
 /// How often the script is read in the shorter and in the longer run.
@@ -22,20 +22,21 @@ pub fn are_there() -> bool {
     called.map_or(false, |status| status.success())
 }
 
-/// Instructions a byte, of one reading of a kind's script.
-pub fn a_byte(side: &str, kind: &Kind) -> Result<f64, String> {
+/// Instructions a byte, of one reading of the script of a name.
+pub fn a_byte(side: &str, name: &str) -> Result<f64, String> {
     let none = Path::new("/dev/null");
-    let (few, many) = (collected(side, kind, FEW, none)?, collected(side, kind, MANY, none)?);
-    let bytes = script(kind, MOST_BYTES).len() as u64 * (MANY - FEW);
+    let (few, many) = (collected(side, name, FEW, none)?, collected(side, name, MANY, none)?);
+    let script = script_named(name, MOST_BYTES).ok_or_else(|| format!("there is no script `{}`", name))?;
+    let bytes = script.len() as u64 * (MANY - FEW);
     Ok(many.saturating_sub(few) as f64 / bytes as f64)
 }
 
 /// What callgrind collected in a run that reads the script `times` times; the profile goes to a file.
-fn collected(side: &str, kind: &Kind, times: u64, profile: &Path) -> Result<u64, String> {
+fn collected(side: &str, name: &str, times: u64, profile: &Path) -> Result<u64, String> {
     let program = std::env::current_exe().map_err(|error| error.to_string())?;
     let mut call = Command::new("valgrind");
     call.arg("--tool=callgrind").arg(format!("--callgrind-out-file={}", profile.display())).arg(program);
-    let said = output(call.args(["run", side, kind.name, &times.to_string()]))?.stderr;
+    let said = output(call.args(["run", side, name, &times.to_string()]))?.stderr;
     let said = String::from_utf8_lossy(&said);
     let number = said.lines().find_map(|line| line.split("Collected : ").nth(1)).and_then(|it| it.trim().parse().ok());
     number.ok_or_else(|| format!("callgrind says no count:\n{}", said))
@@ -49,9 +50,9 @@ fn output(call: &mut Command) -> Result<Output, String> {
     Err(format!("{:?} failed:\n{}", call.get_program(), String::from_utf8_lossy(&output.stderr)))
 }
 
-/// Our functions with the most instructions of their own for one reading of a kind's script, each with its share of all.
-pub fn by_function(kind: &Kind) -> Result<Vec<(String, f64)>, String> {
-    let (few, many) = (own_counts(kind, FEW)?, own_counts(kind, MANY)?);
+/// Our functions with the most instructions of their own for one reading of the script of a name, each with its share of all.
+pub fn by_function(name: &str) -> Result<Vec<(String, f64)>, String> {
+    let (few, many) = (own_counts(name, FEW)?, own_counts(name, MANY)?);
     let grown = |(name, count): (&String, &u64)| (name.clone(), count - few.get(name).unwrap_or(&0).min(count));
     let counts: Vec<(String, u64)> = many.iter().map(grown).collect();
     let all = counts.iter().map(|(_, count)| count).sum::<u64>() as f64;
@@ -61,9 +62,9 @@ pub fn by_function(kind: &Kind) -> Result<Vec<(String, f64)>, String> {
 }
 
 /// Each function's own instructions in a walk, by name.
-fn own_counts(kind: &Kind, times: u64) -> Result<HashMap<String, u64>, String> {
+fn own_counts(name: &str, times: u64) -> Result<HashMap<String, u64>, String> {
     let profile = std::env::temp_dir().join(format!("bench-{}.callgrind", std::process::id()));
-    collected(WALK, kind, times, &profile)?;
+    collected(WALK, name, times, &profile)?;
     let said = output(Command::new("callgrind_annotate").arg("--threshold=100").arg(&profile))?.stdout;
     std::fs::remove_file(&profile).map_err(|error| error.to_string())?;
     let mut counts = HashMap::new();

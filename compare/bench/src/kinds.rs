@@ -1,4 +1,4 @@
-//! Scripts of eight kinds, made from a fixed seed, in the words of street maps. No comments: the Rust reads them, the step does not.
+//! Scripts of nine kinds, made from a fixed seed, in the words of street maps.
 
 use cases::random::Random;
 
@@ -11,7 +11,7 @@ pub struct Kind {
     put: fn(&mut Random, &mut String),
 }
 
-pub const KINDS: [Kind; 8] = [
+pub const KINDS: [Kind; 9] = [
     Kind { name: "mixed", opening: PHP, put: mixed },
     Kind { name: "inline text", opening: "", put: inline_text },
     Kind { name: "single quotes", opening: PHP, put: single_quotes },
@@ -20,12 +20,22 @@ pub const KINDS: [Kind; 8] = [
     Kind { name: "nowdoc", opening: PHP, put: nowdoc },
     Kind { name: "numbers", opening: PHP, put: numbers },
     Kind { name: "identifiers and punctuation", opening: PHP, put: identifiers },
+    Kind { name: "comments", opening: PHP, put: comments },
 ];
 
 const PHP: &str = "<?php\n";
 
-pub fn kind_of(name: &str) -> Option<&'static Kind> {
-    KINDS.iter().find(|kind| kind.name == name)
+/// A text and a comment that are as long as their script.
+pub const ONE_BLOCK: &str = "one nowdoc block";
+pub const ONE_COMMENT: &str = "one comment";
+
+/// The longest script that is measured under a name: of a kind, or of a single text.
+pub fn script_named(name: &str, most: usize) -> Option<Vec<u8>> {
+    match name {
+        ONE_BLOCK => Some(one_block(most)),
+        ONE_COMMENT => Some(one_comment(most)),
+        _ => KINDS.iter().find(|kind| kind.name == name).map(|kind| script(kind, most)),
+    }
 }
 
 /// As many pieces of a kind as fit in `most` bytes. A shorter script is the beginning of a longer one.
@@ -44,7 +54,16 @@ pub fn script(kind: &Kind, most: usize) -> Vec<u8> {
 
 /// One nowdoc block of at most `most` bytes: a single text, as long as the script.
 pub fn one_block(most: usize) -> Vec<u8> {
-    let (open, close) = ("<?php <<<'RELIEF'\n", "RELIEF;\n");
+    one_text("<?php <<<'RELIEF'\n", "RELIEF;\n", most)
+}
+
+/// One comment, of as many rows as fit.
+pub fn one_comment(most: usize) -> Vec<u8> {
+    one_text("<?php /*\n", "*/\n", most)
+}
+
+/// A text of as many rows as fit between its opening and its end.
+fn one_text(open: &str, close: &str, most: usize) -> Vec<u8> {
     let mut random = Random::new(SEED);
     let mut script = open.to_string();
     loop {
@@ -52,7 +71,8 @@ pub fn one_block(most: usize) -> Vec<u8> {
         row(&mut random, &mut script);
         if script.len() + close.len() > most {
             script.truncate(before);
-            return (script + close).into_bytes();
+            script.push_str(close);
+            return script.into_bytes();
         }
     }
 }
@@ -178,4 +198,24 @@ const LINES: [&str; 8] = [
 
 fn identifiers(random: &mut Random, out: &mut String) {
     out.push_str(random.pick(&LINES));
+}
+
+/// Comments of each form; one in four has many lines.
+fn comments(random: &mut Random, out: &mut String) {
+    match random.below(4) {
+        0 => {
+            out.push_str("/*\n");
+            for _ in 0..2 + random.below(4) {
+                out.push_str(" * ");
+                words(6, random, out);
+                out.push('\n');
+            }
+            out.push_str(" */\n");
+        }
+        place => {
+            out.push_str(["// ", "# ", "// it's "][place - 1]);
+            words(6, random, out);
+            out.push('\n');
+        }
+    }
 }

@@ -1,5 +1,5 @@
 //! The proved library beside the Rust, in time and instructions: `bench`, `bench short`, `bench stack`,
-//! `bench run walk|steps|rust KIND TIMES`.
+//! `bench run walk|steps|rust NAME TIMES`.
 
 mod instructions;
 mod kinds;
@@ -11,7 +11,7 @@ mod times;
 use std::process::exit;
 
 use instructions::{RUST, STEPS, WALK};
-use kinds::{kind_of, script, KINDS};
+use kinds::{script, script_named, KINDS, ONE_BLOCK, ONE_COMMENT};
 use sides::{hold, Reader, Way, MOST_BYTES};
 
 /// What a streamed script grows by.
@@ -24,7 +24,7 @@ fn main() {
         [] => hold_all().and_then(|()| tables::all()),
         ["stack"] => stack::table(),
         ["short"] => hold_all().and_then(|()| short()),
-        ["run", side, kind, times] => run(side, kind, times),
+        ["run", side, name, times] => run(side, name, times),
         _ => usage(),
     };
     if let Err(wrong) = done {
@@ -34,7 +34,7 @@ fn main() {
 }
 
 fn usage() -> ! {
-    eprintln!("bench | bench short | bench stack | bench run walk|steps|rust KIND TIMES");
+    eprintln!("bench | bench short | bench stack | bench run walk|steps|rust NAME TIMES");
     exit(2)
 }
 
@@ -45,28 +45,34 @@ fn hold_all() -> Result<(), String> {
         let told = |wrong| format!("{}: {}", kind.name, wrong);
         hold(&mut reader, &script(kind, MOST_BYTES), PIECE).map_err(told)?;
     }
-    hold(&mut reader, &kinds::one_block(MOST_BYTES), PIECE)
+    hold(&mut reader, &kinds::one_block(MOST_BYTES), PIECE)?;
+    hold(&mut reader, &kinds::one_comment(MOST_BYTES), PIECE)
 }
 
-/// A test for each kind: the walk takes no more instructions a byte than the Rust.
+/// A test for each kind: the walk takes no more instructions a byte than the Rust. And one for a long comment, beside nowdoc text.
 fn short() -> Result<(), String> {
     for kind in &KINDS {
-        let (ours, rust) = (instructions::a_byte(WALK, kind)?, instructions::a_byte(RUST, kind)?);
+        let (ours, rust) = (instructions::a_byte(WALK, kind.name)?, instructions::a_byte(RUST, kind.name)?);
         if ours > rust {
             return Err(format!("{}: {:.1} instructions a byte, the Rust {:.1}", kind.name, ours, rust));
         }
         println!("ok bench: {} ({:.1} instructions a byte, the Rust {:.1})", kind.name, ours, rust);
     }
+    let (block, comment) = (instructions::a_byte(WALK, ONE_BLOCK)?, instructions::a_byte(WALK, ONE_COMMENT)?);
+    let said = format!("{} ({:.1} instructions a byte, {} {:.1})", ONE_COMMENT, comment, ONE_BLOCK, block);
+    if comment > block {
+        return Err(said);
+    }
+    println!("ok bench: {}", said);
     Ok(())
 }
 
-/// Reads a kind's script as often as told, on one side, for callgrind. The Rust's tokens are kept: none is freed.
-fn run(side: &str, kind: &str, times: &str) -> Result<(), String> {
-    let (kind, times) = match (kind_of(kind), times.parse::<usize>()) {
-        (Some(kind), Ok(times)) => (kind, times),
+/// Reads the script of a name as often as told, on one side, for callgrind. The Rust's tokens are kept: none is freed.
+fn run(side: &str, name: &str, times: &str) -> Result<(), String> {
+    let (script, times) = match (script_named(name, MOST_BYTES), times.parse::<usize>()) {
+        (Some(script), Ok(times)) => (script, times),
         _ => usage(),
     };
-    let script = script(kind, MOST_BYTES);
     let mut reader = Reader::new();
     for _ in 0..times {
         match side {

@@ -1,7 +1,7 @@
 //! The tables of docs/SPEED.md, as Markdown.
 
 use crate::instructions::{self, RUST, STEPS, WALK};
-use crate::kinds::{one_block, one_byte_steps, script, Kind, KINDS};
+use crate::kinds::{one_block, one_byte_steps, one_comment, script, Kind, KINDS, ONE_BLOCK, ONE_COMMENT};
 use crate::sides::{Reader, Way, MOST_BYTES};
 use crate::times::{by_turns, Work};
 use crate::{stack, PIECE};
@@ -41,8 +41,8 @@ fn counts() -> Result<Vec<(f64, &'static Kind)>, String> {
     }
     println!("| 64 KB, instructions a byte | walk | the Rust | ratio | single steps |\n|---|---|---|---|---|");
     for kind in &KINDS {
-        let (walk, rust) = (instructions::a_byte(WALK, kind)?, instructions::a_byte(RUST, kind)?);
-        let steps = instructions::a_byte(STEPS, kind)?;
+        let (walk, rust) = (instructions::a_byte(WALK, kind.name)?, instructions::a_byte(RUST, kind.name)?);
+        let steps = instructions::a_byte(STEPS, kind.name)?;
         println!("| {} | {:.1} | {:.1} | {:.2} | {:.1} |", kind.name, walk, rust, walk / rust, steps);
         ratios.push((walk / rust, kind));
     }
@@ -87,7 +87,8 @@ fn sizes() -> Result<(), String> {
     for kind in &KINDS {
         sizes_of(kind.name, |size| script(kind, size))?;
     }
-    sizes_of("one nowdoc block", one_block)
+    sizes_of(ONE_BLOCK, one_block)?;
+    sizes_of(ONE_COMMENT, one_comment)
 }
 
 fn sizes_of(name: &str, script_of: impl Fn(usize) -> Vec<u8>) -> Result<(), String> {
@@ -120,7 +121,8 @@ fn pieces() -> Result<(), String> {
     for kind in &KINDS {
         pieces_of(kind.name, &script(kind, MOST_BYTES))?;
     }
-    pieces_of("one nowdoc block", &one_block(MOST_BYTES))
+    pieces_of(ONE_BLOCK, &one_block(MOST_BYTES))?;
+    pieces_of(ONE_COMMENT, &one_comment(MOST_BYTES))
 }
 
 fn pieces_of(name: &str, script: &[u8]) -> Result<(), String> {
@@ -136,7 +138,7 @@ fn functions(mut ratios: Vec<(f64, &'static Kind)>) -> Result<(), String> {
     ratios.sort_by(|one, other| other.0.total_cmp(&one.0));
     println!("| slowest against the Rust | own instructions of our functions |\n|---|---|");
     for (_, kind) in &ratios[..SLOWEST] {
-        let shares = instructions::by_function(kind)?;
+        let shares = instructions::by_function(kind.name)?;
         let named = shares.iter().take(FUNCTIONS).map(|(name, share)| format!("`{}` {:.0} %", name, share * 100.0));
         println!("| {} | {} |", kind.name, named.collect::<Vec<_>>().join(", "));
     }

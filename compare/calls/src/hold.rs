@@ -20,7 +20,7 @@ pub struct Held {
     teller: Teller,
     pub count: u64,
     refusals: [u64; 14],
-    kinds: [u64; 21],
+    kinds: [u64; 22],
     /// How often each frame's step was done and had to wait, and each reading, in the order of their functions.
     done: [u64; ROUTINES],
     waits: [u64; ROUTINES],
@@ -112,7 +112,7 @@ impl Held {
     pub fn all_met(&self) -> Result<String, String> {
         let parts = [
             rarest("refusal", 1..14, &self.refusals)?,
-            rarest("kind", 1..21, &self.kinds)?,
+            rarest("kind", 1..22, &self.kinds)?,
             rarest("routine done:", 0..ROUTINES, &self.done)?,
             rarest("routine waiting:", 0..ROUTINES, &self.waits)?,
             rarest("walk done, finished or refused:", 0..3, &self.walks)?,

@@ -1,5 +1,6 @@
 //! Calls of the host's boundary, each held to what is told of it, in one process: `calls short|full [SEED]`.
 
+mod comments;
 mod cuts;
 mod forged;
 mod hold;
@@ -23,10 +24,11 @@ use hold::Held;
 type Tries = fn(held: &mut Held, count: usize, random: &mut Random) -> Result<(), String>;
 
 /// The groups: a name, the tries, and how many of them in short and in full.
-const GROUPS: [(&str, Tries, usize, usize); 19] = [
+const GROUPS: [(&str, Tries, usize, usize); 20] = [
     ("fresh sessions", forged::fresh_sessions, 2_000, 20_000),
     ("forged sessions", forged::forged_sessions, 400_000, 6_000_000),
     ("every short text", shorts::short_texts, 2, 3),
+    ("comments beside the Rust", comments::beside_the_rust, 4, 6),
     ("broken calls", forged::broken_calls, 150_000, 2_000_000),
     ("whole scripts", walks::whole_scripts, 10_000, 100_000),
     ("walks with other calls between", walks::mixed_walks, 10_000, 150_000),

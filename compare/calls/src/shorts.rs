@@ -9,15 +9,16 @@ use crate::hold::Held;
 use crate::limits::{standing, top};
 
 /// What is tried everywhere.
-const BYTES: &[u8] = b"<?phP=a1E_$[]{}->'\"`\\\n\r \t.e+x0u\x80";
+const BYTES: &[u8] = b"<?phP=a1E_$[]{}->'\"`\\\n\r \t.e+x0u/*#\x80";
 
 /// The text stands behind this, which has the label of text blocks.
 const BEFORE: &[u8] = b"E\n";
 
 /// A function with a frame on top and a choice of reading, and the pieces of longer texts.
-const ROUTINES: [(Function, u32, u32, Pieces); 13] = [
+const ROUTINES: [(Function, u32, u32, Pieces); 14] = [
     (Function::Step, 0, 0, &[b"<", b"?", b"p", b"H", b"php", b"=", b"a", b"\n"]),
     (Function::Step, 1, 0, &[b"<", b"<<<", b"'", b"E", b"7", b"\n", b"\r", b"\""]),
+    (Function::Step, 1, 0, &[b"/", b"*", b"#", b"?", b">", b"[", b"\n", b"\r"]),
     (Function::Step, 2, 0, &[b"$", b"a", b"-", b">", b"?", b"[", b"{", b"\""]),
     (Function::Step, 3, 0, &[b"$", b"a", b"-", b">", b"?", b"\\", b"{", b"`"]),
     (Function::Step, 4, 0, &[b"\n", b"E", b" ", b"\t", b"$a", b"\\", b"{", b"\r"]),

@@ -17,10 +17,12 @@ pub enum Routine {
     Number,
     PeekIdentifier,
     Skip,
+    /// The Rust's `scripting`, asked where a comment begins.
+    Scripting,
 }
 
 /// Every routine with its name in a case line, in the order of `Routine`.
-pub const ROUTINES: [(&str, Routine); 12] = [
+pub const ROUTINES: [(&str, Routine); 13] = [
     ("initial", Routine::Initial),
     ("double_quote", Routine::DoubleQuote),
     ("shell_exec", Routine::ShellExec),
@@ -33,6 +35,7 @@ pub const ROUTINES: [(&str, Routine); 12] = [
     ("number", Routine::Number),
     ("peek_identifier", Routine::PeekIdentifier),
     ("skip", Routine::Skip),
+    ("scripting", Routine::Scripting),
 ];
 
 /// The cursor may start, and skip, this many bytes past the source's end and no further.

@@ -204,6 +204,14 @@ pub const SCRIPT: Pieces = &[
     b"=",
     b"p",
     b"\\'",
+    b"//",
+    b"/*",
+    b"*/",
+    b"/",
+    b"*",
+    b"#",
+    b"#[",
+    b"// it's ",
 ];
 
 const MOST_PIECES: usize = 16;

@@ -10,7 +10,7 @@ use std::process::exit;
 use cases::{Call, Case};
 
 /// The list of calls has at least this many.
-const LEAST_CALLS: usize = 8_000;
+const LEAST_CALLS: usize = 9_000;
 
 fn main() {
     let words: Vec<String> = std::env::args().skip(1).collect();

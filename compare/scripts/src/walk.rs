@@ -1,4 +1,4 @@
-//! A script stepped to its end, as what is told of each step: the Rust's routines below document 01's table.
+//! A script stepped to its end, as what is told of each step: the Rust's routines below document 01's table and document 02's comments.
 
 use cases::{Function, Span};
 use telling::bytes::counted_on;

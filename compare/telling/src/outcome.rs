@@ -79,7 +79,12 @@ impl Text {
     fn row(&mut self, row: Row) -> Outcome {
         match row {
             Row::Finished => done(Vec::new(), START, Change::Keep, NO_LABEL, true),
-            Row::Open => refused(1, START),
+            Row::Open => refused(1, past(START, &self.case.source)),
+            Row::Comment { count } => {
+                let value = self.case.source[..count].to_vec();
+                let cursor = past(START, &value);
+                done(vec![Token { kind: 21, detail: 0, span: START, value }], cursor, Change::Keep, NO_LABEL, false)
+            }
             Row::Pass { count, change, label } => {
                 done(Vec::new(), past(START, &self.case.source[..count]), change, label, false)
             }

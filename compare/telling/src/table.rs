@@ -1,4 +1,4 @@
-//! Document 01's table for Scripting, and VarOffset: what is done with the text at the cursor.
+//! Document 01's table for Scripting with document 02's comments, and VarOffset: what is done with the text at the cursor.
 
 use cases::{Change, Frame, Routine};
 
@@ -10,8 +10,10 @@ use crate::session::MOST_LABEL;
 pub enum Row {
     /// Nothing is left, and nothing is asked for.
     Finished,
-    /// Nothing is left where something must be: refusal 1.
+    /// The text ends where something must be: refusal 1 at its end.
     Open,
+    /// So many bytes are a comment.
+    Comment { count: usize },
     /// Bytes are passed and the stack changes.
     Pass { count: usize, change: Change, label: Label },
     /// A routine of the Rust runs behind the passed bytes.
@@ -39,6 +41,7 @@ pub fn scripting(text: &[u8], depth: usize) -> Row {
         b'{' => pass(1, Change::Enter(Frame::Scripting)),
         b'}' if depth > 1 => pass(1, Change::Leave),
         _ if text.starts_with(b"?>") => pass(2, Change::Swap(Frame::Initial)),
+        b'/' | b'#' => comment(text).unwrap_or_else(|| pass(1, Change::Keep)),
         _ => opening(text).unwrap_or_else(|| pass(1, Change::Keep)),
     }
 }
@@ -54,6 +57,21 @@ pub fn var_offset(text: &[u8]) -> Row {
 
 fn pass(count: usize, change: Change) -> Row {
     Row::Pass { count, change, label: NO_LABEL }
+}
+
+/// The row for a text that begins with a comment.
+fn comment(text: &[u8]) -> Option<Row> {
+    let place = |pair: &[u8; 2], text: &[u8]| text.windows(2).position(|it| it == pair);
+    if let Some(inside) = text.strip_prefix(b"/*") {
+        let end = place(b"*/", inside);
+        return Some(end.map_or(Row::Open, |end| Row::Comment { count: 2 + end + 2 }));
+    }
+    if !text.starts_with(b"//") && (text.starts_with(b"/") || text.starts_with(b"#[")) {
+        return None;
+    }
+    let line = text.iter().position(|byte| *byte == b'\n').unwrap_or(text.len());
+    let tag = place(b"?>", text).unwrap_or(text.len());
+    Some(Row::Comment { count: line.min(tag) })
 }
 
 /// The row for a text that opens a text block.

@@ -5,13 +5,13 @@ use cases::Function;
 use crate::outcome::{Outcome, Text};
 
 /// Each byte at which something is decided.
-const BYTES: &[u8] = b"aeEpx017_.+->?[]{}$\\'\"`<\n\r \t=;\x80";
+const BYTES: &[u8] = b"aeEpx017_.+->?[]{}$\\'\"`<\n\r \t=;/*#\x80";
 
 /// What settles a part that one byte does not.
-const LONGER: [&[u8]; 30] = [
+const LONGER: [&[u8]; 31] = [
     b"?php", b"php", b"hp", b"?=", b"<?", b"->a", b">a", b"?->a", b"a}", b"a[", b"$a", b"{$a", b"<<E\n", b"<E\n",
     b"E\n", b"'E'\n", b"'E'\r\n", b"E'\n", b"E'\r\n", b"'\n", b"'\r\n", b"\r\n", b"41}", b"{41}", b"u{41}", b"+1",
-    b"-1", b"e1", b".1", b"_1",
+    b"-1", b"e1", b".1", b"_1", b"*/",
 ];
 
 /// Pairs of these are tried behind what may be a number.

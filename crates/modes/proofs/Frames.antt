@@ -22,33 +22,31 @@ use Rattle.unit.specs.Readings.{textAt}
 use Rattle.number.specs.Numbers.{numberAt}
 use Rattle.outcome.specs.declared.Change.{Change}
 use Rattle.outcome.specs.declared.Run.{Run}
-use Rattle.outcome.specs.Outcomes.{Outcome, goes, ending}
+use Rattle.outcome.specs.Outcomes.{Outcome}
 use Rattle.outcome.specs.Texts.{literal, numbered}
 use Rattle.outcome.specs.Lookings.{named}
 use Rattle.outcome.specs.Openings.{opening, opened}
+use Rattle.outcome.specs.Comments.{slash, hash}
 use Rattle.outcome.specs.Scripts.{point, word, closeTag, scripting}
 use Rattle.outcome.specs.Steps.{textMode, framed}
 use Rattle.plan.specs.declared.Plan.{Plan}
-use Rattle.plan.specs.Plans.{outcomeOf, piecesOf, Named, Plans, noLabel, goesPlan}
-use Rattle.modes.specs.Ends.{finishedPlan, endingPlan}
-use Rattle.texts.proofs.Drafts.{goes-plans, wait-plans}
-use Rattle.modes.proofs.Looks.{ending-plans, name-small}
+use Rattle.plan.specs.Plans.{outcomeOf, piecesOf, Named, Plans, noLabel, goesPlan, endingPlan}
+use Rattle.modes.specs.Ends.{finishedPlan}
+use Rattle.plan.proofs.Plans.{goes-plans, wait-plans, ending-plans, sign-plans, last-sign-plans}
+use Rattle.modes.proofs.Looks.{name-small}
 
 -- ---- the rows that look further
 
 module _ (src : List ℕ) (end : Bool) (at : ℕ) where
   -- nothing is left behind a sign
   module _ (past : length src ≤ at + 1) (p r : Plan) (e : p ≡ goesPlan (at + 1) Change.Keep) (f : r ≡ endingPlan end p) where
-    sign : Plans src end (ending end (goes (suc at) Change.Keep)) r
-    sign = rw (f, e, add-one at) (ending-plans src end (goes (suc at) Change.Keep) (goesPlan (suc at) Change.Keep) (goes-plans src end (suc at) Change.Keep))
-
     pub point-past : Plans src end (point end at (drop (at + 1) src)) r
     unfolding point
-    point-past = rw (drop-of-length-le src past) sign
+    point-past = rw (drop-of-length-le src past) (last-sign-plans src end at r p e f)
 
     pub closeTag-past : Plans src end (closeTag end at (drop (at + 1) src)) r
     unfolding closeTag
-    closeTag-past = rw (drop-of-length-le src past) sign
+    closeTag-past = rw (drop-of-length-le src past) (last-sign-plans src end at r p e f)
 
   module _ (h : at + 1 < length src) (digit : Bool) (f : digit ≡ isDigit (getD src (at + 1) 0)) (r : Plan) where
     pub point-number : digit ≡ true → getD src at 0 ≡ 46 → Plans src end (numbered at (numberAt end at (drop at src))) r
@@ -60,7 +58,7 @@ module _ (src : List ℕ) (end : Bool) (at : ℕ) where
 
     pub point-other : digit ≡ false → r ≡ goesPlan (at + 1) Change.Keep → Plans src end (point end at (drop (at + 1) src)) r
     unfolding point
-    point-other t e = rw (drop-one src (at + 1) h, ← f, t, e, add-one at) (goes-plans src end (suc at) Change.Keep)
+    point-other t e = rw (drop-one src (at + 1) h, ← f, t) (sign-plans src end at r e)
 
   module _ (h : at + 1 < length src) (r : Plan) where
     pub closeTag-closes : getD src (at + 1) 0 ≡ 62 → r ≡ goesPlan (at + 1 + 1) (Change.Swap Frame.Initial)
@@ -72,8 +70,7 @@ module _ (src : List ℕ) (end : Bool) (at : ℕ) where
     pub closeTag-other : (getD src (at + 1) 0 ≡ 62 → ⊥) → r ≡ goesPlan (at + 1) Change.Keep
         → Plans src end (closeTag end at (drop (at + 1) src)) r
     unfolding closeTag
-    closeTag-other b e =
-        rw (drop-one src (at + 1) h, ne-eqb (getD src (at + 1) 0) 62 b, e, add-one at) (goes-plans src end (suc at) Change.Keep)
+    closeTag-other b e = rw (drop-one src (at + 1) h, ne-eqb (getD src (at + 1) 0) 62 b) (sign-plans src end at r e)
 
   module _ (name : Run) (n : name ≡ named end 1 (drop (at + 1) src)) where
     pub word-over : (k : ℕ) (r : Plan) → name ≡ Run.Over k → r ≡ goesPlan (at + k) Change.Keep
@@ -138,6 +135,16 @@ module _ (depth : ℕ) (src : List ℕ) (end : Bool) (at : ℕ) (r : Plan) where
     unfolding scripting isDigit isStart isLetter
     scripting-less b p = rw (drop-one src at h, b, ← add-one at) p
 
+    pub scripting-slash : getD src at 0 ≡ 47 → Plans src end (slash end at (drop at src) (drop (at + 1) src)) r
+        → Plans src end (scripting depth end at (drop at src)) r
+    unfolding scripting isDigit isStart isLetter
+    scripting-slash b p = rw (drop-one src at h, b) (rw (drop-one src at h, b) at p)
+
+    pub scripting-hash : getD src at 0 ≡ 35 → Plans src end (hash end at (drop at src) (drop (at + 1) src)) r
+        → Plans src end (scripting depth end at (drop at src)) r
+    unfolding scripting isDigit isStart isLetter
+    scripting-hash b p = rw (drop-one src at h, b) (rw (drop-one src at h, b) at p)
+
     -- one byte is passed
     pub scripting-backtick : getD src at 0 ≡ 96 → r ≡ goesPlan (at + 1) (Change.Swap Frame.ShellExec)
         → Plans src end (scripting depth end at (drop at src)) r
@@ -182,9 +189,10 @@ module _ (depth : ℕ) (src : List ℕ) (end : Bool) (at : ℕ) (r : Plan) where
             ) p
 
         pub scripting-other : start ≡ false → (getD src at 0 ≡ 123 → ⊥) → (getD src at 0 ≡ 125 → ⊥) → (getD src at 0 ≡ 63 → ⊥)
-            → (getD src at 0 ≡ 60 → ⊥) → r ≡ goesPlan (at + 1) Change.Keep → Plans src end (scripting depth end at (drop at src)) r
+            → (getD src at 0 ≡ 60 → ⊥) → (getD src at 0 ≡ 47 → ⊥) → (getD src at 0 ≡ 35 → ⊥) → r ≡ goesPlan (at + 1) Change.Keep
+            → Plans src end (scripting depth end at (drop at src)) r
         unfolding scripting
-        scripting-other t b c k l e =
+        scripting-other t b c k l m n e =
             rw (
               drop-one src at h,
               ne-eqb (getD src at 0) 39 q,
@@ -199,9 +207,9 @@ module _ (depth : ℕ) (src : List ℕ) (end : Bool) (at : ℕ) (r : Plan) where
               ne-eqb (getD src at 0) 125 c,
               ne-eqb (getD src at 0) 63 k,
               ne-eqb (getD src at 0) 60 l,
-              e,
-              add-one at,
-            ) (goes-plans src end (suc at) Change.Keep)
+              ne-eqb (getD src at 0) 47 m,
+              ne-eqb (getD src at 0) 35 n,
+            ) (sign-plans src end at r e)
 
 pub ruleset scriptings = (
   scripting-past,
@@ -210,6 +218,8 @@ pub ruleset scriptings = (
   scripting-point,
   scripting-question,
   scripting-less,
+  scripting-slash,
+  scripting-hash,
   scripting-backtick,
   scripting-opens,
   scripting-closes,

@@ -19,29 +19,10 @@ use Rattle.token.specs.Kinds.{identifier, questionArrow, arrow}
 use Rattle.outcome.specs.declared.Change.{Change}
 use Rattle.outcome.specs.declared.Run.{Run}
 use Rattle.outcome.specs.Outcomes.{Outcome, goes, ending}
-use Rattle.outcome.specs.Lookings.{token, named, isBracketed, varname, lookingForVarname, property, arrowHead, questioned, lookingForProperty, varOffset}
-use Rattle.plan.specs.declared.Draft.{Draft}
+use Rattle.outcome.specs.Lookings.{named, isBracketed, varname, lookingForVarname, property, arrowHead, questioned, lookingForProperty, varOffset}
 use Rattle.plan.specs.declared.Plan.{Plan}
-use Rattle.plan.specs.Plans.{madeBy, Here, Plans, copiedDraft, goesPlan, onePlan}
-use Rattle.modes.specs.Ends.{endingPlan}
-use Rattle.plan.proofs.Plans.{copied-ready}
-use Rattle.texts.proofs.Drafts.{goes-plans, one-plans, refused-plans, wait-plans, either-plans}
-
--- ---- the end, and tokens
-
-module _ (src : List ℕ) (end : Bool) where
-  pub ending-plans : (o : Outcome) (p : Plan) → Plans src end o p → Plans src end (ending end o) (endingPlan end p)
-  ending-plans o p h = either-plans src end end o Outcome.Wait p Plan.Wait h (wait-plans src end)
-
-  -- k bytes from `at` on as a token
-  token-plans : (kind at k : ℕ) (change : Change) → at + k ≤ length src
-      → Plans src end (token kind at (drop at src) k change) (onePlan (copiedDraft kind 0 at at (at + k)) (at + k) change)
-  unfolding madeBy
-  token-plans kind at k change inside =
-      let n : at + k - at ≡ k = omega arith in
-      let made = one-plans src end (at + k) change (copiedDraft kind 0 at at (at + k))
-      (copied-ready src end kind 0 at at (at + k) (omega arith) inside) in
-      record { told = made .told ∙ rw n; ready = made .ready }
+use Rattle.plan.specs.Plans.{Here, Plans, copiedDraft, goesPlan, onePlan, endingPlan}
+use Rattle.plan.proofs.Plans.{token-plans, goes-plans, refused-plans, wait-plans, ending-plans}
 
 -- ---- runs of identifier bytes
 
@@ -115,10 +96,6 @@ module _ (src : List ℕ) (end : Bool) (at : ℕ) (h : at < length src) (name : 
 
   pub name-small : length src ≤ 65536 → at + k < 2 ^ 64
   name-small s = omega (arith, name-inside)
-
-pub token-made : (kind at k : ℕ) (change : Change) (d : Draft) (r : Plan) → d ≡ copiedDraft kind 0 at at (at + k)
-    → r ≡ onePlan d (at + k) change → r ≡ onePlan (copiedDraft kind 0 at at (at + k)) (at + k) change
-token-made kind at k change d r e h = h ∙ rw e
 
 module _ (src : List ℕ) (at : ℕ) where
   pub isBracketed-past : length src ≤ at → false ≡ isBracketed (drop at src)

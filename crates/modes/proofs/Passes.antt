@@ -8,13 +8,13 @@ use native.Mathlib.Numerals.{add-one}
 use lib.Dec.{eqb, leb}
 use lib.ListN.{length, getD, take, drop, length-drop}
 use lib.Seq.{length-take-le}
-use borrow.Author.Tests.{eqb-true, ne-eqb, leb-true, lt-leb, le-leb, not-true, not-false}
+use borrow.Author.Tests.{eqb-true, ne-eqb, leb-true, lt-leb, not-true, not-false}
 use Rattle.source.specs.Words.{if_then_else_, run, every}
 use Rattle.source.specs.Bytes.{isDigit, isStart, isLetter, isIdentifier, isNoBreak, isNoneOf}
 use Rattle.source.specs.Identifiers.{RunEnd}
 use Rattle.source.specs.Cursor.{passedByte, passed, LineStart}
 use Rattle.source.specs.declared.Span.{Span}
-use Rattle.source.proofs.Tests.{&&-left, &&-right, &&-both}
+use Rattle.source.proofs.Tests.{&&-left, &&-right, &&-both, none-of}
 use Rattle.source.proofs.Words.{drop-one}
 use Rattle.source.proofs.Cursor.{passed-position}
 use Rattle.source.proofs.Counts.{passed-same}
@@ -48,59 +48,28 @@ isScripting-frame Frame.VarOffset e = absurd (false≢true e)
 pub isOther-arm : (b arm : ℕ) → b ≡ arm → false ≡ isOther arm → false ≡ isOther b
 isOther-arm b arm e h = rw e h
 
-module _ (b : ℕ) where
-  pub isOther-digit : 48 ≤ b → b < 58 → false ≡ isOther b
-  unfolding isOther isDigit
-  isOther-digit low high = rw (le-leb 48 b low, le-leb b 57 (omega arith))
+-- none of the table's bytes
+module _ (b : ℕ) (single : b ≡ 39 → ⊥) (double : b ≡ 34 → ⊥) (tick : b ≡ 96 → ⊥) (point : b ≡ 46 → ⊥) (opens : b ≡ 123 → ⊥)
+    (closes : b ≡ 125 → ⊥) (question : b ≡ 63 → ⊥) (less : b ≡ 60 → ⊥) (slash : b ≡ 47 → ⊥) (hash : b ≡ 35 → ⊥) where
+  pub isOther-none : (digit : Bool) → digit ≡ isDigit b → not digit ≡ isOther b
+  unfolding isOther isNoneOf
+  isOther-none true d = rw (← d)
+  isOther-none false d =
+      rw (
+        ← d,
+        ne-eqb b 39 single,
+        ne-eqb b 34 double,
+        ne-eqb b 96 tick,
+        ne-eqb b 46 point,
+        ne-eqb b 123 opens,
+        ne-eqb b 125 closes,
+        ne-eqb b 63 question,
+        ne-eqb b 60 less,
+        ne-eqb b 47 slash,
+        ne-eqb b 35 hash,
+      )
 
-  -- none of the table's bytes
-  module _ (single : b ≡ 39 → ⊥) (double : b ≡ 34 → ⊥) (tick : b ≡ 96 → ⊥) (point : b ≡ 46 → ⊥)
-      (opens : b ≡ 123 → ⊥) (closes : b ≡ 125 → ⊥) (question : b ≡ 63 → ⊥) (less : b ≡ 60 → ⊥) where
-    isOther-none : isDigit b ≡ false → true ≡ isOther b
-    unfolding isOther isNoneOf
-    isOther-none d =
-        rw (
-          d,
-          ne-eqb b 39 single,
-          ne-eqb b 34 double,
-          ne-eqb b 96 tick,
-          ne-eqb b 46 point,
-          ne-eqb b 123 opens,
-          ne-eqb b 125 closes,
-          ne-eqb b 63 question,
-          ne-eqb b 60 less,
-        )
-
-    pub isOther-below : b < 48 → true ≡ isOther b
-    unfolding isDigit
-    isOther-below h = isOther-none (rw (lt-leb 48 b h))
-
-    pub isOther-above : 48 ≤ b → 58 ≤ b → true ≡ isOther b
-    unfolding isDigit
-    isOther-above low h = isOther-none (rw (le-leb 48 b low, lt-leb b 57 (omega arith)))
-
-pub ruleset others = (isOther-arm, isOther-digit, isOther-below, isOther-above)
-
--- none of four
-record None (b w x y z : ℕ) : Type 0 where
-  first : eqb b w ≡ false
-  second : eqb b x ≡ false
-  third : eqb b y ≡ false
-  fourth : eqb b z ≡ false
-
-none-of : (b w x y z : ℕ) → isNoneOf w x y z b ≡ true → None b w x y z
-unfolding isNoneOf
-none-of b w x y z e =
-    let three = not (eqb b w) && not (eqb b x) && not (eqb b y) in
-    let two = not (eqb b w) && not (eqb b x) in
-    let f = &&-left three (not (eqb b z)) e in
-    let g = &&-left two (not (eqb b y)) f in
-    record {
-      first = not-true (eqb b w) (&&-left (not (eqb b w)) (not (eqb b x)) g);
-      second = not-true (eqb b x) (&&-right (not (eqb b w)) (not (eqb b x)) g);
-      third = not-true (eqb b y) (&&-right two (not (eqb b y)) f);
-      fourth = not-true (eqb b z) (&&-right three (not (eqb b z)) e);
-    }
+pub ruleset others = (isOther-arm, isOther-none)
 
 -- the last row
 scripting-last : (depth : ℕ) (end : Bool) (n b : ℕ) (rest : List ℕ) → isStart b ≡ false → isOther b ≡ true
@@ -109,11 +78,14 @@ unfolding scripting isOther
 scripting-last depth end n b rest s e =
     let signs = isNoneOf 39 34 96 46 b in
     let brackets = isNoneOf 123 125 63 60 b in
-    let most = &&-left (not (isDigit b) && signs) brackets e in
+    let comments = isNoneOf 47 35 47 35 b in
+    let table = &&-left (not (isDigit b) && signs && brackets) comments e in
+    let most = &&-left (not (isDigit b) && signs) brackets table in
     let digit = not-true (isDigit b) (&&-left (not (isDigit b)) signs most) in
     let h = none-of b 39 34 96 46 (&&-right (not (isDigit b)) signs most) in
-    let k = none-of b 123 125 63 60 (&&-right (not (isDigit b) && signs) brackets e) in
-    rw (h .first, h .second, h .third, digit, h .fourth, s, k .first, k .second, k .third, k .fourth)
+    let k = none-of b 123 125 63 60 (&&-right (not (isDigit b) && signs) brackets table) in
+    let m = none-of b 47 35 47 35 (&&-right (not (isDigit b) && signs && brackets) comments e) in
+    rw (h .first, h .second, h .third, digit, h .fourth, s, k .first, k .second, k .third, k .fourth, m .first, m .second)
 
 -- ---- an identifier
 

@@ -37,6 +37,7 @@ isOther b =
     not (isDigit b)
     && isNoneOf (code "'") (code "\"") (code "`") (code ".") b
     && isNoneOf (code "{") (code "}") (code "?") (code "<") b
+    && isNoneOf (code "/") (code "#") (code "/") (code "#") b
 
 -- an LF is passed only alone, as the one byte
 pub record PassesAt (src : List ℕ) (at k : ℕ) : Type 0 where

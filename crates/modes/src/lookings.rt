@@ -9,8 +9,7 @@ ghost use Prim.Native.Nat.{_+_, _≤_, _<_};
 ghost use lib.ListN.{length, drop};
 ghost use Rattle.source.specs.Refusals.{noProperty};
 ghost use Rattle.outcome.specs.Lookings.{named, isBracketed, varname, lookingForVarname, arrowHead, questioned, lookingForProperty, varOffset};
-ghost use Rattle.plan.specs.Plans.{Here, Plans, copiedDraft, onePlan};
-ghost use Rattle.modes.specs.Ends.{endingPlan};
+ghost use Rattle.plan.specs.Plans.{Here, Plans};
 
 // How many identifier bytes come, with the one before `at`.
 pub fn named_at(src: &[u8], at: usize, end: bool) -> Run
@@ -25,25 +24,6 @@ pub fn named_at(src: &[u8], at: usize, end: bool) -> Run
         return Run::Over(n - at + 1);
     }
     Run::Undecided
-}
-
-// Nothing is left of the text: the plan at the announced end, else wait.
-pub fn ending(end: bool, p: Plan) -> Plan
-    ensures { λ r. ⌜ r ≡ endingPlan end p ⌝ }
-{
-    if end {
-        return p;
-    }
-    Plan::Wait
-}
-
-// The `k` bytes at a place as a token.
-fn one_token(kind: u32, at: usize, k: usize, change: Change) -> Plan
-    requires { ⌜ at + k ≤ 65536 ⌝ }
-    ensures { λ r. ⌜ r ≡ onePlan (copiedDraft kind 0 at at (at + k)) (at + k) change ⌝ }
-{
-    let to = at + k;
-    plan::one(plan::copied(kind, at, at, to), to, change)
 }
 
 // Whether `[` or `}` stands at a place.
@@ -63,7 +43,7 @@ fn varname(src: &[u8], at: usize, k: usize, end: bool) -> Plan
     ensures { λ r. ⌜ Plans (now (src .entry)) end (varname at (drop at (now (src .entry))) (Run.Over k)) r ⌝ }
 {
     if is_bracketed(src, at + k) {
-        return one_token(token::IDENTIFIER, at, k, Change::Swap(Frame::Scripting));
+        return plan::one_token(token::IDENTIFIER, at, k, Change::Swap(Frame::Scripting));
     }
     plan::goes(at, Change::Swap(Frame::Scripting))
 }
@@ -74,7 +54,7 @@ pub fn looking_for_varname(src: &[u8], at: usize, end: bool) -> Plan
     ensures { λ r. ⌜ Plans (now (src .entry)) end (lookingForVarname end at (drop at (now (src .entry)))) r ⌝ }
 {
     if src.len() <= at {
-        return ending(end, plan::goes(at, Change::Swap(Frame::Scripting)));
+        return plan::ending(end, plan::goes(at, Change::Swap(Frame::Scripting)));
     }
     if !source::is_start(src[at]) {
         return plan::goes(at, Change::Swap(Frame::Scripting));
@@ -103,10 +83,10 @@ fn arrow_head(kind: u32, k: usize, src: &[u8], at: usize, end: bool) -> Plan
 {
     let i = at + k;
     if src.len() <= i {
-        return ending(end, no_property(at));
+        return plan::ending(end, no_property(at));
     }
     if src[i] == b'>' {
-        return one_token(kind, at, k + 1, Change::Keep);
+        return plan::one_token(kind, at, k + 1, Change::Keep);
     }
     no_property(at)
 }
@@ -118,7 +98,7 @@ fn questioned(src: &[u8], at: usize, end: bool) -> Plan
 {
     let i = at + 1;
     if src.len() <= i {
-        return ending(end, no_property(at));
+        return plan::ending(end, no_property(at));
     }
     if src[i] == b'-' {
         return arrow_head(token::QUESTION_ARROW, 2, src, at, end);
@@ -132,7 +112,7 @@ pub fn looking_for_property(src: &[u8], at: usize, end: bool) -> Plan
     ensures { λ r. ⌜ Plans (now (src .entry)) end (lookingForProperty end at (drop at (now (src .entry)))) r ⌝ }
 {
     if src.len() <= at {
-        return ending(end, no_property(at));
+        return plan::ending(end, no_property(at));
     }
     let b = src[at];
     if b == b'?' {
@@ -146,7 +126,7 @@ pub fn looking_for_property(src: &[u8], at: usize, end: bool) -> Plan
     }
     let run = named_at(src, at + 1, end);
     match run {
-        Run::Over(k) => one_token(token::IDENTIFIER, at, k, Change::Leave),
+        Run::Over(k) => plan::one_token(token::IDENTIFIER, at, k, Change::Leave),
         Run::Undecided => Plan::Wait,
     }
 }
@@ -161,7 +141,7 @@ pub fn var_offset(src: &[u8], at: usize, end: bool) -> Plan
             number: source::UNEXPECTED_END_OF_FILE,
             place: at,
         };
-        return ending(end, refusal);
+        return plan::ending(end, refusal);
     }
     if src[at] == b']' {
         return plan::goes(at + 1, Change::Leave);

@@ -38,8 +38,9 @@ fn is_other(b: u8) -> bool
         b'}' => false,
         b'?' => false,
         b'<' => false,
-        b'0'..=b'9' => false,
-        _ => true,
+        b'/' => false,
+        b'#' => false,
+        _ => !source::is_digit(b),
     }
 }
 

@@ -1,4 +1,4 @@
-// The mode Scripting: document 01's table, which tells by the byte at the cursor.
+// The mode Scripting: document 01's table, which tells by the byte at the cursor, with document 02's comments.
 // Of the Rust: the routine `scripting`.
 use crate::lookings;
 use outcome::Change;
@@ -7,6 +7,8 @@ use plan::Drafts;
 use plan::Plan;
 use plan::Work;
 use state::Frame;
+use token::LITERAL_DOUBLE_QUOTED_STRING;
+use token::LITERAL_SINGLE_QUOTED_STRING;
 use unit::Mode;
 ghost use mathlib.Core.Path.{_≡_};
 ghost use mathlib.Core.List.{[]};
@@ -37,7 +39,7 @@ fn point(src: &[u8], at: usize, end: bool) -> Plan
 {
     let i = at + 1;
     if src.len() <= i {
-        return lookings::ending(end, plan::goes(i, Change::Keep));
+        return plan::ending(end, plan::goes(i, Change::Keep));
     }
     if source::is_digit(src[i]) {
         return texts::number(at, src, at, end);
@@ -64,7 +66,7 @@ fn close_tag(src: &[u8], at: usize, end: bool) -> Plan
 {
     let i = at + 1;
     if src.len() <= i {
-        return lookings::ending(end, plan::goes(i, Change::Keep));
+        return plan::ending(end, plan::goes(i, Change::Keep));
     }
     if src[i] == b'>' {
         return plan::goes(i + 1, Change::Swap(Frame::Initial));
@@ -100,31 +102,21 @@ pub fn scripting(src: &[u8], at: usize, end: bool, depth: u32) -> Plan
     ensures { λ r. ⌜ Plans (now (src .entry)) end (scripting depth end at (drop at (now (src .entry)))) r ⌝ }
 {
     if src.len() <= at {
-        return lookings::ending(end, finished(at));
+        return plan::ending(end, finished(at));
     }
     let i = at + 1;
     let b = src[at];
     match b {
-        b'\'' => quoted(
-            token::LITERAL_SINGLE_QUOTED_STRING,
-            Mode::Single,
-            src,
-            at,
-            end,
-        ),
-        b'"' => quoted(
-            token::LITERAL_DOUBLE_QUOTED_STRING,
-            Mode::Double,
-            src,
-            at,
-            end,
-        ),
+        b'\'' => quoted(LITERAL_SINGLE_QUOTED_STRING, Mode::Single, src, at, end),
+        b'"' => quoted(LITERAL_DOUBLE_QUOTED_STRING, Mode::Double, src, at, end),
         b'`' => plan::goes(i, Change::Swap(Frame::ShellExec)),
         b'.' => point(src, at, end),
         b'{' => plan::goes(i, Change::Enter(Frame::Scripting)),
         b'}' => plan::goes(i, brace_change(depth)),
         b'?' => close_tag(src, at, end),
         b'<' => opening::open_block(src, at, end),
+        b'/' => comment::slash(src, at, end),
+        b'#' => comment::hash(src, at, end),
         _ => {
             if source::is_digit(b) {
                 return texts::number(at, src, at, end);

@@ -7,9 +7,9 @@ use Prim.Native.Nat.{ℕ, suc, _+_, _-_, _≤_, _<_}
 use Prim.Native.Char.{code}
 use mathlib.Core.Path.{_≡_, refl, sym, ap, _∙_}
 use mathlib.Core.Bool.{Bool, true, false, _&&_}
-use mathlib.Core.List.{List, [], _∷_, _++_}
+use mathlib.Core.List.{List, [], _∷_}
 use native.Mathlib.Omega.{arith}
-use lib.Dec.{ltb, leb}
+use lib.Dec.{ltb}
 use lib.ListN.{length, take, drop, length-drop}
 use lib.Seq.{drop-drop}
 use borrow.Author.Tests.{ltb-true, le-leb}
@@ -19,8 +19,7 @@ use Rattle.source.proofs.Tests.{choice, &&-both}
 use Rattle.state.specs.declared.Frame.{Frame}
 use Rattle.state.specs.declared.Label.{Label}
 use Rattle.state.specs.declared.Reading.{Reading}
-use Rattle.state.specs.declared.Session.{Session}
-use Rattle.state.specs.Bounds.{labelBytes, isLabel, isFrame, isBottom}
+use Rattle.state.specs.Bounds.{isLabel, isFrame, isBottom}
 use Rattle.unit.specs.declared.Follow.{Follow}
 use Rattle.unit.specs.declared.Mode.{Mode}
 use Rattle.unit.specs.declared.Stop.{Stop}
@@ -28,17 +27,20 @@ use Rattle.unit.specs.Readings as unit
 use Rattle.number.specs.Numbers as number
 use Rattle.sheet.specs.Sheets as sheet
 use Rattle.outcome.specs.declared.Change.{Change}
+use Rattle.outcome.specs.declared.CommentEnd.{CommentEnd}
+use Rattle.outcome.specs.declared.CommentKind.{CommentKind}
 use Rattle.outcome.specs.declared.DocStringKind.{DocStringKind}
 use Rattle.outcome.specs.declared.Opening.{Opening}
 use Rattle.outcome.specs.declared.Run.{Run}
 use Rattle.outcome.specs.declared.Tagged.{Tagged}
-use Rattle.outcome.specs.Outcomes.{Outcome, goes, limited}
+use Rattle.outcome.specs.Outcomes.{Outcome, limited}
 use Rattle.outcome.specs.Initials.{tagged, inlined, initial}
 use Rattle.outcome.specs.Openings.{opening, docFrame, opened}
 use Rattle.outcome.specs.Texts.{variableChange, stopChange, texted, sheeted, isLeft, literal, numbered}
 use Rattle.outcome.specs.Lookings.{named, isBracketed, varname, lookingForVarname, property, arrowHead, questioned, lookingForProperty, varOffset}
+use Rattle.outcome.specs.Comments.{isNext, endless, commented, slash, hash}
 use Rattle.outcome.specs.Scripts.{point, word, closeTag, scripting}
-use Rattle.outcome.specs.Steps.{textMode, nowdoc, framed, topFrame, rest, stepOutcome, numberOutcome, singleOutcome, doubleOutcome}
+use Rattle.outcome.specs.Steps.{textMode, nowdoc, framed, rest}
 use Rattle.outcome.proofs.Openings.{LabelInside, OpeningInside, opening-inside}
 
 -- a frame that may come in
@@ -214,6 +216,25 @@ module _ (src : List ℕ) (depth : ℕ) where
   closeTag-changes end n [] = ending-changes end _ tt
   closeTag-changes end n (b ∷ xs) = if-changes (b is ">") _ _ (λ e. initial-welcome) (λ e. tt)
 
+  commented-changes : (kind : CommentKind) (n : ℕ) (xs : List ℕ) (r : CommentEnd) → Changes src depth (commented kind n xs r)
+  unfolding commented endless
+  commented-changes kind n xs (CommentEnd.At k) = tt
+  commented-changes CommentKind.SingleLine n xs CommentEnd.Over = tt
+  commented-changes CommentKind.MultiLine n xs CommentEnd.Over = tt
+  commented-changes kind n xs CommentEnd.Undecided = tt
+
+  slash-changes : (end : Bool) (n : ℕ) (xs rest : List ℕ) → Changes src depth (slash end n xs rest)
+  unfolding slash
+  slash-changes end n xs [] = ending-changes end _ tt
+  slash-changes end n xs (b ∷ rest) =
+      if-changes (b is "/") _ _ (λ e. commented-changes CommentKind.SingleLine n xs _)
+      (λ e. if-changes (b is "*") _ _ (λ g. commented-changes CommentKind.MultiLine n xs _) (λ g. tt))
+
+  hash-changes : (end : Bool) (n : ℕ) (xs rest : List ℕ) → Changes src depth (hash end n xs rest)
+  unfolding hash
+  hash-changes end n xs rest =
+      if-changes (isNext (code "[") rest) _ _ (λ e. tt) (λ e. commented-changes CommentKind.SingleLine n xs _)
+
   scripting-changes : (end : Bool) (n : ℕ) (xs : List ℕ) → drop n src ≡ xs → n ≤ length src
       → Changes src depth (scripting depth end n xs)
   unfolding scripting isFrame
@@ -228,7 +249,9 @@ module _ (src : List ℕ) (depth : ℕ) where
       (or (b is "{") _ _ refl
       (or (b is "}") _ _ (choice (ChangeGood src depth) (ltb 1 depth) _ _ (λ f. ltb-true 1 depth f) (λ f. tt))
       (or (b is "?") _ _ (closeTag-changes end n xs)
-      (or (b is "<") _ _ block tt)))))))))
+      (or (b is "<") _ _ block
+      (or (b is "/") _ _ (slash-changes end n (b ∷ xs) xs)
+      (or (b is "#") _ _ (hash-changes end n (b ∷ xs) xs) tt)))))))))))
     where
       or : (t : Bool) (o p : Outcome) → Changes src depth o → Changes src depth p → Changes src depth (if t then o else p)
       or t o p x y = if-changes t o p (λ f. x) (λ f. y)

@@ -4,14 +4,14 @@
 -- So positions never fall, and a step has no more value bytes than it passes. Assumes nothing.
 use Prim.Native.Nat.{ℕ, suc, _+_, _-_, _≤_, _<_}
 use Prim.Native.Char.{code}
-use mathlib.Core.Path.{_≡_, refl, sym, ap}
-use mathlib.Core.Bool.{Bool, true, false, _||_}
-use mathlib.Core.List.{List, [], _∷_, _++_, append-nil}
+use mathlib.Core.Path.{_≡_, refl}
+use mathlib.Core.Bool.{Bool}
+use mathlib.Core.List.{List, [], _∷_}
 use native.Mathlib.Omega.{arith}
-use lib.Dec.{ltb, eqb}
-use lib.ListN.{length, take, drop, length-take, length-drop, length-append}
-use Rattle.source.specs.Words.{if_then_else_, _is_, bytes}
-use Rattle.source.specs.Refusals.{wait, noProperty, unexpectedEndOfFile, stackFull}
+use lib.Dec.{ltb}
+use lib.ListN.{length, take, drop, length-drop}
+use Rattle.source.specs.Words.{if_then_else_, _is_}
+use Rattle.source.specs.Refusals.{noProperty, unexpectedEndOfFile}
 use Rattle.source.specs.Bytes.{isDigit, isStart, isIdentifier}
 use Rattle.source.proofs.Tests.{choice}
 use Rattle.state.specs.declared.Frame.{Frame}
@@ -19,84 +19,34 @@ use Rattle.state.specs.declared.Reading.{Reading}
 use Rattle.state.specs.declared.Session.{Session}
 use Rattle.state.specs.Bounds.{labelBytes}
 use Rattle.token.specs.Kinds.{stringPart, inlineHtml, literalSingleQuotedString, literalDoubleQuotedString, identifier, arrow, questionArrow}
-use Rattle.unit.specs.declared.Follow.{Follow}
 use Rattle.unit.specs.declared.Mode.{Mode}
 use Rattle.unit.specs.declared.Stop.{Stop}
 use Rattle.unit.specs.Readings as unit
 use Rattle.unit.proofs.Inside as unit-inside
-use Rattle.number.specs.declared.Literal.{Literal}
 use Rattle.number.specs.Numbers as number
 use Rattle.number.proofs.Values.{numberAt-inside, numberAt-shorter}
 use Rattle.sheet.specs.Sheets as sheet
 use Rattle.sheet.proofs.Inside as sheet-inside
 use Rattle.outcome.specs.declared.Change.{Change}
-use Rattle.outcome.specs.declared.DocStringKind.{DocStringKind}
 use Rattle.outcome.specs.declared.Opening.{Opening}
-use Rattle.outcome.specs.declared.OpenTagKind.{OpenTagKind}
 use Rattle.outcome.specs.declared.Run.{Run}
-use Rattle.outcome.specs.declared.Tag.{Tag}
 use Rattle.outcome.specs.declared.Tagged.{Tagged}
-use Rattle.outcome.specs.Outcomes.{Piece, Outcome, piece, unlessEmpty, values, goes, limited}
+use Rattle.outcome.specs.Outcomes.{Outcome, limited}
+use Rattle.outcome.proofs.Pieces.{take-length, if-inside, goes-inside, one-inside, parted-inside, token-inside, here-inside}
+use Rattle.outcome.proofs.Comments.{slash-inside, hash-inside}
 use Rattle.outcome.proofs.Openings.{OpeningInside, opening-inside}
 use Rattle.outcome.proofs.Initials.{TaggedInside, tagged-within}
-use Rattle.outcome.specs.Insides.{PieceInside, AllInside, ToldInside, PlaceInside, Inside}
-use Rattle.outcome.specs.Initials.{lower, fullTag, openTag, tag, orLater, tagged, tagKind, tagLength, inlined, initial}
-use Rattle.outcome.specs.Openings.{lineFeed, docBreak, docQuote, docEnd, docName, docStart, docLabel, thirdLess, opening, opened}
-use Rattle.outcome.specs.Texts.{slice, stopKind, stopDetail, stopChange, texted, sheeted, isLeft, literal, numberKind, numbered, docKind}
+use Rattle.outcome.specs.Insides.{ToldInside, Inside}
+use Rattle.outcome.specs.Initials.{tagged, tagLength, inlined, initial}
+use Rattle.outcome.specs.Openings.{opening, opened}
+use Rattle.outcome.specs.Texts.{slice, stopDetail, texted, sheeted, isLeft, literal, numberKind, numbered}
 use Rattle.outcome.specs.Lookings.{named, isBracketed, varname, lookingForVarname, property, arrowHead, questioned, lookingForProperty, varOffset}
 use Rattle.outcome.specs.Scripts.{point, word, closeTag, scripting}
 use Rattle.outcome.specs.Steps.{textMode, nowdoc, framed, topFrame, rest, stepOutcome, numberOutcome, singleOutcome, doubleOutcome}
 
--- ---- what outcomes are made of
-
-take-length : (k : ℕ) (xs : List ℕ) → length (take k xs) ≤ k
-take-length k xs = omega (arith, length-take k xs)
+-- ---- texts, sheets, literals, numbers
 
 module _ (n hi : ℕ) where
-  if-inside : (t : Bool) (o p : Outcome) → Inside n hi o → Inside n hi p → Inside n hi (if t then o else p)
-  if-inside t o p x y = choice (Inside n hi) t o p (λ e. x) (λ e. y)
-
-  goes-inside : (after : ℕ) → n ≤ after → after ≤ hi → ToldInside n hi [] after
-  unfolding values
-  goes-inside after x y = record { order = x; inside = y; narrow = omega arith; all = tt }
-
-  -- one piece that bears the cursor's span
-  one-inside : (kind after : ℕ) (value : List ℕ) → n + length value ≤ after → after ≤ hi
-      → ToldInside n hi (piece kind n value ∷ []) after
-  unfolding values
-  one-inside kind after value x y =
-      record {
-        order = omega arith;
-        inside = y;
-        narrow = omega (arith, ap length (append-nil value));
-        all = (record { low = omega arith; high = omega arith; detail = omega arith }, tt);
-      }
-
-  -- a part that is left out where it is empty, and a piece behind it
-  parted-inside : (kind after : ℕ) (value : List ℕ) (p : Piece) → n ≤ p .place → p .place ≤ after
-      → p .detail ≤ after → n + (length value + length (p .value)) ≤ after → after ≤ hi
-      → ToldInside n hi (unlessEmpty kind n value ++ p ∷ []) after
-  unfolding unlessEmpty values
-  parted-inside kind after [] p x y z w h =
-      record {
-        order = omega arith;
-        inside = h;
-        narrow = omega (arith, ap length (append-nil (p .value)));
-        all = (record { low = x; high = y; detail = z }, tt);
-      }
-  parted-inside kind after (b ∷ vs) p x y z w h =
-      record {
-        order = omega arith;
-        inside = h;
-        narrow = omega (arith, length-append vs (p .value ++ []), ap length (append-nil (p .value)));
-        all = (
-          record { low = omega arith; high = omega arith; detail = omega arith },
-          (record { low = x; high = y; detail = z }, tt),
-        );
-      }
-
-  -- ---- texts, sheets, literals, numbers
-
   slice-inside : (xs : List ℕ) (from after : ℕ) → length (slice n xs from after) ≤ after - from
   unfolding slice
   slice-inside xs from after = take-length (after - from) (drop (from - n) xs)
@@ -113,7 +63,7 @@ module _ (n hi : ℕ) where
   texted-inside : (m : Mode) (xs : List ℕ) (r : unit.Reading) → unit-inside.InsideReading n hi r → Inside n hi (texted m n xs r)
   unfolding texted
   texted-inside m xs (unit.Text value stop from after) x =
-      parted-inside stringPart after value _ (omega arith) (omega (arith, x .narrow, x .order))
+      parted-inside n hi stringPart after value _ (omega arith) (omega (arith, x .narrow, x .order))
       (omega (arith, detail-inside stop, x .indented, x .order))
       (omega (arith, slice-inside xs from after, x .narrow, x .order))
       (x .inside)
@@ -123,7 +73,7 @@ module _ (n hi : ℕ) where
   sheeted-inside : (xs : List ℕ) (r : sheet.Reading) → sheet-inside.InsideReading n hi r → Inside n hi (sheeted n xs r)
   unfolding sheeted
   sheeted-inside xs (sheet.Sheet value ind amount from after) x =
-      parted-inside stringPart after value _ (omega arith) (omega (arith, x .narrow, x .order))
+      parted-inside n hi stringPart after value _ (omega arith) (omega (arith, x .narrow, x .order))
       (omega (arith, x .indented, x .order))
       (omega (arith, slice-inside xs from after, x .narrow, x .order))
       (x .inside)
@@ -134,9 +84,9 @@ module _ (n hi : ℕ) where
   literal-inside : (kind m : ℕ) (r : unit.Reading) → n ≤ m → unit-inside.InsideReading m hi r → Inside n hi (literal kind n r)
   unfolding literal
   literal-inside kind m (unit.Text value stop from after) h x =
-      if-inside (isLeft stop) _ _
-      (one-inside stringPart after value (omega (arith, x .narrow, x .order)) (x .inside))
-      (one-inside kind after value (omega (arith, x .narrow, x .order)) (x .inside))
+      if-inside n hi (isLeft stop) _ _
+      (one-inside n hi stringPart after value (omega (arith, x .narrow, x .order)) (x .inside))
+      (one-inside n hi kind after value (omega (arith, x .narrow, x .order)) (x .inside))
   literal-inside kind m (unit.Refused number place) h x = record { told = x .told; low = omega (arith, x .on); high = x .inside }
   literal-inside kind m unit.Wait h x = tt
 
@@ -171,24 +121,16 @@ named-inside end k (b ∷ xs) =
     go Run.Undecided x = tt
 
 module _ (n : ℕ) where
-  -- the first k bytes of xs as a token
-  token-inside : (kind k : ℕ) (xs : List ℕ) → k ≤ length xs → ToldInside n (n + length xs) (piece kind n (take k xs) ∷ []) (n + k)
-  token-inside kind k xs h =
-      one-inside n (n + length xs) kind (n + k) (take k xs) (omega (arith, take-length k xs)) (omega arith)
-
-  here-inside : (number : ℕ) (xs : List ℕ) → eqb number wait ≡ false → PlaceInside n (n + length xs) number n
-  here-inside number xs e = record { told = e; low = omega arith; high = omega arith }
-
   varname-inside : (xs : List ℕ) (r : Run) → RunInside 1 (length xs) r → Inside n (n + length xs) (varname n xs r)
   unfolding varname
   varname-inside xs (Run.Over k) x =
-      if-inside n (n + length xs) (isBracketed (drop k xs)) _ _ (token-inside identifier k xs (x .1))
+      if-inside n (n + length xs) (isBracketed (drop k xs)) _ _ (token-inside n identifier k xs (x .1))
       (goes-inside n (n + length xs) n (omega arith) (omega arith))
   varname-inside xs Run.Undecided x = tt
 
   property-inside : (xs : List ℕ) (r : Run) → RunInside 1 (length xs) r → Inside n (n + length xs) (property n xs r)
   unfolding property
-  property-inside xs (Run.Over k) x = token-inside identifier k xs (x .1)
+  property-inside xs (Run.Over k) x = token-inside n identifier k xs (x .1)
   property-inside xs Run.Undecided x = tt
 
   run-inside : (end : Bool) (b : ℕ) (xs : List ℕ) → RunInside 1 (length (b ∷ xs)) (named end 1 xs)
@@ -206,30 +148,30 @@ module _ (n : ℕ) where
   arrowHead-inside : (kind k : ℕ) (end : Bool) (xs ys : List ℕ) → k + length ys ≤ length xs
       → Inside n (n + length xs) (arrowHead kind k end n xs ys)
   unfolding arrowHead
-  arrowHead-inside kind k end xs [] h = if-inside n (n + length xs) end _ _ (here-inside noProperty xs refl) tt
+  arrowHead-inside kind k end xs [] h = if-inside n (n + length xs) end _ _ (here-inside n noProperty xs refl) tt
   arrowHead-inside kind k end xs (b ∷ ys) h =
-      if-inside n (n + length xs) (b is ">") _ _ (token-inside kind (suc k) xs (omega arith)) (here-inside noProperty xs refl)
+      if-inside n (n + length xs) (b is ">") _ _ (token-inside n kind (suc k) xs (omega arith)) (here-inside n noProperty xs refl)
 
   questioned-inside : (end : Bool) (xs ys : List ℕ) → 1 + length ys ≤ length xs → Inside n (n + length xs) (questioned end n xs ys)
   unfolding questioned
-  questioned-inside end xs [] h = if-inside n (n + length xs) end _ _ (here-inside noProperty xs refl) tt
+  questioned-inside end xs [] h = if-inside n (n + length xs) end _ _ (here-inside n noProperty xs refl) tt
   questioned-inside end xs (b ∷ ys) h =
-      if-inside n (n + length xs) (b is "-") _ _ (arrowHead-inside questionArrow 2 end xs ys (omega arith)) (here-inside noProperty xs refl)
+      if-inside n (n + length xs) (b is "-") _ _ (arrowHead-inside questionArrow 2 end xs ys (omega arith)) (here-inside n noProperty xs refl)
 
   lookingForProperty-inside : (end : Bool) (xs : List ℕ) → Inside n (n + length xs) (lookingForProperty end n xs)
   unfolding lookingForProperty
-  lookingForProperty-inside end [] = if-inside n (n + 0) end _ _ (here-inside noProperty [] refl) tt
+  lookingForProperty-inside end [] = if-inside n (n + 0) end _ _ (here-inside n noProperty [] refl) tt
   lookingForProperty-inside end (b ∷ xs) =
       if-inside n hi (b is "?") _ _ (questioned-inside end (b ∷ xs) xs (omega arith))
       (if-inside n hi (b is "-") _ _ (arrowHead-inside arrow 1 end (b ∷ xs) xs (omega arith))
-      (if-inside n hi (isStart b) _ _ (property-inside (b ∷ xs) (named end 1 xs) (run-inside end b xs)) (here-inside noProperty (b ∷ xs) refl)))
+      (if-inside n hi (isStart b) _ _ (property-inside (b ∷ xs) (named end 1 xs) (run-inside end b xs)) (here-inside n noProperty (b ∷ xs) refl)))
     where
       hi : ℕ
       hi = n + length (b ∷ xs)
 
   varOffset-inside : (end : Bool) (xs : List ℕ) → Inside n (n + length xs) (varOffset end n xs)
   unfolding varOffset
-  varOffset-inside end [] = if-inside n (n + 0) end _ _ (here-inside unexpectedEndOfFile [] refl) tt
+  varOffset-inside end [] = if-inside n (n + 0) end _ _ (here-inside n unexpectedEndOfFile [] refl) tt
   varOffset-inside end (b ∷ xs) = goes-inside n (n + length (b ∷ xs)) (suc n) (omega arith) (omega arith)
 
 -- ---- inline text
@@ -303,7 +245,9 @@ scripting-inside depth end n (b ∷ xs) =
     (or (b is "{") _ _ next
     (or (b is "}") _ _ next
     (or (b is "?") _ _ (closeTag-inside end n xs)
-    (or (b is "<") _ _ (opened-inside end n xs) next)))))))))
+    (or (b is "<") _ _ (opened-inside end n xs)
+    (or (b is "/") _ _ (slash-inside n end (b ∷ xs) xs (omega arith))
+    (or (b is "#") _ _ (hash-inside n end (b ∷ xs) xs (omega arith)) next)))))))))))
   where
     or : (t : Bool) (o p : Outcome) → Inside n (n + suc (length xs)) o → Inside n (n + suc (length xs)) p
         → Inside n (n + suc (length xs)) (if t then o else p)

@@ -1,5 +1,7 @@
 pub mod Initials
 pub mod Openings
+pub mod Pieces
+pub mod Comments
 pub mod Insides
 pub mod Changes
 pub mod Demand
@@ -7,6 +9,7 @@ pub mod TextDemand
 pub mod LookingDemand
 pub mod InitialDemand
 pub mod OpeningDemand
+pub mod CommentDemand
 pub mod ScriptDemand
 pub mod StepDemand
 pub mod Progress

@@ -32,6 +32,8 @@ use Rattle.number.proofs.Progress as number-progress
 use Rattle.sheet.specs.Sheets as sheet
 use Rattle.sheet.proofs.Progress as sheet-progress
 use Rattle.outcome.specs.declared.Change.{Change}
+use Rattle.outcome.specs.declared.CommentEnd.{CommentEnd}
+use Rattle.outcome.specs.declared.CommentKind.{CommentKind}
 use Rattle.outcome.specs.declared.Opening.{Opening}
 use Rattle.outcome.specs.declared.OpenTagKind.{OpenTagKind}
 use Rattle.outcome.specs.declared.Run.{Run}
@@ -41,8 +43,10 @@ use Rattle.outcome.specs.Initials.{tagged, tagLength, inlined, initial}
 use Rattle.outcome.specs.Openings.{opening, opened}
 use Rattle.outcome.specs.Texts.{texted, sheeted, isLeft, literal, numbered}
 use Rattle.outcome.specs.Lookings.{named, isBracketed, varname, lookingForVarname, property, arrowHead, questioned, lookingForProperty, varOffset}
+use Rattle.outcome.specs.Comments.{isNext, commentEnd, endless, commented, commentAt, slash, hash}
 use Rattle.outcome.specs.Scripts.{point, word, closeTag, scripting}
 use Rattle.outcome.specs.Steps.{textMode, nowdoc, framed, topFrame, rest, stepOutcome}
+use Rattle.outcome.proofs.Comments.{CommentInside, commentEnd-inside}
 use Rattle.outcome.proofs.Openings.{OpeningInside, opening-inside}
 use Rattle.outcome.proofs.Initials.{TaggedInside, tagged-within}
 
@@ -210,6 +214,36 @@ module _ (f : Frame) (n : ℕ) where
   closeTag-onward end [] = ending-onward end _ (one-on Change.Keep)
   closeTag-onward end (b ∷ xs) = if-onward (b is ">") _ _ (λ e. moves (omega arith)) (λ e. one-on Change.Keep)
 
+  endless-onward : (kind : CommentKind) (xs : List ℕ) → 1 ≤ length xs → Progress f n (endless kind n xs)
+  unfolding endless
+  endless-onward CommentKind.SingleLine xs h = moves (omega arith)
+  endless-onward CommentKind.MultiLine xs h = tt
+
+  commentAt-onward : (kind : CommentKind) (k : ℕ) (end : Bool) (xs rest : List ℕ) → 1 ≤ k → k + length rest ≤ length xs
+      → Progress f n (commentAt kind k end n xs rest)
+  unfolding commented
+  commentAt-onward kind k end xs rest h i = go (commentEnd kind end k rest) (commentEnd-inside kind end k (length xs) rest i)
+    where
+      go : (r : CommentEnd) → CommentInside kind end k (length xs) r → Progress f n (commented kind n xs r)
+      go (CommentEnd.At j) x = moves (omega (arith, x .0))
+      go CommentEnd.Over x = endless-onward kind xs (omega arith)
+      go CommentEnd.Undecided x = tt
+
+  slash-onward : (end : Bool) (xs rest : List ℕ) → 1 + length rest ≤ length xs → Progress f n (slash end n xs rest)
+  unfolding slash
+  slash-onward end xs [] h = ending-onward end _ (one-on Change.Keep)
+  slash-onward end xs (b ∷ rest) h =
+      if-onward (b is "/") _ _ (λ e. commentAt-onward CommentKind.SingleLine 2 end xs rest (omega arith) (omega arith))
+      (λ e.
+      if-onward (b is "*") _ _ (λ g. commentAt-onward CommentKind.MultiLine 2 end xs rest (omega arith) (omega arith))
+      (λ g. one-on Change.Keep))
+
+  hash-onward : (end : Bool) (xs rest : List ℕ) → 1 + length rest ≤ length xs → Progress f n (hash end n xs rest)
+  unfolding hash
+  hash-onward end xs rest h =
+      if-onward (isNext (code "[") rest) _ _ (λ e. one-on Change.Keep)
+      (λ e. commentAt-onward CommentKind.SingleLine 1 end xs rest (omega arith) h)
+
   scripting-onward : (depth : ℕ) (end : Bool) (xs : List ℕ) → Progress f n (scripting depth end n xs)
   unfolding scripting
   scripting-onward depth end [] = ending-onward end _ tt
@@ -225,7 +259,9 @@ module _ (f : Frame) (n : ℕ) where
       (or (b is "{") _ _ (one-on _)
       (or (b is "}") _ _ (one-on _)
       (or (b is "?") _ _ (closeTag-onward end xs)
-      (or (b is "<") _ _ (opened-onward end xs) (one-on _))))))))))
+      (or (b is "<") _ _ (opened-onward end xs)
+      (or (b is "/") _ _ (slash-onward end (b ∷ xs) xs (omega arith))
+      (or (b is "#") _ _ (hash-onward end (b ∷ xs) xs (omega arith)) (one-on _))))))))))))
     where
       or : (t : Bool) (o p : Outcome) → Progress f n o → Progress f n p → Progress f n (if t then o else p)
       or t o p x y = if-onward t o p (λ e. x) (λ e. y)

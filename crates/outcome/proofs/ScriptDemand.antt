@@ -27,6 +27,7 @@ use Rattle.outcome.proofs.Demand.{answers-demands, told-waits, pieces-a
 use Rattle.outcome.proofs.TextDemand.{literal-demands, numbered-demands}
 use Rattle.outcome.proofs.LookingDemand.{named-stays, named-cut, named-told}
 use Rattle.outcome.proofs.OpeningDemand.{opened-demands}
+use Rattle.outcome.proofs.CommentDemand.{slash-answers, hash-answers}
 
 -- a number is a token
 numbered-some : (p place after : ℕ) (r : Reading) → (r ≡ Reading.Wait → ⊥) → goes after Change.Keep ≡ closed p (numbered place r) → ⊥
@@ -101,7 +102,9 @@ module _ (n p : ℕ) where
         (if-answers p (b is "{") (settled p (goes (suc n) (Change.Enter Frame.Scripting)) told-waits)
         (if-answers p (b is "}") (settled p (goes (suc n) (if ltb 1 depth then Change.Leave else Change.Keep)) told-waits)
         (if-answers p (b is "?") (closeTag-answers xs)
-        (if-answers p (b is "<") (demands-answers p _ (opened-demands n p) xs) (settled p (goes (suc n) Change.Keep) told-waits))))))))))
+        (if-answers p (b is "<") (demands-answers p _ (opened-demands n p) xs)
+        (if-answers p (b is "/") (slash-answers n p (b ∷ xs) xs (omega arith))
+        (if-answers p (b is "#") (hash-answers n p (b ∷ xs) xs (omega arith)) (settled p (goes (suc n) Change.Keep) told-waits))))))))))))
 
     pub scripting-demands : Demands p (λ end. scripting depth end n)
     scripting-demands = answers-demands p (λ end. scripting depth end n) scripting-answers

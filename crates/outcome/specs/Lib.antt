@@ -2,7 +2,8 @@ pub mod Outcomes
 pub mod Initials
 pub mod Openings
 pub mod Texts
-pub mod Scripts
 pub mod Lookings
+pub mod Comments
+pub mod Scripts
 pub mod Steps
 pub mod Insides

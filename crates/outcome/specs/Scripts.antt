@@ -1,4 +1,5 @@
--- The mode Scripting: document 01's table, row by row. n is the position of the text's head, `end` says that the text is all there.
+-- The mode Scripting: document 01's table, row by row, with the comments of document 02's P2 before its last row. n is the position of the
+-- text's head, `end` says that the text is all there.
 --   point        `.` and a digit: a number
 --   word         an identifier start: the whole run is passed
 --   closeTag     `?>`: passed, and the top becomes Initial
@@ -21,6 +22,7 @@ use Rattle.outcome.specs.Outcomes.{Outcome, goes, ending}
 use Rattle.outcome.specs.Openings.{opening, opened}
 use Rattle.outcome.specs.Texts.{literal, numbered}
 use Rattle.outcome.specs.Lookings.{named}
+use Rattle.outcome.specs.Comments.{slash, hash}
 
 unfoldable pub point : Bool → ℕ → List ℕ → Outcome
 point end n [] = ending end (goes (suc n) Change.Keep)
@@ -49,4 +51,6 @@ scripting depth end n (b ∷ rest) =
     else if b is "}" then goes (suc n) (if ltb 1 depth then Change.Leave else Change.Keep)
     else if b is "?" then closeTag end n rest
     else if b is "<" then opened n (opening end (suc n) rest)
+    else if b is "/" then slash end n (b ∷ rest) rest
+    else if b is "#" then hash end n (b ∷ rest) rest
     else goes (suc n) Change.Keep

@@ -62,3 +62,17 @@ pub enum Run {
     Over(usize),
     Undecided,
 }
+
+// The comments: `//` and `#` begin one of a single line, `/*` one that may have many.
+pub enum CommentKind {
+    SingleLine,
+    MultiLine,
+}
+
+// How many bytes of a comment come before its end.
+pub enum CommentEnd {
+    At(usize),
+    // The text is over, and there was none.
+    Over,
+    Undecided,
+}

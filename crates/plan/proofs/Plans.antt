@@ -1,19 +1,21 @@
 -- The plans that the modes make, and the outcomes that they stand for. Assumes nothing.
-use Prim.Native.Nat.{ℕ, suc, _-_, _≤_}
+use Prim.Native.Nat.{ℕ, suc, _+_, _-_, _≤_}
 use mathlib.Core.Path.{_≡_, refl, sym, _∙_}
-use mathlib.Core.Bool.{Bool, false}
+use mathlib.Core.Bool.{Bool, true, false}
 use mathlib.Core.List.{List, [], _∷_, _++_}
 use native.Mathlib.Omega.{arith}
+use native.Mathlib.Numerals.{add-one}
 use lib.ListN.{length, drop, length-take, length-drop}
 use borrow.Author.Tests.{eq-eqb, ne-eqb}
 use Rattle.source.specs.Words.{if_then_else_}
 use Rattle.outcome.specs.declared.Change.{Change}
-use Rattle.outcome.specs.Outcomes.{Outcome, unlessEmpty}
+use Rattle.outcome.specs.Outcomes.{Outcome, unlessEmpty, goes, ending}
+use Rattle.outcome.specs.Lookings.{token}
 use Rattle.plan.specs.declared.Draft.{Draft}
 use Rattle.plan.specs.declared.Drafts.{Drafts}
 use Rattle.plan.specs.declared.Plan.{Plan}
 use Rattle.plan.specs.Plans.{madeBy, made, pieceOf, piecesOf, outcomeOf, Ready, Plans, copiedDraft}
-use Rattle.plan.specs.Plans.{workPlan, onePlan, partedPlan}
+use Rattle.plan.specs.Plans.{workPlan, goesPlan, onePlan, partedPlan, endingPlan}
 
 module _ (part d : Draft) (after : ℕ) (change : Change) where
   pub partedPlan-empty : (r : Plan) → part .len ≡ 0 → r ≡ onePlan d after change → r ≡ partedPlan part d after change
@@ -33,6 +35,51 @@ copied-ready src end kind detail place from to h i =
       size = sym (rw (length-take (to - from) (drop from src), length-drop from src) (omega arith));
       able = record { order = h; inside = i };
     }
+
+pub token-made : (kind at k : ℕ) (change : Change) (d : Draft) (r : Plan) → d ≡ copiedDraft kind 0 at at (at + k)
+    → r ≡ onePlan d (at + k) change → r ≡ onePlan (copiedDraft kind 0 at at (at + k)) (at + k) change
+token-made kind at k change d r e h = h ∙ rw e
+
+-- k bytes from `at` on as a token
+pub token-plans : (src : List ℕ) (end : Bool) (kind at k : ℕ) (change : Change) → at + k ≤ length src
+    → Plans src end (token kind at (drop at src) k change) (onePlan (copiedDraft kind 0 at at (at + k)) (at + k) change)
+unfolding madeBy outcomeOf piecesOf
+token-plans src end kind at k change inside =
+    let n : at + k - at ≡ k = omega arith in
+    record { told = rw n; ready = copied-ready src end kind 0 at at (at + k) (omega arith) inside }
+
+-- plans that write nothing, refuse or wait
+module _ (src : List ℕ) (end : Bool) where
+  pub goes-plans : (after : ℕ) (change : Change) → Plans src end (goes after change) (goesPlan after change)
+  unfolding outcomeOf piecesOf
+  goes-plans after change = record { told = refl; ready = tt }
+
+  pub refused-plans : (number place : ℕ) → Plans src end (Outcome.Refused number place) (Plan.Refused number place)
+  unfolding outcomeOf
+  refused-plans number place = record { told = refl; ready = tt }
+
+  pub wait-plans : Plans src end Outcome.Wait Plan.Wait
+  unfolding outcomeOf
+  wait-plans = record { told = refl; ready = tt }
+
+  -- a choice that a test decides
+  pub either-plans : (t : Bool) (o o′ : Outcome) (p p′ : Plan) → Plans src end o p → Plans src end o′ p′
+      → Plans src end (if t then o else o′) (if t then p else p′)
+  either-plans true o o′ p p′ first other = first
+  either-plans false o o′ p p′ first other = other
+
+  pub ending-plans : (o : Outcome) (p : Plan) → Plans src end o p → Plans src end (ending end o) (endingPlan end p)
+  ending-plans o p h = either-plans end o Outcome.Wait p Plan.Wait h wait-plans
+
+  -- a sign is passed; nothing is left behind it
+  module _ (at : ℕ) (r : Plan) where
+    pub sign-plans : r ≡ goesPlan (at + 1) Change.Keep → Plans src end (goes (suc at) Change.Keep) r
+    sign-plans e = rw (e, add-one at) (goes-plans (suc at) Change.Keep)
+
+    pub last-sign-plans : (p : Plan) → p ≡ goesPlan (at + 1) Change.Keep → r ≡ endingPlan end p
+        → Plans src end (ending end (goes (suc at) Change.Keep)) r
+    last-sign-plans p e f =
+        rw (f, e, add-one at) (ending-plans (goes (suc at) Change.Keep) (goesPlan (suc at) Change.Keep) (goes-plans (suc at) Change.Keep))
 
 -- a part, if it is not empty, and the token behind it
 module _ (src : List ℕ) (end : Bool) (part d : Draft) (after : ℕ) (change : Change) where

@@ -107,3 +107,7 @@ onePlan d after change = workPlan (Drafts.One d) after change
 
 abbrev pub partedPlan : Draft → Draft → ℕ → Change → Plan
 partedPlan part d after change = if eqb (part .len) 0 then onePlan d after change else workPlan (Drafts.Two part d) after change
+
+-- nothing is left of the text: this at the announced end, else wait
+abbrev pub endingPlan : Bool → Plan → Plan
+endingPlan end p = if end then p else Plan.Wait

@@ -4,8 +4,8 @@ use outcome::Change;
 use state::Label;
 use unit::Mode;
 ghost use mathlib.Core.Path.{_≡_};
-ghost use Prim.Native.Nat.{_-_, _≤_};
-ghost use Rattle.plan.specs.Plans.{noLabel, copiedDraft, goesPlan, onePlan, partedPlan};
+ghost use Prim.Native.Nat.{_+_, _-_, _≤_};
+ghost use Rattle.plan.specs.Plans.{noLabel, copiedDraft, goesPlan, onePlan, partedPlan, endingPlan};
 
 // How a token's value comes about.
 pub enum Making {
@@ -95,6 +95,25 @@ pub fn one(draft: Draft, after: usize, change: Change) -> Plan
         change,
         finished: false,
     })
+}
+
+// The `k` bytes at a place as a token.
+pub fn one_token(kind: u32, at: usize, k: usize, change: Change) -> Plan
+    requires { ⌜ at + k ≤ 65536 ⌝ }
+    ensures { λ r. ⌜ r ≡ onePlan (copiedDraft kind 0 at at (at + k)) (at + k) change ⌝ }
+{
+    let to = at + k;
+    one(copied(kind, at, at, to), to, change)
+}
+
+// Nothing is left of the text: the plan at the announced end, else wait.
+pub fn ending(end: bool, p: Plan) -> Plan
+    ensures { λ r. ⌜ r ≡ endingPlan end p ⌝ }
+{
+    if end {
+        return p;
+    }
+    Plan::Wait
 }
 
 // A text's part, if it is not empty, and the token behind it.

@@ -1,5 +1,5 @@
-// Runs every worked sheet of document 01, starred or not, and of request P1 through step or a reading, and prints what came of it:
-// a line a text. A line is the letter, then each token (kind, line, column, position, detail, length, and the value's bytes in
+// Runs every worked sheet of document 01, starred or not, and of requests P1 and P2 through step or a reading, and prints what came
+// of it: a line a text. A line is the letter, then each token (kind, line, column, position, detail, length, and the value's bytes in
 // hexadecimal), then `end` or `finished` and the position, or `refused`, the number and its line, column and position.
 // A line of sheets x and y has marks in place of that, for 32 bytes from the one named on, as each follows a label: c where the block
 // closes, r where the label begins a row, w where the step waits.
@@ -271,7 +271,42 @@ fn behind_label(letter: u8, end: bool) {
     }
 }
 
-// Every sheet, in the order of document 01, then those of request P1.
+// A step over a script's text.
+fn script(letter: u8, src: &[u8], end: bool) {
+    step(letter, Frame::Scripting, Reading::Ported, src, end);
+}
+
+// Sheets z and A to D: how comments begin and end.
+fn comment_sheets() {
+    script(b'z', b"#\n", true);
+    script(b'z', b"//a\nb", true);
+    script(b'z', b"#a?>", true);
+    script(b'A', b"#[a", true);
+    script(b'B', b"/*", true);
+    script(b'B', b"/*/", true);
+    script(b'B', b"/*/*/", true);
+    script(b'C', b"/*it's\n*/'", true);
+    script(b'D', b"#\r", true);
+    script(b'D', b"//a\r\n", true);
+}
+
+// Sheets E to G: what waits where more is announced, what is settled, and a script that ends in a comment.
+fn part_sheets() {
+    script(b'E', b"/", false);
+    script(b'E', b"#", false);
+    script(b'E', b"//a", false);
+    script(b'E', b"//a?", false);
+    script(b'E', b"/*a*", false);
+    script(b'F', b"/x", false);
+    script(b'F', b"#[", false);
+    script(b'F', b"//a\n", false);
+    script(b'F', b"#?>", false);
+    script(b'F', b"/*?>*/", false);
+    script(b'G', b"//a", true);
+    script(b'G', b"#", true);
+}
+
+// Every sheet, in the order of document 01, then those of the requests.
 fn main() {
     initial_sheets();
     quoted_sheets();
@@ -280,4 +315,6 @@ fn main() {
     caption_sheets();
     behind_label(b'x', true);
     behind_label(b'y', false);
+    comment_sheets();
+    part_sheets();
 }

@@ -1,18 +1,17 @@
 -- Runs of bytes that stand for themselves: each is its own unit, and a reading passes the whole run at once. Assumes nothing.
 use Prim.Native.Nat.{ℕ, suc, _+_, _-_, _<_, _≤_}
 use mathlib.Core.Path.{_≡_, refl, sym, ap, _∙_}
-use mathlib.Core.Bool.{Bool, true, false, not, _&&_, false≢true}
+use mathlib.Core.Bool.{Bool, true, false, false≢true}
 use mathlib.Core.List.{List, [], _∷_}
 use native.Mathlib.Omega.{arith}
 use native.Mathlib.Nat.{add-zero}
-use lib.Dec.{eqb}
 use lib.ListN.{length, getD, take, drop, length-drop}
 use lib.Seq.{length-take-le, getD-drop, drop-drop}
 use borrow.Author.Tests.{ne-eqb, not-true}
 use Rattle.source.specs.Words.{_is_, run}
 use Rattle.source.specs.Bytes.{isNoBreak, isNoneOf}
 use Rattle.source.specs.Identifiers.{RunEnd}
-use Rattle.source.proofs.Tests.{&&-left, &&-right, choice}
+use Rattle.source.proofs.Tests.{choice, none-of}
 use Rattle.unit.specs.declared.Mode.{Mode}
 use Rattle.unit.specs.declared.Stop.{Stop}
 use Rattle.unit.specs.Interpolations.{plain}
@@ -23,27 +22,6 @@ use Rattle.text.specs.Scans.{isPlain, lastBreak}
 -- one mode's run is that of its arm
 pub plain-arm : (m arm : Mode) (src : List ℕ) (at r : ℕ) → m ≡ arm → RunEnd (isPlain arm) src at r → RunEnd (isPlain m) src at r
 plain-arm m arm src at r e h = rw e h
-
--- none of four
-pub record None (b w x y z : ℕ) : Type 0 where
-  pub first : eqb b w ≡ false
-  pub second : eqb b x ≡ false
-  pub third : eqb b y ≡ false
-  pub fourth : eqb b z ≡ false
-
-none-of : (b w x y z : ℕ) → isNoneOf w x y z b ≡ true → None b w x y z
-unfolding isNoneOf
-none-of b w x y z e =
-    let three = not (eqb b w) && not (eqb b x) && not (eqb b y) in
-    let two = not (eqb b w) && not (eqb b x) in
-    let f = &&-left three (not (eqb b z)) e in
-    let g = &&-left two (not (eqb b y)) f in
-    record {
-      first = not-true (eqb b w) (&&-left (not (eqb b w)) (not (eqb b x)) g);
-      second = not-true (eqb b x) (&&-right (not (eqb b w)) (not (eqb b x)) g);
-      third = not-true (eqb b y) (&&-right two (not (eqb b y)) f);
-      fourth = not-true (eqb b z) (&&-right three (not (eqb b z)) e);
-    }
 
 -- the unit of a byte that stands for itself
 plain-unit : (m : Mode) (label : List ℕ) (end : Bool) (n b : ℕ) (rest : List ℕ) → isPlain m b ≡ true

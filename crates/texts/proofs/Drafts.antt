@@ -1,18 +1,15 @@
--- What drafts make: pieces, and the outcomes of plans that write nothing, one token, or a part and a token; of refusals and waits.
--- Assumes nothing.
+-- What drafts make: pieces, and the outcomes of plans that write one token, or a part and a token. Assumes nothing.
 use Prim.Native.Nat.{ℕ, _+_, _-_, _≤_}
-use mathlib.Core.Path.{_≡_, refl, sym, ap, subst}
-use mathlib.Core.Bool.{Bool, true, false}
+use mathlib.Core.Path.{_≡_, refl, ap, subst}
+use mathlib.Core.Bool.{Bool, false}
 use mathlib.Core.List.{List, [], _∷_, _++_}
 use native.Mathlib.Omega.{arith}
 use lib.ListN.{length, take, drop}
-use Rattle.source.specs.Words.{if_then_else_}
 use Rattle.outcome.specs.declared.Change.{Change}
-use Rattle.outcome.specs.Outcomes.{Piece, Outcome, piece, goes, unlessEmpty}
+use Rattle.outcome.specs.Outcomes.{Piece, Outcome, piece, unlessEmpty}
 use Rattle.plan.specs.declared.Making.{Making}
 use Rattle.plan.specs.declared.Draft.{Draft}
-use Rattle.plan.specs.declared.Plan.{Plan}
-use Rattle.plan.specs.Plans.{madeBy, pieceOf, piecesOf, outcomeOf, Able, Ready, Plans, copiedDraft, goesPlan, onePlan, partedPlan}
+use Rattle.plan.specs.Plans.{madeBy, pieceOf, piecesOf, outcomeOf, Able, Ready, Plans, copiedDraft, onePlan, partedPlan}
 use Rattle.plan.proofs.Plans as plan
 use Rattle.texts.specs.Works.{madeDraft}
 
@@ -35,10 +32,6 @@ module _ (src : List ℕ) (end : Bool) where
     made-makes making from to able e = record { told = rw e; ready = record { size = rw e; able = able } }
 
   module _ (after : ℕ) (change : Change) where
-    pub goes-plans : Plans src end (goes after change) (goesPlan after change)
-    unfolding outcomeOf piecesOf
-    goes-plans = record { told = refl; ready = tt }
-
     pub one-plans : (d : Draft) → Ready src end d
         → Plans src end (Outcome.Told (pieceOf src end d ∷ []) after change false) (onePlan d after change)
     unfolding outcomeOf piecesOf
@@ -58,17 +51,3 @@ module _ (src : List ℕ) (end : Bool) where
           (partedPlan part d after change))
           (x .told)
           (plan.parted-plans src end part d after change (ap (λ p. p .detail) (x .told)) (x .ready) ready)
-
-  pub refused-plans : (number place : ℕ) → Plans src end (Outcome.Refused number place) (Plan.Refused number place)
-  unfolding outcomeOf
-  refused-plans number place = record { told = refl; ready = tt }
-
-  pub wait-plans : Plans src end Outcome.Wait Plan.Wait
-  unfolding outcomeOf
-  wait-plans = record { told = refl; ready = tt }
-
-  -- a choice that a test decides
-  pub either-plans : (t : Bool) (o o′ : Outcome) (p p′ : Plan) → Plans src end o p → Plans src end o′ p′
-      → Plans src end (if t then o else o′) (if t then p else p′)
-  either-plans true o o′ p p′ first other = first
-  either-plans false o o′ p p′ first other = other

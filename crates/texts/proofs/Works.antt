@@ -42,7 +42,8 @@ use Rattle.plan.specs.declared.Plan.{Plan}
 use Rattle.plan.specs.Plans.{madeBy, outcomeOf, Here, Named, Plans, noLabel, copiedDraft, onePlan, partedPlan}
 use Rattle.texts.specs.Works.{madeDraft, textDraft, textPlan, textWork, sheetPlan, sheetWork, literalPlan, literalWork, numberPlan, numberWork}
 use Rattle.plan.proofs.Plans.{copied-ready}
-use Rattle.texts.proofs.Drafts.{Makes, copied-makes, made-makes, one-plans, piece-plans, parted-plans, either-plans}
+use Rattle.plan.proofs.Plans.{either-plans}
+use Rattle.texts.proofs.Drafts.{Makes, copied-makes, made-makes, one-plans, piece-plans, parted-plans}
 
 -- the range that a label's bytes are cut from
 pub labelBytes-part : (src : List ℕ) (label : Label) → take (label .start + label .len - label .start) (drop (label .start) src) ≡ labelBytes src label

@@ -1,4 +1,4 @@
--- The kinds of tokens by name (document 01, "Token list"), as the source has them.
+-- The kinds of tokens by name (document 01, "Token list", and document 02, P2), as the source has them.
 use Prim.Native.Nat.{ℕ}
 
 abbrev pub inlineHtml : ℕ
@@ -60,3 +60,6 @@ literalInteger = 19
 
 abbrev pub literalFloat : ℕ
 literalFloat = 20
+
+abbrev pub comment : ℕ
+comment = 21

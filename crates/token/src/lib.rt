@@ -52,6 +52,9 @@ pub const LITERAL_INTEGER: u32 = 19;
 
 pub const LITERAL_FLOAT: u32 = 20;
 
+// Of document 02, P2.
+pub const COMMENT: u32 = 21;
+
 // A token whose value stands in the pool: `len` bytes from `start` on.
 pub struct Token {
     pub kind: u32,

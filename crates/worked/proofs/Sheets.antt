@@ -24,12 +24,13 @@ use Rattle.outcome.specs.Texts.{slice, docKind, quoteKind, stopKind, stopDetail
 use Rattle.outcome.specs.Texts.{isLeft, literal, numberKind, numbered}
 use Rattle.outcome.specs.Lookings.{named, isBracketed, varname, lookingForVarname, property, arrowHead, questioned, lookingForProperty}
 use Rattle.outcome.specs.Lookings.{varOffset}
+use Rattle.outcome.specs.Comments.{isNext, ends, endTaken, commentEnd, endless, commented, slash, hash}
 use Rattle.outcome.specs.Scripts.{point, word, closeTag, scripting}
 use Rattle.outcome.specs.Steps.{textMode, nowdoc, framed, stepOutcome, numberOutcome, singleOutcome, doubleOutcome}
 use Rattle.commit.specs.Records.{records}
 use Rattle.lexer.specs.Turns.{framesAfter, depthAfter, settled}
 use Rattle.lexer.specs.Calls.{isScripting, stepped, reading}
-use Rattle.worked.specs.Sheets.{standing, called, tokensIn, found, table}
+use Rattle.worked.specs.Sheets.{standing, called, tokensIn, found, table, comments}
 use Rattle.worked.specs.Sheets.{AllHold}
 
 pub sheets-hold : AllHold table
@@ -53,3 +54,11 @@ unfolding bytes every run isDigit isOctal isHex isLetter isStart isIdentifier is
     bodies.isBreak bodies.isOver bodies.unindented bodies.followed bodies.bodyText bodies.unbroken closingLabel judgedLine
     lineKind withLine told block filled stripped answered sheetAt
 sheets-hold = (refl, (refl, (refl, (refl, (refl, (refl, (refl, (refl, (refl, (refl, (refl, (refl, (refl, (refl, (refl, (refl, (refl, (refl, (refl, (refl, (refl, (refl, (refl, (refl, (refl, tt)))))))))))))))))))))))))
+
+pub comments-hold : AllHold comments
+unfolding bytes every isDigit isLetter isStart passedByte passed laid isFrame isBottom isStack isWithin isGood fitsTables
+    sourceFits tablesFit gateRefusal lentRefusal roomRefusal values limited isNext ends endTaken commentEnd endless commented
+    slash hash scripting framed stepOutcome records framesAfter depthAfter settled isScripting stepped standing called tokensIn
+    found comments
+comments-hold =
+    (refl, (refl, (refl, (refl, (refl, (refl, (refl, (refl, (refl, (refl, (refl, (refl, (refl, (refl, (refl, (refl, (refl, (refl, (refl, (refl, (refl, (refl, tt))))))))))))))))))))))

@@ -1,29 +1,31 @@
 -- The starred worked sheets of document 01, and q to w of request P1, as one table: the letter, the reading, the text, and what a
--- host finds after the call.
+-- host finds after the call. Those of request P2, z and A to G, are another.
 -- Text after the opening quote or break, positions from its start; a block's label is a range of the text; ample room.
 --   Call       the step with this top frame and this reading of Nowdoc frames, or one of the readings
 --   Written    a token as a host finds it in list and pool
 --   Found      the answer, the session's position, and the tokens
 --   found      what a host finds after a call
 --   table      the sheets
--- `sheets-hold` (proofs/Sheets.antt) is the one statement: every row finds what it says.
+--   comments   the sheets of comments
+-- `sheets-hold` and `comments-hold` (proofs/Sheets.antt) are the statements: every row finds what it says.
 use Prim.Native.Nat.{ℕ, zero, suc, _+_}
 use Prim.Native.Char.{Char}
 use Prim.Native.String.{String}
 use mathlib.Core.Bool.{Bool, true, false}
 use mathlib.Core.List.{List, [], _∷_}
 use mathlib.Core.Path.{_≡_}
-use lib.ListN.{getD, take, drop, replicate}
+use lib.ListN.{length, getD, take, drop, replicate}
 use Rattle.source.specs.Words.{bytes}
 use Rattle.source.specs.Cursor.{origin}
-use Rattle.source.specs.Refusals.{invalidUnicodeEscape, invalidOctalEscape, invalidDocIndentation, strayIndentation, wait}
+use Rattle.source.specs.Refusals.{unexpectedEndOfFile, invalidUnicodeEscape, invalidOctalEscape, invalidDocIndentation}
+use Rattle.source.specs.Refusals.{strayIndentation, wait}
 use Rattle.source.specs.declared.Span.{Span}
 use Rattle.state.specs.declared.Answer.{Answer}
 use Rattle.state.specs.declared.Frame.{Frame}
 use Rattle.state.specs.declared.Reading.{Reading}
 use Rattle.state.specs.declared.Session.{Session}
 use Rattle.token.specs.Kinds.{inlineHtml, openTagFull, openTagShort, stringPart, variable, endDocStringNone, endDocStringSpace}
-use Rattle.token.specs.Kinds.{literalSingleQuotedString, literalDoubleQuotedString, literalInteger}
+use Rattle.token.specs.Kinds.{literalSingleQuotedString, literalDoubleQuotedString, literalInteger, comment}
 use Rattle.lexer.specs.Turns.{After}
 use Rattle.lexer.specs.Calls.{stepped, readNumber, readSingle, readDouble}
 
@@ -165,6 +167,39 @@ table =
     ∷ row "u" (Step (label 13 3) Reading.Sheet) true "EOTstrasse\n  EOT" (refused strayIndentation origin)
     ∷ row "v" (Step (label 13 3) Reading.Sheet) true " \tEOTstrasse\nEOT" (done 16 (closed " \tEOTstrasse"))
     ∷ row "w" (Step (label 16 3) Reading.Ported) true "ab\nEOTstrasse\nc\nEOT;" (done 6 (closed "ab"))
+    ∷ []
+
+abbrev scripting : Call
+scripting = Step Frame.Scripting Reading.Ported
+
+-- a comment of all these bytes is passed
+abbrev passes : String → Found
+passes text = done (length (bytes text)) (one comment (bytes text))
+
+unfoldable pub comments : List Sheet
+comments =
+    row "z" scripting true "#\n" (passes "#")
+    ∷ row "z" scripting true "//a\nb" (passes "//a")
+    ∷ row "z" scripting true "#a?>" (passes "#a")
+    ∷ row "A" scripting true "#[a" (done 1 [])
+    ∷ row "B" scripting true "/*" (refused unexpectedEndOfFile (at 1 3 2))
+    ∷ row "B" scripting true "/*/" (refused unexpectedEndOfFile (at 1 4 3))
+    ∷ row "B" scripting true "/*/*/" (passes "/*/*/")
+    ∷ row "C" scripting true "/*it's\n*/'" (passes "/*it's\n*/")
+    ∷ row "D" scripting true "#\r" (passes "#\r")
+    ∷ row "D" scripting true "//a\r\n" (passes "//a\r")
+    ∷ row "E" scripting false "/" (refused wait origin)
+    ∷ row "E" scripting false "#" (refused wait origin)
+    ∷ row "E" scripting false "//a" (refused wait origin)
+    ∷ row "E" scripting false "//a?" (refused wait origin)
+    ∷ row "E" scripting false "/*a*" (refused wait origin)
+    ∷ row "F" scripting false "/x" (done 1 [])
+    ∷ row "F" scripting false "#[" (done 1 [])
+    ∷ row "F" scripting false "//a\n" (passes "//a")
+    ∷ row "F" scripting false "#?>" (passes "#")
+    ∷ row "F" scripting false "/*?>*/" (passes "/*?>*/")
+    ∷ row "G" scripting true "//a" (passes "//a")
+    ∷ row "G" scripting true "#" (passes "#")
     ∷ []
 
 abbrev pub Holds : Sheet → Type 0

@@ -23,11 +23,14 @@ pub fn short(count: usize, seed: u64) -> Vec<Vec<u8>> {
     all
 }
 
-/// None, all that rows reads in one string and in many numbers, a full stack and one frame more, labels at their limit and above.
+/// None, all that rows reads in one string, in one comment, in many numbers and in many comments, comments of each form, a full stack
+/// and one frame more, labels at their limit and above.
 fn fixed() -> Vec<Vec<u8>> {
     let deep = |count| [&b"<?php "[..], &vec![b'{'; count]].concat();
     let label = |count| [&b"<?php <<<"[..], &vec![b'E'; count], b"\n\n", &vec![b'E'; count]].concat();
-    vec![Vec::new(), quote(LONGEST), numbers(LONGEST), deep(63), deep(64), label(64), label(65)]
+    let forms = b"<?php // it's\n#[a] # b?><?= /* \"\n?> */ 'c' /**/ \"{$d /*\n*/}\" // e\r\n/*/".to_vec();
+    let full = [quote(LONGEST), comment(LONGEST), line_comment(LONGEST), numbers(LONGEST), comments(LONGEST)];
+    [&full[..], &[Vec::new(), forms, deep(63), deep(64), label(64), label(65)]].concat()
 }
 
 /// The scripts of compare's stored runs of rows, without those that are too long for rows and not for the hosts.
@@ -62,6 +65,21 @@ fn quote(size: usize) -> Vec<u8> {
     [&b"<?php '"[..], &vec![b'\n'; size - 8], b"'"].concat()
 }
 
+/// A script of so many bytes that is a comment of breaks.
+fn comment(size: usize) -> Vec<u8> {
+    [&b"<?php /*"[..], &vec![b'\n'; size - 10], b"*/"].concat()
+}
+
+/// A script of so many bytes that is a comment which the script's end closes.
+fn line_comment(size: usize) -> Vec<u8> {
+    [&b"<?php #"[..], &vec![b'?'; size - 7]].concat()
+}
+
+/// A script of so many bytes, an even number, that is as many comments as go in, a line each.
+fn comments(size: usize) -> Vec<u8> {
+    [&b"<?php "[..], &b"#\n".repeat((size - 6) / 2)].concat()
+}
+
 /// A script of so many bytes, an even number, that is as many numbers as go in.
 fn numbers(size: usize) -> Vec<u8> {
     [&b"<?php "[..], &b"1;".repeat((size - 6) / 2)].concat()
@@ -78,15 +96,22 @@ pub fn long() -> Vec<(Vec<u8>, Vec<usize>, Vec<u8>)> {
     const REFUSED: &str = "refused 11 1 1 0\n";
     let row = |place: usize| format!("19 1 {} {} 0 1\n", 7 + 2 * place, 6 + 2 * place);
     let rows: String = (0..32_765).map(row).collect();
+    let below = |place: usize| format!("21 {} 1 {} 0 1\n", 1 + place, 6 + 2 * place);
+    let remarks: String = (1..32_765).map(below).collect();
     let more = |mut script: Vec<u8>, bytes: &[u8]| {
         script.extend_from_slice(bytes);
         script
     };
-    // A string is read anew at each piece, so it comes in large ones.
+    // A string or a comment is read anew at each piece, so it comes in large ones.
     let (any, large) = (vec![1, 7, 64, 100_000], vec![4_096, 65_536, 65_537, 100_000]);
     let scripts = [
         (quote(65_536), &large, format!("{}17 1 7 6 0 65528\nend 65536\n", TAG)),
         (quote(65_537), &large, format!("{}{}", TAG, REFUSED)),
+        (comment(65_536), &large, format!("{}21 1 7 6 0 65530\nend 65536\n", TAG)),
+        (comment(65_537), &large, format!("{}{}", TAG, REFUSED)),
+        (line_comment(65_536), &large, format!("{}21 1 7 6 0 65530\nend 65536\n", TAG)),
+        (line_comment(65_537), &large, format!("{}{}", TAG, REFUSED)),
+        (comments(65_536), &any, format!("{}21 1 7 6 0 1\n{}end 65536\n", TAG, remarks)),
         (numbers(65_536), &any, format!("{}{}end 65536\n", TAG, rows)),
         (more(numbers(65_536), b";"), &any, format!("{}{}{}", TAG, rows, REFUSED)),
         (more(numbers(65_536), &[b'\''; 200_000]), &any, format!("{}{}{}", TAG, rows, REFUSED)),

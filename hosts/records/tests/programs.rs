@@ -10,8 +10,8 @@ use records::{pool_beside, quoted, with_ending, POOL, RECORDS};
 const WRITE: &str = env!("CARGO_BIN_EXE_write-records");
 const PRINT: &str = env!("CARGO_BIN_EXE_print-records");
 
-const GOOD: [&str; 4] = ["station-forecourt", "street-crossing", "street-names", "tabs-before-closer"];
-const REFUSED: [&str; 2] = ["faulty/closer-missing", "faulty/closer-with-spaces-and-tabs"];
+const GOOD: [&str; 5] = ["remarks", "station-forecourt", "street-crossing", "street-names", "tabs-before-closer"];
+const REFUSED: [&str; 3] = ["faulty/closer-missing", "faulty/closer-with-spaces-and-tabs", "faulty/remark-not-closed"];
 const REFUSED_AS_SHEETS: [&str; 2] = ["faulty/label-with-letters", "faulty/row-with-less-indentation"];
 
 /// What stands in a file of sheets/.
@@ -95,7 +95,7 @@ fn refused_sheets_write_nothing() {
 
 #[test]
 fn the_printed_form() {
-    for name in ["station-forecourt", "tabs-before-closer"] {
+    for name in ["remarks", "station-forecourt", "tabs-before-closer"] {
         let script = copy(name, "printed");
         written(&script, &[Path::new("--sheet"), &script]);
         let output = run(PRINT, &[&with_ending(&script, RECORDS)]);
@@ -128,6 +128,16 @@ fn without_a_pool_and_with_one_too_short() {
     fs::remove_file(with_ending(&script, POOL)).unwrap();
     let one = ("1:1 inline text: 1 byte".to_string(), "1 token, no pool beside the file".to_string());
     assert_eq!(first_line(), one);
+}
+
+/// A comment is the last kind that there is.
+#[test]
+fn records_of_a_kind_that_is_none() {
+    let file = copy("remarks", "kinds").with_file_name("kinds.records");
+    for (kind, status) in [(0, 1), (kinds::INLINE_HTML, 0), (kinds::COMMENT, 0), (22, 1)] {
+        fs::write(&file, list_to_file(&[kind, 0, 1, 1, 0, 0, 0, 0]).unwrap()).unwrap();
+        assert_eq!(run(PRINT, &[&file]).status.code(), Some(status), "kind {}", kind);
+    }
 }
 
 #[test]

@@ -99,6 +99,8 @@ pub mod kinds {
         LITERAL_INTEGER = 19;
         /// A number with a point or an exponent.
         LITERAL_FLOAT = 20;
+        /// `// ..`, `# ..` or `/* .. */`, its bytes as they stand.
+        COMMENT = 21;
     }
 }
 

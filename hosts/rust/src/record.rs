@@ -66,6 +66,7 @@ pub(crate) fn kind_name(kind: u32) -> &'static str {
         kinds::LITERAL_DOUBLE_QUOTED_STRING => "double-quoted string",
         kinds::LITERAL_INTEGER => "integer",
         kinds::LITERAL_FLOAT => "float",
+        kinds::COMMENT => "comment",
         _ => "no kind",
     }
 }

@@ -90,7 +90,7 @@ impl Refusal {
     /// What to do: a whole sentence.
     pub fn advice(&self) -> &'static str {
         match self.number {
-            refusals::UNEXPECTED_END_OF_FILE => "Close the string, the text block or the command.",
+            refusals::UNEXPECTED_END_OF_FILE => "Close the string, the text block, the command or the comment.",
             refusals::INVALID_UNICODE_ESCAPE => {
                 "Write hex digits between the braces, up to 10FFFF and not from D800 to DFFF."
             }

@@ -6,7 +6,8 @@ use cases::pieces::script;
 use cases::random::Random;
 use lent::Lent;
 use puretakoi::{
-    limits, records, refusals, End, Event, Frame, Label, Progress, Reading, Refusal, Session, Span, Stream, Token,
+    kinds, limits, records, refusals, End, Event, Frame, Label, Progress, Reading, Refusal, Session, Span, Stream,
+    Token,
 };
 
 const TRIES: usize = 20_000;
@@ -59,7 +60,7 @@ fn reached(src: &[u8], random: &mut Random) -> Lent {
 #[test]
 fn a_refused_call_leaves_everything() {
     let mut random = Random::new(1);
-    let (mut met, mut written) = ([0; 14], 0);
+    let (mut met, mut written) = ([0; 14], [0; 22]);
     for _ in 0..TRIES {
         let src = script(&mut random);
         let mut lent = reached(&src, &mut random);
@@ -70,8 +71,8 @@ fn a_refused_call_leaves_everything() {
                 assert!(lent.session.top().is_some() && lent.session.reading().is_some());
                 met[0] += 1;
                 for record in lent.session.records(&lent.list).skip(before.session.tokens() as usize) {
-                    assert!((1..=20).contains(&record.kind), "{:?} on {:?}", record, src);
-                    written += 1;
+                    assert!((1..=21).contains(&record.kind), "{:?} on {:?}", record, src);
+                    written[record.kind as usize] += 1;
                 }
             }
             Err(refusal) => {
@@ -81,7 +82,9 @@ fn a_refused_call_leaves_everything() {
             }
         }
     }
-    assert!(written > 0, "no call wrote a record");
+    for kind in [kinds::STRING_PART, kinds::LITERAL_INTEGER, kinds::COMMENT] {
+        assert!(written[kind as usize] > 0, "no call wrote a record of kind {}", kind);
+    }
     for number in [0, 1, 6, 7, 8, 10, 12] {
         assert!(met[number] > 0, "no call gave {}", number);
     }

@@ -78,6 +78,61 @@ fn a_part_that_ends_in_the_label() {
     assert!(matches!(ported.next(), Event::Tokens(tokens) if tokens.len() == 3 && tokens[1].value == b"ab"));
 }
 
+/// A comment is a token of all its bytes: a quote in it opens no string. `#[` begins none.
+#[test]
+fn comments_in_parts_of_any_size() {
+    let script = b"<?php // it's\n#[a] # b?><?= /* \"\n?> */ 'c' /**/";
+    for size in [1, 2, 3, 7, 64] {
+        let (tokens, last) = read(script, size, Reading::Sheet);
+        let found: Vec<_> = tokens
+            .iter()
+            .map(|token| (token.kind, token.span.line, token.span.column, token.span.position, &token.value[..]))
+            .collect();
+        let expected = [
+            (kinds::OPEN_TAG_FULL, 1, 1, 0, &b"<?php"[..]),
+            (kinds::COMMENT, 1, 7, 6, b"// it's"),
+            (kinds::COMMENT, 2, 6, 19, b"# b"),
+            (kinds::OPEN_TAG_ECHO, 2, 11, 24, b"<?="),
+            (kinds::COMMENT, 2, 15, 28, b"/* \"\n?> */"),
+            (kinds::LITERAL_SINGLE_QUOTED_STRING, 3, 7, 39, b"c"),
+            (kinds::COMMENT, 3, 11, 43, b"/**/"),
+        ];
+        assert_eq!(found, expected, "parts of {}", size);
+        assert_eq!(last, Event::Finished(47));
+        assert_eq!((read(script, size, Reading::Ported).0, tokens[1].kind_name()), (tokens, "comment"));
+    }
+}
+
+/// A comment waits for its end. At the announced end a line's comment is over, and one that `/*` opened is refused.
+#[test]
+fn comments_that_wait() {
+    for (part, end, refused_at) in [("// kerb", "?>", None), ("# kerb?", "\n", None), ("/* kerb *", "/", Some(15))] {
+        let mut stream = Stream::new(Reading::Sheet);
+        stream.feed(format!("<?php {}", part).as_bytes()).unwrap();
+        assert!(matches!(stream.next(), Event::Tokens(tokens) if tokens.len() == 1), "{}", part);
+        assert_eq!(stream.next(), Event::Wait, "{}", part);
+        for byte in end.bytes().take(end.len() - 1) {
+            stream.feed(&[byte]).unwrap();
+            assert_eq!(stream.next(), Event::Wait, "{}", part);
+        }
+        stream.feed(&end.as_bytes()[end.len() - 1..]).unwrap();
+        let value = if end == "/" { format!("{}/", part) } else { part.to_string() };
+        match stream.next() {
+            Event::Tokens(tokens) => {
+                assert_eq!((tokens[0].kind, &tokens[0].value[..]), (kinds::COMMENT, value.as_bytes()))
+            }
+            other => panic!("{}: {:?}", part, other),
+        }
+        let (tokens, last) = read(format!("<?php {}", part).as_bytes(), 3, Reading::Sheet);
+        match refused_at {
+            Some(at) => {
+                assert_eq!((tokens.len(), last), (1, refused(refusals::UNEXPECTED_END_OF_FILE, 1, at + 1, at)))
+            }
+            None => assert_eq!((&tokens[1].value[..], last), (part.as_bytes(), Event::Finished(6 + part.len() as u32))),
+        }
+    }
+}
+
 #[test]
 fn the_last_event_comes_again_and_nothing_can_be_added() {
     let mut stream = Stream::new(Reading::Ported);

@@ -42,17 +42,19 @@ fn records_of_any_numbers() {
 #[test]
 fn kinds_have_their_own_words() {
     let words = |kind| records(&[kind, 0, 1, 1, 0, 0, 0, 0]).next().unwrap().kind_name();
-    assert_eq!((words(kinds::END_DOC_STRING_TAB), words(21)), ("end of text block, indented by tabs", "no kind"));
-    let mut all: Vec<_> = (0..=20).map(words).collect();
+    assert_eq!((words(kinds::END_DOC_STRING_TAB), words(22)), ("end of text block, indented by tabs", "no kind"));
+    assert_eq!((kinds::COMMENT, words(kinds::COMMENT)), (21, "comment"));
+    let mut all: Vec<_> = (0..=21).map(words).collect();
     all.sort_unstable();
     all.dedup();
-    assert_eq!(all.len(), 21);
+    assert_eq!(all.len(), 22);
 }
 
 #[test]
 fn refusals_are_told_in_words() {
     let told = |number| Refusal { number, span: Span { line: 7, column: 3, position: 40 } };
     assert_eq!(told(refusals::UNEXPECTED_END_OF_FILE).name(), "unexpected end of file");
+    assert!(told(refusals::UNEXPECTED_END_OF_FILE).advice().ends_with(" or the comment."));
     assert_eq!(told(refusals::WAIT).name(), "wait");
     assert_eq!(told(refusals::STRAY_INDENTATION).name(), "stray indentation");
     let line = "refused 13 at 7:3: a row starts with less than the closing line's indentation";

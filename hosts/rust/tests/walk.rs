@@ -64,6 +64,7 @@ const SCRIPTS: &[&[u8]] = &[
     b"<?php <<<'EOT'\n  ab\n c\n  EOT; 1;",
     b"<?php <<<'EOT'\n  EOTs\n  EOT",
     b"<?php { { '\\'' } \"\\400\" } 1;",
+    b"<?php // it's\n# a?><?= /* \"\n'*/ 1 #[b] /**/ 2 /*/",
 ];
 
 #[test]

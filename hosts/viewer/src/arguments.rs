@@ -11,14 +11,15 @@ pub const USAGE: &str = "usage: sheet-viewer [--html FILE] [-w COLUMNS] [-j N] P
 
 /// What `--help` says.
 pub const HELP: &str = "\
-Shows each nowdoc block of a script as the rows of a sheet, and tells of a refusal where it stands and what to do.
+Shows each nowdoc block of a script as the rows of a sheet, the comments as remarks between them, and tells of a refusal
+where it stands and what to do.
 
-PATH..      one script: its rows; many, or a folder with all .php files below it: a line for each and a summary
---html FILE writes a page with the rows of all sheets as raised dots
--w COLUMNS  cuts rows to so many columns, 10 to 100000; else to the terminal's width, and not at all in a file
+PATH..      one script: its rows and remarks; many, or a folder with all .php files below it: a line for each and a summary
+--html FILE writes a page with the remarks of all sheets and their rows as raised dots
+-w COLUMNS  cuts rows and remarks to so many columns, 10 to 100000; else to the terminal's width, and not at all in a file
 -j N        reads N scripts at a time, 1 to 64
 
-Signs in rows: → a tab, … the row goes on, \\x1B a control or a byte that is no character, \\u{AD} a character not seen.
+Signs: → a tab, … the line goes on, \\x1B a control or a byte that is no character, \\u{AD} a character not seen.
 Status: 0 all is read, 1 a sheet is refused, 2 a file can't be read or the call is wrong.";
 
 /// What to do.

@@ -104,7 +104,7 @@ fn detail(refusal: Refusal, script: &[u8], session: &Session, open: Option<Open>
     }
 }
 
-/// What is open: a string at the cursor, or the top frame.
+/// What is open: a string or a comment at the cursor, or the top frame.
 fn open(script: &[u8], session: &Session, span: Span) -> Option<Open> {
     let name = || shown(label(session, script).unwrap_or_default());
     let quoted = |what: &str, span| (what.to_string(), "the quote at its end is missing".to_string(), span);
@@ -112,6 +112,7 @@ fn open(script: &[u8], session: &Session, span: Span) -> Option<Open> {
         Frame::Scripting => match script.get(session.position() as usize)? {
             b'\'' => quoted("single-quoted string", session.span()),
             b'"' => quoted("double-quoted string", session.span()),
+            b'/' => ("remark".to_string(), comment_missing(script, session), session.span()),
             _ => return None,
         },
         Frame::DoubleQuote => quoted("double-quoted string", span),
@@ -129,6 +130,13 @@ fn open(script: &[u8], session: &Session, span: Span) -> Option<Open> {
         _ => return None,
     };
     Some(Open { what, missing, span })
+}
+
+/// What the comment at the cursor wants, in words.
+fn comment_missing(script: &[u8], session: &Session) -> String {
+    let seems_closed = script.get(session.position() as usize..).map_or(false, |rest| rest.starts_with(b"/*/"));
+    let near = if seems_closed { "; the / right behind /* closes nothing" } else { "" };
+    format!("write */ where it ends{}", near)
 }
 
 /// The label of the text block that is being read.

@@ -1,9 +1,10 @@
-//! A page of sheets: self-contained, with each block's rows as raised dots and as text.
+//! A page of sheets: self-contained, with each block's rows as raised dots and as text, and the remarks between them.
 
 use crate::fault::{counted, is_blank, Fault, Mark};
-use crate::sheet::{Block, Ending, Sheet};
+use crate::remark::Remark;
+use crate::sheet::{Block, Ending, Part, Sheet};
 use crate::shown::{pieces, shown};
-use crate::text::{block_form, block_name, verdict, what_was_read, Totals};
+use crate::text::{block_form, block_name, remark_name, verdict, what_was_read, Totals};
 
 const STYLE: &str = include_str!("page.css");
 
@@ -37,18 +38,17 @@ pub fn section(path: &str, number: usize, sheet: &Sheet) -> Section {
     let entry = format!("<li><a href=\"#sheet-{}\">{}</a>: {}</li>\n", number, path, escaped(&verdict(sheet)));
     let heading = format!("<h2 id=\"sheet-{}\">{}</h2>\n", number, path);
     let read = format!("<p>{}</p>\n", escaped(&what_was_read(sheet)));
-    let blocks: String = sheet
-        .blocks
-        .iter()
-        .zip(1..)
-        .map(|(block, at)| block_text(&path, block, at, &format!("{}-{}", number, at)))
-        .collect();
+    let part_text = |part: Part| match part {
+        Part::Block(block, at) => block_text(&path, block, at, &format!("{}-{}", number, at)),
+        Part::Remark(remark) => remark_text(remark),
+    };
+    let parts: String = sheet.parts().into_iter().map(part_text).collect();
     let fault = match &sheet.ending {
         Ending::Finished(_) => String::new(),
         Ending::Refused(fault) => fault_text(fault),
     };
     let body =
-        format!("<section aria-labelledby=\"sheet-{}\">\n{}{}{}{}</section>\n", number, heading, read, fault, blocks);
+        format!("<section aria-labelledby=\"sheet-{}\">\n{}{}{}{}</section>\n", number, heading, read, fault, parts);
     Section { entry, body }
 }
 
@@ -85,6 +85,16 @@ fn relief(block: &Block, name: &str, id: &str) -> String {
 
 fn row_text(row: &[u8]) -> String {
     format!("<li><code>{}</code></li>\n", escaped(&shown(row)))
+}
+
+/// A remark, which is read as a note beside the blocks: its place and its lines.
+fn remark_text(remark: &Remark) -> String {
+    let lines: Vec<String> = remark.lines().map(|line| escaped(&shown(line))).collect();
+    format!(
+        "<aside role=\"note\" class=\"remark\">\n<p>{}</p>\n<pre><code>{}</code></pre>\n</aside>\n",
+        escaped(&remark_name(remark)),
+        lines.join("\n")
+    )
 }
 
 /// The rows as raised dots: one cell a byte, a dot where the byte is no blank, its light side over its dark one.

@@ -1,4 +1,4 @@
-//! The sheet viewer: reads scripts by the sheet reading and shows their nowdoc blocks and refusals to a person.
+//! The sheet viewer: reads scripts by the sheet reading and shows their nowdoc blocks, remarks and refusals to a person.
 
 #![forbid(unsafe_code)]
 #![deny(missing_docs)]
@@ -9,6 +9,7 @@ pub mod files;
 pub mod html;
 pub mod jobs;
 pub mod reader;
+pub mod remark;
 pub mod sheet;
 pub mod shown;
 pub mod terminal;

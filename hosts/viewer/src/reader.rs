@@ -1,6 +1,9 @@
-//! A script as the library reads it for a sheet: lines without a text in walks, each text in steps, and where every text opened.
+//! A script as the library reads it for a sheet: lines without a text in walks, texts in steps. It keeps where each text opened, and
+//! every comment.
 
 use puretakoi::{limits, refusals, End, Frame, Progress, Reading, Record, Refusal, Session, Span};
+
+use crate::remark::Remark;
 
 /// The numbers of a list with room for the tokens of a line; 16 are enough for any step.
 const LIST_NUMBERS: usize = 1_024;
@@ -11,6 +14,7 @@ pub struct Reader<'a> {
     session: Session,
     progress: Progress,
     openings: Openings,
+    remarks: Vec<Remark>,
     list: Vec<u32>,
     pool: Vec<u8>,
 }
@@ -37,6 +41,7 @@ impl<'a> Reader<'a> {
             session: Session::fresh(Reading::Sheet),
             progress: Progress::Done,
             openings: Openings { spans: vec![Span::START] },
+            remarks: Vec::new(),
             list: vec![0; LIST_NUMBERS],
             pool: vec![0; limits::MOST_BYTES],
         }
@@ -50,6 +55,11 @@ impl<'a> Reader<'a> {
     /// Where the text on top of the mode stack opened, if there is one.
     pub fn opening(&self) -> Span {
         self.openings.top()
+    }
+
+    /// The comments that were passed so far, in the script's order.
+    pub fn remarks(&self) -> &[Remark] {
+        &self.remarks
     }
 
     /// The next step, what stands before it in a line without a text being passed; none at the script's end. No text block is passed.
@@ -69,12 +79,13 @@ impl<'a> Reader<'a> {
             answer => answer?,
         };
         self.openings.follow(&before, &self.session);
+        self.keep_remarks();
         let records = self.session.records(&self.list).collect();
         Ok(Some(Step { before, after: &self.session, opening, records, pool: &self.pool }))
     }
 
     /// Walks to the end of the cursor's line where no text is open. A text block is not passed, for its text begins behind a line's end.
-    /// What the walk is refused for comes again in the step behind it.
+    /// What the walk is refused for comes again in the step behind it; so does a comment that goes on in the next line.
     fn pass_line(&mut self) {
         if is_text_open(&self.session) {
             return;
@@ -83,11 +94,18 @@ impl<'a> Reader<'a> {
         let before = self.session.clone();
         let line = to_line_end(lent(self.script).0, &before);
         self.session.walk(line, End::More, u32::MAX, &mut self.list, &mut self.pool).ok();
+        self.keep_remarks();
         if is_text_open(&self.session) {
             self.retrace(before, line);
         } else {
             self.openings.spans.resize(self.session.depth() as usize, before.span());
         }
+    }
+
+    /// Keeps the comments among the tokens that were read last.
+    fn keep_remarks(&mut self) {
+        let records = self.session.records(&self.list);
+        self.remarks.extend(records.filter_map(|record| Remark::new(&record, &self.pool, self.script)));
     }
 
     /// Takes the steps of a walk again, one by one, to learn where each text opened that is open behind it.

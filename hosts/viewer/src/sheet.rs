@@ -1,17 +1,29 @@
-//! A script as a sheet: its nowdoc blocks by the sheet reading, and how the reading ended.
+//! A script as a sheet: its nowdoc blocks by the sheet reading, its remarks, and how the reading ended.
 
 use puretakoi::{kinds, Frame, Span};
 
 use crate::fault::Fault;
 use crate::reader::{Reader, Step};
+use crate::remark::Remark;
 
 /// What a script was read as.
 #[derive(Debug)]
 pub struct Sheet {
     /// Its nowdoc blocks that were read.
     pub blocks: Vec<Block>,
+    /// Its comments that were read.
+    pub remarks: Vec<Remark>,
     /// How the reading ended.
     pub ending: Ending,
+}
+
+/// What is shown of a sheet one below another.
+#[derive(Debug)]
+pub enum Part<'a> {
+    /// A block and its number, from 1.
+    Block(&'a Block, usize),
+    /// A remark.
+    Remark(&'a Remark),
 }
 
 /// How a reading ended.
@@ -54,6 +66,16 @@ impl Block {
     }
 }
 
+impl Part<'_> {
+    /// How many bytes of the script stand before it.
+    fn position(&self) -> u32 {
+        match self {
+            Part::Block(block, _number) => block.span.position,
+            Part::Remark(remark) => remark.span.position,
+        }
+    }
+}
+
 impl Sheet {
     /// Reads a script to its end or to its first refusal.
     pub fn read(script: &[u8]) -> Sheet {
@@ -68,7 +90,15 @@ impl Sheet {
                 }
             }
         };
-        Sheet { blocks, ending }
+        Sheet { blocks, remarks: reader.remarks().to_vec(), ending }
+    }
+
+    /// Its blocks and remarks, in the script's order.
+    pub fn parts(&self) -> Vec<Part<'_>> {
+        let blocks = self.blocks.iter().zip(1..).map(|(block, number)| Part::Block(block, number));
+        let mut parts: Vec<Part> = blocks.chain(self.remarks.iter().map(Part::Remark)).collect();
+        parts.sort_by_key(Part::position);
+        parts
     }
 
     /// How many rows its blocks have.

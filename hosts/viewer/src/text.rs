@@ -1,13 +1,14 @@
 //! A sheet as text: the whole of one, or a line for each of many and a summary.
 
 use crate::fault::{counted, Fault, Mark};
-use crate::sheet::{Block, Ending, Indentation, Sheet};
+use crate::remark::Remark;
+use crate::sheet::{Block, Ending, Indentation, Part, Sheet};
 use crate::shown::{cut, marked, shown};
 
 /// The fewest columns that a row is cut to.
 const FEWEST_COLUMNS: usize = 2;
 
-/// How many sheets of which kind, with their blocks and rows.
+/// How many sheets of which kind, with their blocks, rows and remarks.
 #[derive(Clone, Copy, Debug, Default, PartialEq, Eq)]
 pub struct Totals {
     /// Sheets that were read to their end.
@@ -20,6 +21,8 @@ pub struct Totals {
     pub blocks: usize,
     /// Rows of all blocks.
     pub rows: usize,
+    /// Remarks of all sheets.
+    pub remarks: usize,
 }
 
 impl Totals {
@@ -31,6 +34,7 @@ impl Totals {
         }
         self.blocks += sheet.blocks.len();
         self.rows += sheet.rows();
+        self.remarks += sheet.remarks.len();
     }
 
     /// Counts what others counted.
@@ -40,23 +44,32 @@ impl Totals {
         self.unread += others.unread;
         self.blocks += others.blocks;
         self.rows += others.rows;
+        self.remarks += others.remarks;
     }
 
     /// The summary, in one line.
     pub fn summary(&self) -> String {
         let sheets = counted(self.good + self.refused, "sheet");
-        let held = held(self.blocks, self.rows);
+        let held = held(self.blocks, self.rows, self.remarks);
         let unread = if self.unread == 0 { String::new() } else { format!(", {} not read", self.unread) };
         format!("{}, {}: {} ok, {} refused{}", sheets, held, self.good, self.refused, unread)
     }
 }
 
-/// One sheet as a whole: its blocks, and how its reading ended.
+/// One sheet as a whole: its blocks and remarks, and how its reading ended.
 pub fn whole(path: &str, sheet: &Sheet, columns: Option<usize>) -> String {
     let mut lines = vec![path.to_string(), String::new()];
-    for (block, number) in sheet.blocks.iter().zip(1..) {
-        lines.push(format!("{}: {}", block_name(block, number), block_form(block)));
-        lines.extend(numbered_rows(block, columns));
+    for part in sheet.parts() {
+        match part {
+            Part::Block(block, number) => {
+                lines.push(format!("{}: {}", block_name(block, number), block_form(block)));
+                lines.extend(numbered_rows(block, columns));
+            }
+            Part::Remark(remark) => {
+                lines.push(remark_name(remark));
+                lines.extend(remark_lines(remark, columns));
+            }
+        }
         lines.push(String::new());
     }
     if let Ending::Refused(fault) = &sheet.ending {
@@ -67,14 +80,14 @@ pub fn whole(path: &str, sheet: &Sheet, columns: Option<usize>) -> String {
     lines.join("\n") + "\n"
 }
 
-/// One sheet among many: path, blocks, rows, and ok or the refusal.
+/// One sheet among many: path, blocks, rows, remarks, and ok or the refusal.
 pub fn line(path: &str, sheet: &Sheet) -> String {
     format!("{}: {}", path, verdict(sheet))
 }
 
-/// Blocks, rows, and ok or the refusal.
+/// Blocks, rows, remarks, and ok or the refusal.
 pub fn verdict(sheet: &Sheet) -> String {
-    let held = held(sheet.blocks.len(), sheet.rows());
+    let held = held(sheet.blocks.len(), sheet.rows(), sheet.remarks.len());
     match &sheet.ending {
         Ending::Finished(_) => format!("{}, ok", held),
         Ending::Refused(fault) => {
@@ -101,15 +114,22 @@ pub fn block_form(block: &Block) -> String {
 
 /// How far a sheet was read.
 pub fn what_was_read(sheet: &Sheet) -> String {
-    let held = held(sheet.blocks.len(), sheet.rows());
+    let held = held(sheet.blocks.len(), sheet.rows(), sheet.remarks.len());
     match sheet.ending {
         Ending::Finished(position) => format!("Read to the end, {}: {}.", counted(position as usize, "byte"), held),
         Ending::Refused(_) => format!("Read before the refusal: {}.", held),
     }
 }
 
-fn held(blocks: usize, rows: usize) -> String {
-    format!("{}, {}", counted(blocks, "block"), counted(rows, "row"))
+/// A remark's place.
+pub fn remark_name(remark: &Remark) -> String {
+    format!("Remark at {}", remark.span)
+}
+
+/// Blocks and rows, and remarks where there are some.
+fn held(blocks: usize, rows: usize, remarks: usize) -> String {
+    let remarks = if remarks == 0 { String::new() } else { format!(", {}", counted(remarks, "remark")) };
+    format!("{}, {}{}", counted(blocks, "block"), counted(rows, "row"), remarks)
 }
 
 /// The rows, each behind its number.
@@ -117,6 +137,12 @@ fn numbered_rows(block: &Block, columns: Option<usize>) -> impl Iterator<Item = 
     let digits = block.rows.len().to_string().len();
     let room = columns.map(|columns| room(columns, digits));
     block.rows.iter().zip(1..).map(move |(row, number)| format!("{:>2$} |{}", number, cut(row, room), digits))
+}
+
+/// The lines of a remark, each behind a bar that no number stands before: they are no rows.
+fn remark_lines(remark: &Remark, columns: Option<usize>) -> impl Iterator<Item = String> + '_ {
+    let room = columns.map(|columns| room(columns, 1));
+    remark.lines().map(move |line| format!("  |{}", cut(line, room)))
 }
 
 /// The columns that are left behind a number and its bar.

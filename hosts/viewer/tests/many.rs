@@ -17,7 +17,7 @@ fn a_folder_gives_a_line_a_sheet() {
 fn several_at_a_time_give_the_same() {
     let all = |jobs| run(&["-j", jobs, "sheets", "sheets/tabs.php", "sheets/nowhere.php"]);
     let one = all("1");
-    assert_eq!(one.out.lines().count(), 27, "{}", one.out);
+    assert_eq!(one.out.lines().count(), 29, "{}", one.out);
     for jobs in ["2", "3", "64"] {
         assert_eq!(all(jobs), one);
     }
@@ -29,6 +29,20 @@ fn good_sheets_give_status_0() {
     let want = "sheets/tabs.php: 3 blocks, 4 rows, ok\nsheets/many/below/none.php: 0 blocks, 0 rows, ok\n\
                 sheets/many/below/one.php: 1 block, 1 row, ok\n3 sheets, 4 blocks, 5 rows: 3 ok, 0 refused\n";
     assert_eq!((got.out.as_str(), got.status), (want, Some(0)));
+}
+
+#[test]
+fn remarks_are_counted_where_there_are_some() {
+    let got = run(&["sheets/remark-forms.php", "sheets/wide.php", "../../../sheets/remarks.php"]);
+    let want = "sheets/remark-forms.php: 1 block, 1 row, 4 remarks, ok\nsheets/wide.php: 1 block, 2 rows, ok\n\
+                ../../../sheets/remarks.php: 2 blocks, 13 rows, 7 remarks, ok\n\
+                3 sheets, 4 blocks, 16 rows, 11 remarks: 3 ok, 0 refused\n";
+    assert_eq!((got.out.as_str(), got.status), (want, Some(0)));
+    let folder = empty_folder("one remark");
+    fs::write(folder.join("a.php"), "<?php # a\n'").unwrap();
+    let got = run(&[folder.to_str().unwrap()]);
+    let line = "a.php: 0 blocks, 0 rows, 1 remark, refused 1 at 2:2: unexpected end of file\n";
+    assert!(got.out.contains(line) && got.out.ends_with("\n1 sheet, 0 blocks, 0 rows, 1 remark: 0 ok, 1 refused\n"));
 }
 
 #[test]

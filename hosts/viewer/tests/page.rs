@@ -48,6 +48,8 @@ fn the_page_marks_refusals() {
         "<p>Line 9, column 3:</p>\n<pre><code>  <mark>.</mark>.           o    o</code></pre>\n",
         "this row starts with 2 spaces, then &quot;.&quot;.</p>\n",
         "starts with its label as a word of its own, but in line 13 letters follow the label.</p>\n",
+        "<p>The remark that opens at 9:16 is not closed: write */ where it ends.</p>\n<p>Line 9, column 16:</p>\n\
+         <pre><code>$refuge = &#39;R&#39;; <mark>/</mark>* The refuge&#39;s ends are rounded:</code></pre>\n",
     ] {
         assert!(page.contains(part), "{} is not in {}", part, page);
     }
@@ -64,6 +66,35 @@ fn the_page_has_rows_that_start_with_the_label() {
     ] {
         assert!(page.contains(part), "{} is not in {}", part, page);
     }
+}
+
+#[test]
+fn the_page_has_remarks_between_blocks() {
+    let (page, status) = page_of("remarks", &["sheets/remark-forms.php", "../../../sheets/remarks.php"]);
+    assert_eq!(status, Some(0));
+    let note = |place: &str, text: &str| {
+        format!(
+            "<aside role=\"note\" class=\"remark\">\n<p>Remark at {}</p>\n<pre><code>{}</code></pre>\n</aside>\n",
+            place, text
+        )
+    };
+    let block = "<h3>Block 1 at 3:28, label A</h3>\n<p>not indented, 1 row, widest 5 bytes</p>\n";
+    for part in [
+        "</a>: 1 block, 1 row, 4 remarks, ok</li>\n".to_string(),
+        note("1:7", "/*→a\n \\x1B[1mb\n*/") + &note("3:11", "/* in */") + block,
+        format!("<li><code># row</code></li>\n</ol>\n</div>\n{}{}</section>\n", note("5:5", "// end"), note("6:1", "#")),
+        note("3:1", "// Weaver&#39;s Yard: walked in May, the pump&#39;s basin added in June."),
+        note(
+            "19:1",
+            "/*\n * The basin: &quot;as built&quot;, says the mason.\n * Neither a quote (&quot;) nor a ?&gt; ends this remark,\n \
+             * and &lt;&lt;&lt;&#39;RELIEF&#39; opens no block in it.\n */",
+        ),
+    ] {
+        assert!(page.contains(&part), "{} is not in {}", part, page);
+    }
+    assert_eq!(page.matches("<aside").count(), 11);
+    // Long remarks are wrapped. The rule must name the code too, which else keeps its own.
+    assert!(page.contains("\n.remark pre, .remark code { white-space: pre-wrap; overflow-wrap: anywhere; }\n"));
 }
 
 #[test]
@@ -87,7 +118,7 @@ fn the_page_needs_nothing_else() {
 
 #[test]
 fn each_byte_that_is_no_blank_is_a_dot() {
-    for name in ["street-crossing", "station-forecourt", "tabs-before-closer", "street-names"] {
+    for name in ["street-crossing", "station-forecourt", "tabs-before-closer", "street-names", "remarks"] {
         let sheet = format!("../../../sheets/{}", name);
         let (page, _status) = page_of(name, &[&format!("{}.php", sheet)]);
         // What PHP prints of the blocks.

@@ -10,8 +10,13 @@ use sheet_viewer::sheet::{Ending, Sheet};
 #[test]
 fn rows_are_those_of_php() {
     let folder = tests_folder().join("../../../sheets");
-    let sheets = [("street-crossing", 2), ("station-forecourt", 1), ("tabs-before-closer", 2), ("street-names", 2)];
-    for (name, blocks) in sheets {
+    for (name, blocks) in [
+        ("street-crossing", 2),
+        ("station-forecourt", 1),
+        ("tabs-before-closer", 2),
+        ("street-names", 2),
+        ("remarks", 2),
+    ] {
         let sheet = Sheet::read(&fs::read(folder.join(format!("{}.php", name))).unwrap());
         assert!(matches!(sheet.ending, Ending::Finished(_)), "{}", name);
         assert_eq!(sheet.blocks.len(), blocks, "{}", name);
@@ -25,7 +30,13 @@ fn rows_are_those_of_php() {
 #[test]
 fn refusals_are_those_written_beside_the_sheets() {
     let folder = tests_folder().join("../../../sheets/faulty");
-    for name in ["closer-missing", "closer-with-spaces-and-tabs", "label-with-letters", "row-with-less-indentation"] {
+    for name in [
+        "closer-missing",
+        "closer-with-spaces-and-tabs",
+        "label-with-letters",
+        "remark-not-closed",
+        "row-with-less-indentation",
+    ] {
         let sheet = Sheet::read(&fs::read(folder.join(format!("{}.php", name))).unwrap());
         let relief = fs::read_to_string(folder.join(format!("{}.relief", name))).unwrap();
         match sheet.ending {

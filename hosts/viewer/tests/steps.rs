@@ -1,14 +1,15 @@
-//! The reader passes lines in walks: it must give every text block and the opening of every text as single steps do.
+//! The reader passes lines in walks: it must give every text block, every comment and the opening of every text as single steps do.
 
 use std::collections::{HashMap, HashSet};
 use std::fs;
 
 use cases::pieces;
 use cases::random::Random;
-use puretakoi::{End, Frame, Progress, Reading, Refusal, Session, Span};
+use puretakoi::{kinds, End, Frame, Progress, Reading, Refusal, Session, Span};
 use sheet_viewer::reader::Reader;
+use sheet_viewer::remark::Remark;
 
-/// What is put into scripts: what opens or closes a text, a block or a brace.
+/// What is put into scripts: what opens or closes a text, a comment, a block or a brace.
 const MARKS: &[&str] = &[
     "{",
     "}",
@@ -34,14 +35,22 @@ const MARKS: &[&str] = &[
     "12",
     "\\400",
     "$a->b",
+    "//",
+    "#",
+    "#[",
+    "/*",
+    "*/",
+    "// it's\n",
+    "/* \"\n?> */",
 ];
 
 /// Where a step begins: the position and the top frame.
 type Place = (u32, Option<Frame>);
 
-/// What single steps give: where the top frame opened at each place, the last place, and the last answer.
+/// What single steps give: where the top frame opened at each place, the comments, the last place, and the last answer.
 struct Stepped {
     openings: HashMap<Place, Span>,
+    comments: Vec<(Span, Vec<u8>)>,
     end: Place,
     last: Result<Progress, Refusal>,
 }
@@ -54,7 +63,7 @@ fn place(session: &Session) -> Place {
 fn stepped(script: &[u8]) -> Stepped {
     let (mut session, mut list, mut pool) = (Session::fresh(Reading::Sheet), [0; 16], vec![0; script.len()]);
     let (mut spans, mut last) = (vec![Span::START], Ok(Progress::Done));
-    let mut openings = HashMap::from([(place(&session), Span::START)]);
+    let (mut openings, mut comments) = (HashMap::from([(place(&session), Span::START)]), Vec::new());
     while last == Ok(Progress::Done) {
         let before = session.clone();
         session.empty_tables();
@@ -65,14 +74,16 @@ fn stepped(script: &[u8]) -> Stepped {
         let opening = if session.top() == Some(Frame::VarOffset) { session.span() } else { before.span() };
         spans.resize(session.depth() as usize, opening);
         openings.insert(place(&session), spans[spans.len() - 1]);
+        let found = session.records(&list).filter(|record| record.kind == kinds::COMMENT);
+        comments.extend(found.map(|record| (record.span, record.value(&pool).unwrap().to_vec())));
     }
-    Stepped { openings, end: place(&session), last }
+    Stepped { openings, comments, end: place(&session), last }
 }
 
-/// Each step of the reader must be a single step, with the opening of its text; no step of a nowdoc block may be missing.
+/// Each step of the reader must be a single step, with the opening of its text; no step of a nowdoc block and no comment may be missing.
 fn check(script: &[u8]) {
     let text = String::from_utf8_lossy(script);
-    let Stepped { openings, end, last } = stepped(script);
+    let Stepped { openings, comments, end, last } = stepped(script);
     let mut reader = Reader::new(script);
     let mut seen = HashSet::new();
     let mut follow = |place: Place, opening: Span| {
@@ -90,6 +101,8 @@ fn check(script: &[u8]) {
     };
     assert_eq!((answer, place(reader.session())), (last, end), "{:?}", text);
     follow(end, reader.opening());
+    let kept = |remark: &Remark| (remark.span, remark.text.clone());
+    assert_eq!(reader.remarks().iter().map(kept).collect::<Vec<_>>(), comments, "{:?}", text);
     let mut blocks = openings.keys().filter(|(_position, top)| matches!(top, Some(Frame::Nowdoc(_))));
     assert_eq!(blocks.find(|block| !seen.contains(block)), None, "{:?}", text);
 }
@@ -114,7 +127,7 @@ fn random_scripts() {
 #[test]
 fn sample_sheets_that_break_off_anywhere() {
     let folder = concat!(env!("CARGO_MANIFEST_DIR"), "/../../sheets");
-    for name in ["street-crossing", "station-forecourt", "tabs-before-closer", "street-names"] {
+    for name in ["street-crossing", "station-forecourt", "tabs-before-closer", "street-names", "remarks"] {
         let script = fs::read(format!("{}/{}.php", folder, name)).unwrap();
         (0..=script.len()).for_each(|end| check(&script[..end]));
     }
@@ -127,5 +140,19 @@ fn texts_in_one_line() {
         ["<?php \"$a\" \"$b", "<?php \"{$a}\" . \"{$b\n}", "<?php `a` `$b\n", "<?php } { \"$a[", "<?php `${a} $b[0"]
     {
         check(script.as_bytes());
+    }
+}
+
+/// Comments that go on over lines, stand behind others in one, or hold what would open a text.
+#[test]
+fn comments_over_lines() {
+    for script in [
+        "<?php /* a\n'b\n*/ 'c' // it's \"\n# d\n#[e] /**/ /*/\n*/ f(<<<'A'\n// o\nA); /* ?>\n*/",
+        "<?php 1; /*\n\n\n*/ <<<'A'\no\nA; /*\n*/ /*\n*/\n<<<'A'\noo\nA;",
+        "<?php \"$a\" /*\n*/ \"$b[/*",
+        "<?php \"{$a /*\n*/ . '}' // \"\n}\" # `\n`",
+        "<?php /* a\n'b",
+    ] {
+        (0..=script.len()).for_each(|end| check(&script.as_bytes()[..end]));
     }
 }

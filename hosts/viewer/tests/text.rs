@@ -42,6 +42,20 @@ fn rows_that_start_with_the_label() {
 }
 
 #[test]
+fn remarks_between_blocks() {
+    check("../../../sheets/remarks.php", &[], 0);
+    check("sheets/remark-forms.php", &[], 0);
+}
+
+#[test]
+fn remarks_are_cut_to_the_width() {
+    let shown = |columns| run(&["-w", columns, "sheets/remark-forms.php"]).out;
+    assert_eq!(shown("12"), stored("remark-forms"));
+    assert_eq!(shown("11"), stored("remark-forms").replace(" \\x1B[1mb\n", " \\x1B[1…\n"));
+    assert!(shown("10").contains("\n  |/* in …\n"), "{}", shown("10"));
+}
+
+#[test]
 fn refusals_of_what_is_open() {
     for name in ["string-open", "single-open", "string-part-open", "command-open", "heredoc-open", "bracket-open"] {
         check(&format!("sheets/{}.php", name), &[], 1);
@@ -50,6 +64,8 @@ fn refusals_of_what_is_open() {
     check("sheets/label-in-other-case.php", &[], 1);
     check("sheets/label-behind-row.php", &[], 1);
     check("../../../sheets/faulty/label-with-letters.php", &[], 1);
+    check("sheets/remark-open.php", &[], 1);
+    check("../../../sheets/faulty/remark-not-closed.php", &[], 1);
 }
 
 #[test]

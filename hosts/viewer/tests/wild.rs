@@ -62,7 +62,7 @@ fn no_bytes_end_it_or_spoil_what_it_writes() {
 
 #[test]
 fn sheets_that_break_off_anywhere_are_shown() {
-    for name in ["tabs-before-closer", "street-names"] {
+    for name in ["tabs-before-closer", "street-names", "remarks"] {
         let script = fs::read(tests_folder().join(format!("../../../sheets/{}.php", name))).unwrap();
         (0..script.len()).for_each(|end| check_written(&script[..end], Some(20)));
     }

@@ -34,9 +34,10 @@ fn main() -> io::Result<()> {
     output.flush()
 }
 
-/// Replaces the case by another; two in three start at the source's start.
+/// Replaces the case by another; two in three start at the source's start. Any routine but the last, `scripting`, which is asked
+/// only where a comment begins.
 fn fill(case: &mut Case, random: &mut Random) {
-    case.routine = ROUTINES[random.below(ROUTINES.len())].1;
+    case.routine = ROUTINES[random.below(ROUTINES.len() - 1)].1;
     case.source.clear();
     for _ in 0..random.below(MOST_PIECES + 1) {
         case.source.extend_from_slice(random.pick(&PIECES));

@@ -47,7 +47,7 @@ fn own_frame(case: &Case) -> StackFrame {
         Routine::LookingForVarname => StackFrame::LookingForVarname,
         Routine::LookingForProperty => StackFrame::LookingForProperty,
         Routine::Single | Routine::Double | Routine::Number => StackFrame::Scripting,
-        Routine::PeekIdentifier | Routine::Skip => StackFrame::Scripting,
+        Routine::PeekIdentifier | Routine::Skip | Routine::Scripting => StackFrame::Scripting,
     }
 }
 
@@ -77,6 +77,10 @@ fn call(case: &Case, state: &mut State, tokens: &mut Vec<Token>) -> SyntaxResult
             tokens.push(lexer.looking_for_property(state)?);
             return Ok(());
         }
+        Routine::Scripting => {
+            tokens.push(lexer.scripting(state)?);
+            return Ok(());
+        }
         Routine::Single => Some(lexer.tokenize_single_quote_string(state)?),
         Routine::Double => Some(lexer.tokenize_double_quote_string(state)?),
         Routine::Number => Some(lexer.tokenize_number(state)?),
@@ -95,7 +99,7 @@ fn accepted(case: &Case, state: &State, tokens: Vec<Token>, answer: &mut Answer)
     for token in tokens {
         match numbered(token) {
             Ok(token) => answer.tokens.push(token),
-            Err(kind) => return Outcome::Fault(format!("document 01 has no kind {:?}", kind)),
+            Err(kind) => return Outcome::Fault(format!("there is no kind {:?} here", kind)),
         }
     }
     match change(&own_frame(case), state) {
@@ -104,7 +108,7 @@ fn accepted(case: &Case, state: &State, tokens: Vec<Token>, answer: &mut Answer)
     }
 }
 
-/// The token with document 01's numbers, or its kind where document 01 has none for it.
+/// The token with its number here, or its kind where there is none for it.
 pub fn numbered(token: Token) -> Result<cases::Token, TokenKind> {
     match kind_and_detail(&token.kind) {
         Some((kind, detail)) => Ok(cases::Token { kind, detail, span: place(token.span), value: token.value.bytes }),
@@ -145,7 +149,7 @@ fn frame(frame: &StackFrame) -> Option<Frame> {
     }
 }
 
-/// Document 01's number of a kind, and its detail.
+/// Document 01's number of a kind, or document 02's, and its detail.
 fn kind_and_detail(kind: &TokenKind) -> Option<(u32, usize)> {
     let number = match kind {
         TokenKind::InlineHtml => 1,
@@ -168,6 +172,8 @@ fn kind_and_detail(kind: &TokenKind) -> Option<(u32, usize)> {
         TokenKind::LiteralDoubleQuotedString => 18,
         TokenKind::LiteralInteger => 19,
         TokenKind::LiteralFloat => 20,
+        TokenKind::SingleLineComment | TokenKind::HashMarkComment => 21,
+        TokenKind::MultiLineComment | TokenKind::DocumentComment => 21,
         _ => return None,
     };
     Some((number, 0))

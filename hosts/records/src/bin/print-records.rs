@@ -33,7 +33,7 @@ fn print_records() -> Result<(), Fault> {
 
 /// The list of a record file, if each of its records is of a kind that there is.
 fn list_of(file: &[u8]) -> Option<Vec<u32>> {
-    let is_token = |record: Record| (kinds::INLINE_HTML..=kinds::LITERAL_FLOAT).contains(&record.kind);
+    let is_token = |record: Record| (kinds::INLINE_HTML..=kinds::COMMENT).contains(&record.kind);
     file_to_list(file).ok().filter(|list| records(list).all(is_token))
 }
 

@@ -73,7 +73,7 @@ pub fn put_marks(call: &mut Call, tokens: usize, bytes: usize) {
 }
 
 /// A frame without a label.
-pub fn bare(frame: u32) -> Slot {
+pub const fn bare(frame: u32) -> Slot {
     [frame, 0, 0]
 }
 

@@ -1,4 +1,5 @@
 -- `modes::passing::is_other` meets its contract: the arms of the match are the definition's bytes. Assumes nothing.
+use borrow.Author.Needs.{needs}
 use Rattle.source.specs.Bytes.{isDigit, isNoneOf}
 use Rattle.modes.specs.Passes.{isOther}
 use Rattle.modes.proofs.Passes.{others}
@@ -9,6 +10,6 @@ pub is-other-spec : {M : Type 1} → statement M
 unfolding isOther isDigit isNoneOf
 is-other-spec =
     tie.close
-    (tie.spec (λ c. search others) (λ c. search others) (λ c. search others) (λ c. search others) (λ c. search others)
+    (tie.spec (λ c κs. search needs) (λ c. search others) (λ c. search others) (λ c. search others) (λ c. search others)
     (λ c. search others) (λ c. search others) (λ c. search others) (λ c. search others) (λ c. search others)
-    (λ c. search others))
+    (λ c. search others) (λ c. search others))
