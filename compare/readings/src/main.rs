@@ -1,4 +1,4 @@
-//! Compares the proved readings with the Rust, in one process: `readings short|full [SEED]`.
+//! Compares the proved readings with the Rust, in one process: `readings few|short|full [SEED]`.
 
 mod check;
 mod library;
@@ -30,6 +30,7 @@ struct Size {
     step: usize,
 }
 
+const FEW: Size = Size { narrow: 3, wide: 3, parts: 2, random: 5_000, step: 4093 };
 const SHORT: Size = Size { narrow: 4, wide: 3, parts: 3, random: 50_000, step: 1021 };
 const FULL: Size = Size { narrow: 6, wide: 5, parts: 4, random: 1_000_000, step: READINGS.len() };
 
@@ -41,6 +42,7 @@ fn main() {
     oracle::quiet_panics();
     let words: Vec<String> = std::env::args().skip(1).collect();
     let size = match words.first().map(String::as_str) {
+        Some("few") => FEW,
         Some("short") => SHORT,
         Some("full") => FULL,
         _ => usage(),
@@ -60,7 +62,7 @@ fn main() {
 }
 
 fn usage() -> ! {
-    eprintln!("readings short|full [SEED]");
+    eprintln!("readings few|short|full [SEED]");
     exit(2)
 }
 

@@ -1,4 +1,4 @@
-//! Compares what the program rows prints with the Rust, script by script: `scripts ROWS short|full [SEED]`.
+//! Compares what the program rows prints with the Rust, script by script: `scripts ROWS few|short|full [SEED]`.
 //! `scripts say` answers each script of standard input, a line of hex each, by the Rust: `HEX => ROW / ROW / ..`.
 
 mod walk;
@@ -21,6 +21,7 @@ fn main() {
         return say();
     }
     let (rows, count) = match (words.first(), words.get(1).map(String::as_str)) {
+        (Some(rows), Some("few")) => (rows, 400),
         (Some(rows), Some("short")) => (rows, 4_000),
         (Some(rows), Some("full")) => (rows, 200_000),
         _ => usage(),
@@ -40,7 +41,7 @@ fn main() {
 }
 
 fn usage() -> ! {
-    eprintln!("scripts ROWS short|full [SEED], or scripts say");
+    eprintln!("scripts ROWS few|short|full [SEED], or scripts say");
     exit(2)
 }
 
