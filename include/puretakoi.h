@@ -1,10 +1,16 @@
-/* Puretakoi for hosts in C: the functions of libembed.a, the layout of a session, and the refusal numbers.
+/* Puretakoi for hosts in C and C++ on x86-64 Linux: the functions of libpuretakoi (in the repository libembed.a),
+ * the layout of a session, and the refusal numbers. puretakoi_words.h has the refusals and the kinds in words.
  *
  * A slice is a pointer and a length, in bytes for uint8_t and in numbers for uint32_t. Pointer and length must be true, a pointer is
  * not null and rightly aligned (also with length 0), and slices of one call must not overlap. Any numbers may stand in them: every call
  * ends with an answer.
  *
- * `src` is all of the script so far, from its first byte on: after a wait lend the longer one, never the next piece alone. */
+ * `src` is all of the script so far, from its first byte on: after a wait lend the longer one, never the next piece
+ * alone. It may stand elsewhere at each call, as realloc moves it; the bytes that it had must be the same.
+ *
+ * A call allocates nothing and keeps nothing: all it knows is in the slices. Threads may call at the same time, each
+ * with a session, list, pool and answer of its own; a script may be shared. A session is plain numbers: memcpy makes
+ * another that goes on from the same place. The deepest call, a walk, takes about 5,500 bytes of stack. */
 #ifndef PURETAKOI_H
 #define PURETAKOI_H
 
@@ -14,6 +20,13 @@
 #ifdef __cplusplus
 extern "C" {
 #endif
+
+/* ---- The version, of this header and of the library that is installed with it. */
+
+#define PURETAKOI_VERSION "0.1.0"
+#define PURETAKOI_VERSION_MAJOR 0
+#define PURETAKOI_VERSION_MINOR 1
+#define PURETAKOI_VERSION_PATCH 0
 
 /* ---- Limits */
 
@@ -61,10 +74,31 @@ extern "C" {
 #define PURETAKOI_ANSWER_POSITION 4 /* the refusal's position, or 0 */
 
 #define PURETAKOI_DONE 0     /* done: go on */
-#define PURETAKOI_FINISHED 1 /* done, and nothing is left to read */
+#define PURETAKOI_FINISHED 1 /* done, and nothing is left to read: stop. One more step or walk is FINISHED too, and */
+                             /* with Initial on top, as it is behind ?>, writes another InlineHtml without bytes */
 #define PURETAKOI_REFUSED 2  /* refused: session, list and pool are as they were; of a walk, as they were before the refused step */
 
-/* ---- A token: 8 numbers of the list. As a file: 32 bytes, little-endian. */
+/* ---- A token: 8 numbers of the list. As a file: 32 bytes, little-endian.
+ *
+ *   kind          value                                                         detail
+ *   1             the text; no bytes behind a last ?> or in an empty script     0
+ *   2, 3, 4       the tag as it stands                                          0
+ *   5             the text: see below                                           0
+ *   6 to 10       its bytes as they stand, as ${ or $name                       0
+ *   11, 12, 13    the label that closes                                         0, or how many spaces, or tabs, before it
+ *   14, 15, 16    its bytes as they stand, as name or ->                        0
+ *   17, 18        the text between the quotes, each escape as what it is for    0
+ *   19, 20        the number as it stands, without its _                        0
+ *   21            the comment as it stands                                      0
+ *
+ * A StringPart is the text, in double quotes and heredocs with each escape as what it is for, in backticks as it stands,
+ * in nowdocs as it stands or as a sheet. The line break before a closing label is not in it, but the CR of a CRLF there
+ * is, unless the block is read as a sheet. A StringPart without bytes is written in one case, before the first
+ * interpolation of a double-quoted string: "$a" gives it, then Variable and DoubleQuote. Where else a text is empty
+ * there is none.
+ *
+ * A StringPart and the token that follows it in the same step bear one place, where the step began: so the place of an
+ * end of a text block is not its closing line. InlineHtml and the tag behind it bear a place each. */
 
 #define PURETAKOI_RECORD 8          /* how many numbers a record has */
 #define PURETAKOI_RECORD_KIND 0     /* which token, below */

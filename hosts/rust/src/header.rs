@@ -21,17 +21,41 @@ fn constants() -> Vec<(String, u64)> {
     all
 }
 
-/// The names that the header defines as numbers.
-fn defined() -> Vec<(String, u64)> {
-    let mut all = Vec::new();
-    for line in HEADER.lines() {
+/// The names that the header defines as something, in its order.
+fn definitions() -> impl Iterator<Item = (&'static str, &'static str)> {
+    HEADER.lines().filter_map(|line| {
         let mut words = line.split_whitespace();
-        if let (Some("#define"), Some(name), Some(value)) = (words.next(), words.next(), words.next()) {
-            all.push((name.to_string(), value.parse().expect("a constant is a number")));
+        match (words.next(), words.next(), words.next()) {
+            (Some("#define"), Some(name), Some(value)) => Some((name, value)),
+            _ => None,
         }
-    }
+    })
+}
+
+fn is_of_version(name: &str) -> bool {
+    name.starts_with("PURETAKOI_VERSION")
+}
+
+/// The names that the header defines as numbers, but for the version's.
+fn defined() -> Vec<(String, u64)> {
+    let numbers = definitions().filter(|(name, _)| !is_of_version(name));
+    let mut all: Vec<(String, u64)> =
+        numbers.map(|(name, value)| (name.to_string(), value.parse().expect("a constant is a number"))).collect();
     all.sort();
     all
+}
+
+#[test]
+fn the_version_is_the_crates() {
+    let found: Vec<_> = definitions().filter(|(name, _)| is_of_version(name)).collect();
+    let whole = concat!("\"", env!("CARGO_PKG_VERSION"), "\"");
+    let expected = [
+        ("PURETAKOI_VERSION", whole),
+        ("PURETAKOI_VERSION_MAJOR", env!("CARGO_PKG_VERSION_MAJOR")),
+        ("PURETAKOI_VERSION_MINOR", env!("CARGO_PKG_VERSION_MINOR")),
+        ("PURETAKOI_VERSION_PATCH", env!("CARGO_PKG_VERSION_PATCH")),
+    ];
+    assert_eq!(found, expected);
 }
 
 #[test]

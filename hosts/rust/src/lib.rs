@@ -1,31 +1,34 @@
-//! Puretakoi for hosts in Rust: the proved reader of PHP scripts behind calls that can't be misused.
+//! Puretakoi for hosts in Rust on x86-64 Linux: the proved reader of PHP scripts behind calls that can't be misused.
 //!
-//! `Stream` reads a script that comes in parts and gives its tokens; `Session` is the library's own walk and step, with lent tables.
-//! What can't be taken is refused by its number, and session and tables are then as they were; what the steps of a walk before it wrote
-//! stays. No call panics.
+//! `tokens` gives the tokens of a whole script, `Tokens` one after another and in the reading that is chosen; `Stream`
+//! reads a script that comes in parts; `Session` is the library's own walk and step, with lent tables. What can't be
+//! taken is refused by its number, and session and tables are then as they were; what the steps of a walk before it
+//! wrote stays. No call panics.
 //!
 //! ```
-//! use puretakoi::{Event, Reading, Stream};
+//! use puretakoi::{tokens, Kind, Reading, Reason, Tokens};
 //!
-//! let mut stream = Stream::new(Reading::Ported);
-//! stream.feed(b"<?php 'ker")?;
-//! stream.feed(b"b';")?;
-//! stream.finish();
-//! let mut values = Vec::new();
-//! let end = loop {
-//!     match stream.next() {
-//!         Event::Tokens(tokens) => values.extend(tokens.into_iter().map(|token| token.value)),
-//!         Event::Wait => unreachable!("the end is announced"),
-//!         Event::Finished(position) => break position,
-//!         Event::Refused(refusal) => return Err(refusal),
+//! for token in tokens(b"<?php 'kerb';")? {
+//!     println!("{} {}: {:?}", token.span, token.kind_name(), token.value);
+//! }
+//!
+//! let script = b"<?php <<<'RELIEF'\n  ..##\n  RELIEF;";
+//! let mut rows = Vec::new();
+//! for token in Tokens::new(script, Reading::Sheet) {
+//!     let token = token?;
+//!     if token.kind() == Some(Kind::StringPart) {
+//!         rows.push(token.value);
 //!     }
-//! };
-//! assert_eq!(values, [b"<?php".to_vec(), b"kerb".to_vec()]);
-//! assert_eq!(end, 13);
+//! }
+//! assert_eq!(rows, [b"..##"]);
+//!
+//! let refusal = tokens(b"<?php 'kerb").unwrap_err();
+//! assert_eq!(refusal.reason(), Some(Reason::UnexpectedEndOfFile));
+//! assert_eq!(refusal.to_string(), "refused 1 at 1:12: something is still open where the script ends");
 //! # Ok::<(), puretakoi::Refusal>(())
 //! ```
 
-#![deny(unsafe_code, missing_docs)]
+#![deny(unsafe_code, missing_docs, missing_debug_implementations)]
 
 mod file;
 #[allow(unsafe_code)]
@@ -36,17 +39,21 @@ mod record;
 mod refusal;
 mod session;
 mod stream;
+mod tokens;
 
 #[cfg(test)]
 mod header;
+#[cfg(test)]
+mod words;
 
 pub use file::{file_to_list, list_to_file};
 pub use frame::{Frame, Label, Reading};
-pub use numbers::{kinds, limits, refusals};
+pub use numbers::{kinds, limits, refusals, Kind, Reason};
 pub use record::{records, Record};
 pub use refusal::{Refusal, Span};
 pub use session::{End, Progress, Session};
 pub use stream::{Event, Stream, Token};
+pub use tokens::{tokens, Tokens};
 
 use std::ops::Range;
 

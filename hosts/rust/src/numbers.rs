@@ -10,6 +10,51 @@ macro_rules! constants {
     };
 }
 
+/// An enum of numbers that have a name in words each, and a module of constants with the same numbers.
+macro_rules! numbered {
+    (
+        $(#[$on_enum:meta])* $enum:ident, $(#[$on_module:meta])* $module:ident:
+        $($(#[$line:meta])* $variant:ident = $name:ident = $value:literal, $words:literal;)*
+    ) => {
+        $(#[$on_module])*
+        pub mod $module {
+            constants! { pub u32: $($(#[$line])* $name = $value;)* }
+        }
+
+        $(#[$on_enum])*
+        #[derive(Clone, Copy, Debug, PartialEq, Eq, Hash, PartialOrd, Ord)]
+        #[non_exhaustive]
+        pub enum $enum {
+            $($(#[$line])* $variant = $value,)*
+        }
+
+        impl $enum {
+            /// All of them, by their numbers.
+            pub const ALL: &'static [$enum] = &[$($enum::$variant),*];
+
+            /// Its number.
+            pub fn number(self) -> u32 {
+                self as u32
+            }
+
+            /// The one that has this number.
+            pub fn of(number: u32) -> Option<$enum> {
+                match number {
+                    $($value => Some($enum::$variant),)*
+                    _ => None,
+                }
+            }
+
+            /// Its name in words.
+            pub fn name(self) -> &'static str {
+                match self {
+                    $($enum::$variant => $words,)*
+                }
+            }
+        }
+    };
+}
+
 /// How much the library takes.
 pub mod limits {
     constants! { pub usize:
@@ -24,84 +69,86 @@ pub mod limits {
     }
 }
 
-/// Refusals by name.
-pub mod refusals {
-    constants! { pub u32:
-        /// Something is still open where the source ends.
-        UNEXPECTED_END_OF_FILE = 1;
-        /// `\u{..}` names no code point.
-        INVALID_UNICODE_ESCAPE = 2;
-        /// An octal escape is over 377.
-        INVALID_OCTAL_ESCAPE = 3;
-        /// A closing line mixes spaces and tabs.
-        INVALID_DOC_INDENTATION = 4;
-        /// Neither arrow nor name where a property is looked for.
-        NO_PROPERTY = 5;
-        /// Lend more of the script, or announce its end.
-        WAIT = 6;
-        /// More tokens than places left.
-        LIST_FULL = 7;
-        /// More value bytes than pool left.
-        POOL_FULL = 8;
-        /// A frame would be the 65th.
-        STACK_FULL = 9;
-        /// The call does not fit.
-        OUT_OF_PLACE = 10;
-        /// Source or pool over 65,536 bytes, or list over 65,537 tokens.
-        TOO_LARGE = 11;
-        /// The numbers are no session, or one outside its bounds.
-        BAD_SESSION = 12;
-        /// A row of a sheet starts with less than the closing line's indentation.
-        STRAY_INDENTATION = 13;
-    }
+numbered! {
+    /// Why a call is refused.
+    Reason,
+    /// Refusals by name.
+    refusals:
+    /// Something is still open where the source ends.
+    UnexpectedEndOfFile = UNEXPECTED_END_OF_FILE = 1, "unexpected end of file";
+    /// `\u{..}` names no code point.
+    InvalidUnicodeEscape = INVALID_UNICODE_ESCAPE = 2, "invalid unicode escape";
+    /// An octal escape is over 377.
+    InvalidOctalEscape = INVALID_OCTAL_ESCAPE = 3, "invalid octal escape";
+    /// A closing line mixes spaces and tabs.
+    InvalidDocIndentation = INVALID_DOC_INDENTATION = 4, "invalid indentation of a closer";
+    /// Neither arrow nor name where a property is looked for.
+    NoProperty = NO_PROPERTY = 5, "no property";
+    /// Lend more of the script, or announce its end.
+    Wait = WAIT = 6, "wait";
+    /// More tokens than places left.
+    ListFull = LIST_FULL = 7, "list full";
+    /// More value bytes than pool left.
+    PoolFull = POOL_FULL = 8, "pool full";
+    /// A frame would be the 65th.
+    StackFull = STACK_FULL = 9, "stack full";
+    /// The call does not fit.
+    OutOfPlace = OUT_OF_PLACE = 10, "out of place";
+    /// Source or pool over 65,536 bytes, or list over 65,537 tokens.
+    TooLarge = TOO_LARGE = 11, "too large";
+    /// The numbers are no session, or one outside its bounds.
+    BadSession = BAD_SESSION = 12, "bad session";
+    /// A row of a sheet starts with less than the closing line's indentation.
+    StrayIndentation = STRAY_INDENTATION = 13, "stray indentation";
 }
 
-/// Kinds of tokens by name.
-pub mod kinds {
-    constants! { pub u32:
-        /// Text outside tags.
-        INLINE_HTML = 1;
-        /// `<?php`, its value in the script's letter case.
-        OPEN_TAG_FULL = 2;
-        /// `<?=`
-        OPEN_TAG_ECHO = 3;
-        /// `<?`
-        OPEN_TAG_SHORT = 4;
-        /// Text before an interpolation or a closer.
-        STRING_PART = 5;
-        /// `${`
-        DOLLAR_LEFT_BRACE = 6;
-        /// `{` before a variable.
-        LEFT_BRACE = 7;
-        /// The closing double quote.
-        DOUBLE_QUOTE = 8;
-        /// The closing backtick.
-        BACKTICK = 9;
-        /// `$name`
-        VARIABLE = 10;
-        /// The end of a text block, not indented.
-        END_DOC_STRING_NONE = 11;
-        /// The end of a text block, indented by spaces.
-        END_DOC_STRING_SPACE = 12;
-        /// The end of a text block, indented by tabs.
-        END_DOC_STRING_TAB = 13;
-        /// A name.
-        IDENTIFIER = 14;
-        /// `?->`
-        QUESTION_ARROW = 15;
-        /// `->`
-        ARROW = 16;
-        /// `'..'`
-        LITERAL_SINGLE_QUOTED_STRING = 17;
-        /// `".."` without interpolation.
-        LITERAL_DOUBLE_QUOTED_STRING = 18;
-        /// A whole number.
-        LITERAL_INTEGER = 19;
-        /// A number with a point or an exponent.
-        LITERAL_FLOAT = 20;
-        /// `// ..`, `# ..` or `/* .. */`, its bytes as they stand.
-        COMMENT = 21;
-    }
+numbered! {
+    /// Which token it is.
+    Kind,
+    /// Kinds of tokens by name.
+    kinds:
+    /// Text outside tags.
+    InlineHtml = INLINE_HTML = 1, "inline text";
+    /// `<?php`, its value in the script's letter case.
+    OpenTagFull = OPEN_TAG_FULL = 2, "full open tag";
+    /// `<?=`
+    OpenTagEcho = OPEN_TAG_ECHO = 3, "echo open tag";
+    /// `<?`
+    OpenTagShort = OPEN_TAG_SHORT = 4, "short open tag";
+    /// Text before an interpolation or a closer.
+    StringPart = STRING_PART = 5, "string part";
+    /// `${`
+    DollarLeftBrace = DOLLAR_LEFT_BRACE = 6, "dollar and left brace";
+    /// `{` before a variable.
+    LeftBrace = LEFT_BRACE = 7, "left brace";
+    /// The closing double quote.
+    DoubleQuote = DOUBLE_QUOTE = 8, "double quote";
+    /// The closing backtick.
+    Backtick = BACKTICK = 9, "backtick";
+    /// `$name`
+    Variable = VARIABLE = 10, "variable";
+    /// The end of a text block, not indented.
+    EndDocStringNone = END_DOC_STRING_NONE = 11, "end of text block, not indented";
+    /// The end of a text block, indented by spaces.
+    EndDocStringSpace = END_DOC_STRING_SPACE = 12, "end of text block, indented by spaces";
+    /// The end of a text block, indented by tabs.
+    EndDocStringTab = END_DOC_STRING_TAB = 13, "end of text block, indented by tabs";
+    /// A name.
+    Identifier = IDENTIFIER = 14, "identifier";
+    /// `?->`
+    QuestionArrow = QUESTION_ARROW = 15, "question arrow";
+    /// `->`
+    Arrow = ARROW = 16, "arrow";
+    /// `'..'`
+    LiteralSingleQuotedString = LITERAL_SINGLE_QUOTED_STRING = 17, "single-quoted string";
+    /// `".."` without interpolation.
+    LiteralDoubleQuotedString = LITERAL_DOUBLE_QUOTED_STRING = 18, "double-quoted string";
+    /// A whole number.
+    LiteralInteger = LITERAL_INTEGER = 19, "integer";
+    /// A number with a point or an exponent.
+    LiteralFloat = LITERAL_FLOAT = 20, "float";
+    /// `// ..`, `# ..` or `/* .. */`, its bytes as they stand.
+    Comment = COMMENT = 21, "comment";
 }
 
 /// Where the numbers of a session, an answer and a record stand, and how many each has.

@@ -4,7 +4,7 @@ use std::error::Error;
 use std::fmt;
 
 use crate::foreign;
-use crate::numbers::refusals;
+use crate::numbers::Reason;
 
 /// A place of the script, in bytes.
 #[derive(Clone, Copy, Debug, PartialEq, Eq, Hash)]
@@ -40,72 +40,72 @@ impl fmt::Display for Span {
 /// Why a call was refused, and where. The session and the tables are as they were.
 #[derive(Clone, Copy, Debug, PartialEq, Eq, Hash)]
 pub struct Refusal {
-    /// One of `refusals`.
+    /// The number of its reason, one of `refusals`.
     pub number: u32,
     /// Where the fault stands; for refusals of the call itself the cursor, or the script's start.
     pub span: Span,
 }
 
 impl Refusal {
+    /// Its reason, where the number is one's.
+    pub fn reason(&self) -> Option<Reason> {
+        Reason::of(self.number)
+    }
+
     /// Its name.
     pub fn name(&self) -> &'static str {
-        match self.number {
-            refusals::UNEXPECTED_END_OF_FILE => "unexpected end of file",
-            refusals::INVALID_UNICODE_ESCAPE => "invalid unicode escape",
-            refusals::INVALID_OCTAL_ESCAPE => "invalid octal escape",
-            refusals::INVALID_DOC_INDENTATION => "invalid indentation of a closer",
-            refusals::NO_PROPERTY => "no property",
-            refusals::WAIT => "wait",
-            refusals::LIST_FULL => "list full",
-            refusals::POOL_FULL => "pool full",
-            refusals::STACK_FULL => "stack full",
-            refusals::OUT_OF_PLACE => "out of place",
-            refusals::TOO_LARGE => "too large",
-            refusals::BAD_SESSION => "bad session",
-            refusals::STRAY_INDENTATION => "stray indentation",
-            _ => "no refusal",
-        }
+        self.reason().map_or("no refusal", Reason::name)
     }
 
     /// What it is: a sentence that begins with a small letter and has no full stop.
     pub fn meaning(&self) -> &'static str {
-        match self.number {
-            refusals::UNEXPECTED_END_OF_FILE => "something is still open where the script ends",
-            refusals::INVALID_UNICODE_ESCAPE => "a \\u{..} escape names no code point",
-            refusals::INVALID_OCTAL_ESCAPE => "an octal escape is over 377",
-            refusals::INVALID_DOC_INDENTATION => "the closing line is indented by spaces and tabs mixed",
-            refusals::NO_PROPERTY => "neither an arrow nor a name stands where a property is looked for",
-            refusals::WAIT => "what comes next is still needed",
-            refusals::LIST_FULL => "there are more tokens than places left in the list",
-            refusals::POOL_FULL => "there are more value bytes than bytes left in the pool",
-            refusals::STACK_FULL => "braces and interpolations are nested more than 64 deep",
-            refusals::OUT_OF_PLACE => "the call does not fit where the cursor and the frames are, or what it was given",
-            refusals::TOO_LARGE => "there are more than 65,536 bytes of script or pool, or more than 65,537 tokens",
-            refusals::BAD_SESSION => "the session was changed by hand, or belongs to another script",
-            refusals::STRAY_INDENTATION => "a row starts with less than the closing line's indentation",
-            _ => "the library gives no such number",
-        }
+        self.reason().map_or("the library gives no such number", Reason::meaning)
     }
 
     /// What to do: a whole sentence.
     pub fn advice(&self) -> &'static str {
-        match self.number {
-            refusals::UNEXPECTED_END_OF_FILE => "Close the string, the text block, the command or the comment.",
-            refusals::INVALID_UNICODE_ESCAPE => {
+        self.reason().map_or("Look at where it came from.", Reason::advice)
+    }
+}
+
+impl Reason {
+    /// What it is: a sentence that begins with a small letter and has no full stop.
+    pub fn meaning(self) -> &'static str {
+        match self {
+            Reason::UnexpectedEndOfFile => "something is still open where the script ends",
+            Reason::InvalidUnicodeEscape => "a \\u{..} escape names no code point",
+            Reason::InvalidOctalEscape => "an octal escape is over 377",
+            Reason::InvalidDocIndentation => "the closing line is indented by spaces and tabs mixed",
+            Reason::NoProperty => "neither an arrow nor a name stands where a property is looked for",
+            Reason::Wait => "what comes next is still needed",
+            Reason::ListFull => "there are more tokens than places left in the list",
+            Reason::PoolFull => "there are more value bytes than bytes left in the pool",
+            Reason::StackFull => "braces and interpolations are nested more than 64 deep",
+            Reason::OutOfPlace => "the call does not fit where the cursor and the frames are, or what it was given",
+            Reason::TooLarge => "there are more than 65,536 bytes of script or pool, or more than 65,537 tokens",
+            Reason::BadSession => "the session was changed by hand, or belongs to another script",
+            Reason::StrayIndentation => "a row starts with less than the closing line's indentation",
+        }
+    }
+
+    /// What to do: a whole sentence.
+    pub fn advice(self) -> &'static str {
+        match self {
+            Reason::UnexpectedEndOfFile => "Close the string, the text block, the command or the comment.",
+            Reason::InvalidUnicodeEscape => {
                 "Write hex digits between the braces, up to 10FFFF and not from D800 to DFFF."
             }
-            refusals::INVALID_OCTAL_ESCAPE => "Write no more than 377 behind the backslash.",
-            refusals::INVALID_DOC_INDENTATION => "Use spaces alone or tabs alone before the label.",
-            refusals::NO_PROPERTY => "Write an arrow or a name there, or pop the frame.",
-            refusals::WAIT => "Lend more of the script, or announce its end.",
-            refusals::LIST_FULL => "Take the tokens out and empty the tables, or lend a longer list.",
-            refusals::POOL_FULL => "Take the values out and empty the tables, or lend a longer pool.",
-            refusals::STACK_FULL => "Nest them less deep.",
-            refusals::OUT_OF_PLACE => "Look at the session and at what was lent before calling again.",
-            refusals::TOO_LARGE => "Divide the script into smaller ones.",
-            refusals::BAD_SESSION => "Go on with the session of this script, or begin with a fresh one.",
-            refusals::STRAY_INDENTATION => "Indent the row as the closing line is, or the closing line less.",
-            _ => "Look at where it came from.",
+            Reason::InvalidOctalEscape => "Write no more than 377 behind the backslash.",
+            Reason::InvalidDocIndentation => "Use spaces alone or tabs alone before the label.",
+            Reason::NoProperty => "Write an arrow or a name there, or pop the frame.",
+            Reason::Wait => "Lend more of the script, or announce its end.",
+            Reason::ListFull => "Take the tokens out and empty the tables, or lend a longer list.",
+            Reason::PoolFull => "Take the values out and empty the tables, or lend a longer pool.",
+            Reason::StackFull => "Nest them less deep.",
+            Reason::OutOfPlace => "Look at the session and at what was lent before calling again.",
+            Reason::TooLarge => "Divide the script into smaller ones.",
+            Reason::BadSession => "Go on with the session of this script, or begin with a fresh one.",
+            Reason::StrayIndentation => "Indent the row as the closing line is, or the closing line less.",
         }
     }
 }

@@ -121,6 +121,20 @@ impl Session {
         self.numbers[BYTES] = 0;
     }
 
+    /// Sets the cursor to a place of the script. One that is none is refused with 12 by the next call.
+    pub fn set_span(&mut self, span: Span) {
+        self.numbers[POSITION] = span.position;
+        self.numbers[LINE] = span.line;
+        self.numbers[COLUMN] = span.column;
+    }
+
+    /// Sets the top frame to another one. A label that is none is refused with 12 by the next call.
+    pub fn set_top(&mut self, frame: Frame) {
+        let at = (self.depth() as usize).clamp(1, MOST_FRAMES) - 1;
+        let slot = SLOTS + SLOT * at;
+        self.numbers[slot..slot + SLOT].copy_from_slice(&frame.slot());
+    }
+
     /// At most `most` steps from the cursor on, up to one that is not done: much faster than a call for each. New records and value
     /// bytes stand behind the fill marks. Where a step is refused, the session stands before it, and what the steps before it wrote
     /// stays; where that is the first step, all is as it was. So after 7 or 8 take the tokens, empty the tables and walk on.

@@ -1,9 +1,12 @@
 //! A script that comes in parts: its bytes, its session, and tables with room for many steps.
 
+use std::fmt;
+
 use crate::frame::Reading;
 use crate::numbers::layout::RECORD;
 use crate::numbers::limits::MOST_BYTES;
 use crate::numbers::refusals::{LIST_FULL, OUT_OF_PLACE, POOL_FULL, WAIT};
+use crate::numbers::Kind;
 use crate::record::{kind_name, Record};
 use crate::refusal::{Refusal, Span};
 use crate::session::{End, Progress, Session};
@@ -14,7 +17,7 @@ const PLACES: usize = 512;
 /// A token with its value.
 #[derive(Clone, Debug, PartialEq, Eq, Hash)]
 pub struct Token {
-    /// One of `kinds`.
+    /// The number of its kind, one of `kinds`.
     pub kind: u32,
     /// The indentation of an end of a text block, else 0.
     pub detail: u32,
@@ -25,6 +28,11 @@ pub struct Token {
 }
 
 impl Token {
+    /// Its kind, where the number is one's; those that the library gives are.
+    pub fn kind(&self) -> Option<Kind> {
+        Kind::of(self.kind)
+    }
+
     /// Its kind in words.
     pub fn kind_name(&self) -> &'static str {
         kind_name(self.kind)
@@ -67,16 +75,29 @@ impl Stream {
         }
     }
 
+    /// A stream over a whole script, its end announced.
+    pub(crate) fn whole(script: &[u8], reading: Reading) -> Stream {
+        let mut stream = Stream::new(reading);
+        stream.add(script);
+        stream.finish();
+        stream
+    }
+
     /// Adds a part of the script. Refused with 10, and not added, once the end is announced. Of a script that is too large no more is
     /// kept than shows it; the first 65,536 bytes are read before it is refused.
     pub fn feed(&mut self, part: &[u8]) -> Result<(), Refusal> {
         if self.end == End::Announced {
             return Err(Refusal { number: OUT_OF_PLACE, span: self.session.span() });
         }
-        let room = MOST_BYTES + 1 - self.source.len();
-        self.source.extend_from_slice(&part[..part.len().min(room)]);
+        self.add(part);
         self.end_wait();
         Ok(())
+    }
+
+    /// Keeps a part, as far as there is room.
+    fn add(&mut self, part: &[u8]) {
+        let room = MOST_BYTES + 1 - self.source.len();
+        self.source.extend_from_slice(&part[..part.len().min(room)]);
     }
 
     /// Announces the script's end.
@@ -147,5 +168,16 @@ impl Stream {
         let tokens = self.session.records(&self.list).map(with_value).collect();
         self.session.empty_tables();
         tokens
+    }
+}
+
+impl fmt::Debug for Stream {
+    fn fmt(&self, out: &mut fmt::Formatter) -> fmt::Result {
+        out.debug_struct("Stream")
+            .field("source", &self.source.len())
+            .field("end", &self.end)
+            .field("session", &self.session)
+            .field("behind", &self.behind)
+            .finish_non_exhaustive()
     }
 }
