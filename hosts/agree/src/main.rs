@@ -1,5 +1,6 @@
-//! Holds the example hosts to the program rows, byte for byte, at piece sizes 1, 2, 3, 7, 64 and whole: `agree SEED ROWS HOST..`.
-//! Then, on scripts that are longer than rows takes, to what was worked by hand.
+//! Holds hosts to the program rows, byte for byte, at piece sizes 1, 2, 3, 7, 64 and whole: `agree SEED COUNT ROWS HOST
+//! [-- HOST..]`, where COUNT is how many scripts are tried, and a HOST a program and its words. Then, on scripts that are longer than rows takes, to what
+//! was worked by hand.
 
 mod run;
 mod scripts;
@@ -10,9 +11,6 @@ use std::thread::{available_parallelism, scope};
 
 use run::{Folder, Given, Lent, Program};
 
-/// How many scripts are tried with rows.
-const SCRIPTS: usize = 1_000;
-
 /// The piece sizes; the last is larger than any script.
 const PIECES: [usize; 6] = [1, 2, 3, 7, 64, 100_000];
 
@@ -21,27 +19,43 @@ const MOST_SHOWN: usize = 2_000;
 
 fn main() {
     let words: Vec<String> = std::env::args().skip(1).collect();
-    let (seed, rows, hosts) = match words.split_first() {
-        Some((seed, [rows, hosts @ ..])) if !hosts.is_empty() => match seed.parse() {
-            Ok(seed) => (seed, rows, hosts),
-            Err(_) => usage(),
-        },
-        _ => usage(),
+    let (tries, rows, hosts) = match asked(&words) {
+        Some(asked) => asked,
+        None => usage(),
     };
     let folder = Folder::new().unwrap_or_else(|wrong| {
         eprintln!("agree: no folder for scripts can be made ({}): make room for temporary files", wrong);
         exit(2)
     });
-    let hosts: Vec<Program> = hosts.iter().map(|path| Program { path }).collect();
-    println!("agree: seed {}", seed);
-    let good = say("agree", with_rows(&Program { path: rows }, &hosts, &folder, seed));
+    println!("agree: seed {}", tries.seed);
+    let good = say("agree", with_rows(&rows, &hosts, &folder, &tries));
     let good = say("agree limits", at_the_limits(&hosts, &folder)) && good;
     drop(folder);
     exit(if good { 0 } else { 1 })
 }
 
+/// Which scripts are tried with rows, and how many.
+struct Tries {
+    seed: u64,
+    count: usize,
+}
+
+/// The scripts, rows and the hosts.
+fn asked(words: &[String]) -> Option<(Tries, Program<'_>, Vec<Program<'_>>)> {
+    let (seed, words) = words.split_first()?;
+    let (count, words) = words.split_first()?;
+    let tries = Tries { seed: seed.parse().ok()?, count: count.parse().ok()? };
+    let (rows, words) = words.split_first()?;
+    let host = |words| <[String]>::split_first(words).map(|(path, words)| Program { path, words });
+    let hosts: Option<Vec<Program>> = words.split(|word| word == "--").map(host).collect();
+    Some((tries, Program { path: rows, words: &[] }, hosts?))
+}
+
 fn usage() -> ! {
-    eprintln!("agree SEED ROWS HOST.., where SEED is a whole number and the others are programs");
+    eprintln!(
+        "agree SEED COUNT ROWS HOST [-- HOST..], where SEED and COUNT are whole numbers, ROWS is a program, HOST a program \
+         and its words"
+    );
     exit(2)
 }
 
@@ -55,8 +69,8 @@ fn say(name: &str, result: Result<String, String>) -> bool {
 }
 
 /// How often the scripts ended in each way, or the first difference between a host and rows.
-fn with_rows(rows: &Program, hosts: &[Program], folder: &Folder, seed: u64) -> Result<String, String> {
-    let scripts = scripts::short(SCRIPTS, seed);
+fn with_rows(rows: &Program, hosts: &[Program], folder: &Folder, tries: &Tries) -> Result<String, String> {
+    let scripts = scripts::short(tries.count, tries.seed);
     let lanes = available_parallelism().map_or(1, usize::from);
     let results: Vec<_> = scope(|scope| {
         let started: Vec<_> = (0..lanes)

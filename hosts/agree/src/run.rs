@@ -38,9 +38,10 @@ pub struct Lent<'a> {
     file: PathBuf,
 }
 
-/// A program that reads scripts.
+/// A program that reads scripts, and the words that it is called with before all others.
 pub struct Program<'a> {
     pub path: &'a str,
+    pub words: &'a [String],
 }
 
 /// What a program gave.
@@ -61,6 +62,7 @@ impl Program<'_> {
     /// Runs the program on a script, by pieces of a size where one is given.
     pub fn run(&self, lent: &Lent, piece: Option<usize>, from_file: bool) -> Result<Given, String> {
         let mut command = Command::new(self.path);
+        command.args(self.words);
         if let Some(piece) = piece {
             command.arg("-p").arg(piece.to_string());
         }

@@ -1,0 +1,139 @@
+//! `check`: a line for each refusal and each warning, as editors understand them.
+
+use puretakoi::Span;
+
+use crate::commands::arguments::Call;
+use crate::commands::many::Many;
+use crate::commands::options::{JOBS, JSON, STRICT};
+use crate::commands::output::{print, status, unwritten};
+use crate::commands::Verb;
+use crate::files;
+use crate::reading::fault::Fault;
+use crate::reading::sheet::Sheet;
+use crate::reading::warning::Warning;
+use crate::showing::json;
+use crate::showing::shown::shown;
+use crate::showing::text::Totals;
+
+/// The verb.
+pub const VERB: Verb = Verb {
+    name: "check",
+    groups: &[&[&STRICT], &[&JSON], &[&JOBS]],
+    operands: "PATH..",
+    about: "tells each refusal and each warning of sheets in a line that editors understand",
+    more: "\
+PATH.. are scripts, - for standard input, or folders with all .php files below them. A line is file:line:column: word:
+message, where the word is error for a refusal and warning for a warning; lines and columns count from 1, columns in
+bytes. Of a good sheet nothing is said. Last comes a summary. --json prints one object with all findings and the
+counts.",
+    run,
+};
+
+/// A refusal or a warning of a sheet.
+#[derive(Debug, PartialEq, Eq)]
+pub struct Finding {
+    /// Where to look first.
+    pub place: Span,
+    /// `error`, or `warning`.
+    pub word: &'static str,
+    /// The refusal's number; none for a warning.
+    pub number: Option<u32>,
+    /// The refusal's or the warning's name.
+    pub name: &'static str,
+    /// What is there and what to do, in one line.
+    pub message: String,
+}
+
+/// Checks the sheets that are asked for.
+fn run(call: &Call) -> Result<u8, String> {
+    if call.paths.is_empty() {
+        return Err("no script is named".to_string());
+    }
+    let (strict, is_json) = (call.has(&STRICT), call.has(&JSON));
+    let found = files::find(&call.paths);
+    let many = Many { found: &found, jobs: call.number(&JOBS).unwrap_or(1), strict };
+    let form = if is_json { Finding::json } else { Finding::line };
+    let make = |_number: usize, name: &str, sheet: &Sheet| {
+        findings(sheet, strict).iter().map(|finding| form(finding, name)).collect::<Vec<String>>()
+    };
+    let mut objects = Vec::new();
+    let read = many.read(make, |_verdict, told| {
+        if !is_json {
+            return print(&told.concat());
+        }
+        objects.extend(told);
+        Ok(())
+    });
+    let told = read.and_then(|totals| {
+        let last = if is_json { object(&objects, &totals) } else { totals.summary() + "\n" };
+        print(&last).map(|_| totals)
+    });
+    Ok(told.map_or_else(|error| unwritten(&error), |totals| status(&totals)))
+}
+
+/// What is found in a sheet, in the script's order.
+pub fn findings(sheet: &Sheet, strict: bool) -> Vec<Finding> {
+    let faults = sheet.faults.iter().map(refused);
+    let warnings = sheet.warnings.iter().map(|warning| warned(warning, strict));
+    let mut findings: Vec<Finding> = faults.chain(warnings).collect();
+    findings.sort_by_key(|finding| finding.place.position);
+    findings
+}
+
+/// A refusal.
+fn refused(fault: &Fault) -> Finding {
+    let refusal = fault.refusal;
+    let first = format!("refused {}: {}. {}", refusal.number, refusal.meaning(), refusal.advice());
+    let guess = "It stands behind another refusal, where the reading is a guess.".to_string();
+    let guess = Some(guess).filter(|_| fault.is_guess);
+    let sentences: Vec<String> = [Some(first), fault.detail.clone(), guess].into_iter().flatten().collect();
+    Finding {
+        place: fault.place,
+        word: "error",
+        number: Some(refusal.number),
+        name: refusal.name(),
+        message: in_one_line(&sentences.join(" ")),
+    }
+}
+
+/// A warning, or the refusal that it is if --strict is given.
+fn warned(warning: &Warning, strict: bool) -> Finding {
+    let (word, behind) = if strict { ("error", " It is a warning, refused by --strict.") } else { ("warning", "") };
+    Finding {
+        place: warning.span,
+        word,
+        number: None,
+        name: warning.kind.name(),
+        message: in_one_line(&(warning.sentence() + behind)),
+    }
+}
+
+/// A text without breaks.
+fn in_one_line(text: &str) -> String {
+    shown(text.as_bytes())
+}
+
+impl Finding {
+    /// Its line, for a script of this name.
+    pub fn line(&self, name: &str) -> String {
+        format!("{}:{}: {}: {}\n", name, self.place, self.word, self.message)
+    }
+
+    /// It as an object, for a script of this name.
+    pub fn json(&self, name: &str) -> String {
+        let number = self.number.map_or_else(|| "null".to_string(), |number| number.to_string());
+        let kind = vec![("word", json::string(self.word)), ("number", number), ("name", json::string(self.name))];
+        let path = vec![("path", json::string(name))];
+        let message = vec![("message", json::string(&self.message))];
+        json::object(&[path, json::place_fields(self.place), kind, message].concat())
+    }
+}
+
+/// All findings, a line each, and the counts as one object.
+fn object(findings: &[String], totals: &Totals) -> String {
+    let lines: Vec<String> = findings.iter().map(|finding| format!("\n{}", finding)).collect();
+    let counts =
+        [("ok", totals.good), ("warned", totals.warned), ("refused", totals.refused), ("unread", totals.unread)];
+    let counts = counts.map(|(name, count)| (name, count.to_string())).to_vec();
+    json::object(&[vec![("findings", format!("[{}]", lines.join(",")))], counts].concat()) + "\n"
+}

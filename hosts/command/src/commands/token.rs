@@ -1,0 +1,94 @@
+//! A token as it is printed: for a person, as numbers, as JSON.
+
+use puretakoi::{Record, Span, Token};
+
+use crate::reading::fault::counted;
+use crate::showing::json;
+
+/// A token for a person: where it stands, what it is, and its value.
+pub fn line(token: &Token) -> String {
+    told(token.span, token.kind_name(), token.detail, &value_text(&token.value))
+}
+
+/// A record for a person; where its value is not there, how long it is.
+pub fn record_line(record: &Record, pool: Option<&[u8]>) -> String {
+    let length = || format!(" {}", counted(record.len as usize, "byte"));
+    let value = match pool.map(|pool| record.value(pool)) {
+        Some(Some(value)) => value_text(value),
+        Some(None) => format!("{}, not in the pool", length()),
+        None => length(),
+    };
+    told(record.span, record.kind_name(), record.detail, &value)
+}
+
+/// A token as the program rows prints it.
+pub fn numbers(token: &Token) -> String {
+    let Token { kind, detail, span, value } = token;
+    format!("{} {} {} {} {} {}", kind, span.line, span.column, span.position, detail, value.len())
+}
+
+/// A token as an object.
+pub fn object(token: &Token) -> String {
+    let kind = vec![("kind", token.kind.to_string()), ("name", json::string(token.kind_name()))];
+    let value = vec![("detail", token.detail.to_string()), ("value", json::bytes(&token.value))];
+    json::object(&[kind, json::place_fields(token.span), value].concat())
+}
+
+fn told(span: Span, kind: &str, detail: u32, value: &str) -> String {
+    let detail = if detail == 0 { String::new() } else { format!(" ({})", detail) };
+    format!("{} {}{}:{}", span, kind, detail, value)
+}
+
+/// A value behind the colon, or its lines below.
+fn value_text(value: &[u8]) -> String {
+    let lines: Vec<String> = value.split_inclusive(|byte| *byte == b'\n').map(quoted).collect();
+    if lines.len() < 2 {
+        return format!(" {}", quoted(value));
+    }
+    lines.iter().map(|line| format!("\n    {}", line)).collect()
+}
+
+/// A value in quotes: characters as they are, and a backslash before what is none, or would not be seen.
+fn quoted(value: &[u8]) -> String {
+    let mut shown = String::from("\"");
+    let mut rest = value;
+    while !rest.is_empty() {
+        let whole = match std::str::from_utf8(rest) {
+            Ok(text) => text.len(),
+            Err(wrong) => wrong.valid_up_to(),
+        };
+        let (text, behind) = rest.split_at(whole);
+        String::from_utf8_lossy(text).chars().for_each(|sign| show(sign, &mut shown));
+        if let Some((byte, after)) = behind.split_first() {
+            shown.push_str(&format!("\\x{:02x}", byte));
+            rest = after;
+        } else {
+            rest = behind;
+        }
+    }
+    shown.push('"');
+    shown
+}
+
+fn show(sign: char, shown: &mut String) {
+    match sign {
+        '\n' => shown.push_str("\\n"),
+        '\r' => shown.push_str("\\r"),
+        '\t' => shown.push_str("\\t"),
+        '"' | '\\' => shown.extend(['\\', sign]),
+        _ if sign.is_control() => shown.push_str(&format!("\\u{{{:x}}}", u32::from(sign))),
+        _ => shown.push(sign),
+    }
+}
+
+#[cfg(test)]
+mod tests {
+    use super::quoted;
+
+    #[test]
+    fn what_is_not_seen_is_escaped() {
+        assert_eq!(quoted(b"a\"\\\t\r\x00\x7f"), r#""a\"\\\t\r\u{0}\u{7f}""#);
+        assert_eq!(quoted(b"\xe2\x82\xac\xe2\x82z\xff"), r#""€\xe2\x82z\xff""#);
+        assert_eq!(quoted(b""), r#""""#);
+    }
+}

@@ -1,0 +1,14 @@
+//! A script as a sheet: blocks, heredocs, remarks, warnings and refusals.
+
+pub mod fault;
+pub mod form;
+pub mod gather;
+pub mod heredoc;
+pub mod mend;
+pub mod php;
+pub mod reader;
+pub mod remark;
+pub mod sheet;
+pub mod suspect;
+pub mod warning;
+pub mod watch;
