@@ -1,0 +1,10 @@
+<?php
+
+$kerb = <<<'RELIEF'
+    oooooooo
+    RELIEF;
+
+__halt_compiler();
+$crossing = <<<'RELIEF'
+    ####  ####
+    RELIEF;

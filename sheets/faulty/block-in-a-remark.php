@@ -1,0 +1,9 @@
+<?php
+
+/* The kerb:
+$kerb = <<<'RELIEF'
+    oooooooo
+    RELIEF;
+*/
+
+return ['relief' => []];

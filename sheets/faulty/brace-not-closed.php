@@ -1,0 +1,8 @@
+<?php
+
+$kerb = <<<'RELIEF'
+    oooooooo
+    RELIEF;
+
+$width = 4;
+$size = "{$width . 'm';

@@ -1,0 +1,9 @@
+<?php
+
+$date = `echo \`date`;
+
+$kerb = <<<'RELIEF'
+    oooooooo
+    RELIEF;
+
+return ['relief' => [$kerb]];

@@ -1,0 +1,13 @@
+<?php
+
+$legend = <<<ST
+The kerb is low.
+STation side
+'Mind the gap'
+ST;
+
+$kerb = <<<'RELIEF'
+    oooooooo
+    RELIEF;
+
+return ['relief' => [$kerb]];

@@ -1,0 +1,1 @@
+<?php// The kerb$kerb = <<<'RELIEF'    oooooooo    RELIEF;return ['relief' => [$kerb]];

@@ -1,0 +1,7 @@
+<?php
+
+$kerb = <<<RELIEF
+    oooooooo
+    RELIEF;
+
+return ['relief' => [$kerb]];

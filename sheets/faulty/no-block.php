@@ -1,0 +1,5 @@
+<?php
+
+$legend = 'The kerb is low.';
+
+return ['legend' => $legend];

@@ -1,0 +1,5 @@
+$kerb = <<<'RELIEF'
+    oooooooo
+    RELIEF;
+
+return ['relief' => [$kerb]];

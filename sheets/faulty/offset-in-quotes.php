@@ -1,0 +1,10 @@
+<?php
+
+$sides = ['north' => 'N'];
+$legend = "Platform $sides['north']";
+
+$kerb = <<<'RELIEF'
+    oooooooo
+    RELIEF;
+
+return ['relief' => [$kerb]];

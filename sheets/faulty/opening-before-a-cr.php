@@ -1,0 +1,10 @@
+<?php
+
+$kerb = <<<'RELIEF'
+    oooooooo
+    RELIEF;
+
+$crossing = <<<'RELIEF'    ####  ####
+    RELIEF;
+
+return ['relief' => [$kerb, $crossing]];

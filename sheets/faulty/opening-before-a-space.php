@@ -1,0 +1,11 @@
+<?php
+
+$kerb = <<<'RELIEF'
+    oooooooo
+    RELIEF;
+
+$crossing = <<<'RELIEF' 
+    ####  ####
+    RELIEF;
+
+return ['relief' => [$kerb, $crossing]];

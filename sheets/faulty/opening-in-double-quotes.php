@@ -1,0 +1,12 @@
+<?php
+
+$kerb = <<<'RELIEF'
+    oooooooo
+    RELIEF;
+
+$crossing = <<<"RELIEF"
+    ####  ####
+    # it's wet
+    RELIEF;
+
+return ['relief' => [$kerb, $crossing]];

@@ -1,0 +1,7 @@
+<?php
+
+// The kerb:$kerb = <<<'RELIEF'
+    oooooooo
+    RELIEF;
+
+return ['relief' => [$kerb]];

@@ -1,0 +1,7 @@
+<?php
+
+$kerb = <<<'RELIEF'
+    oooooooo    oooooooo
+    RELIEF;
+
+return ['relief' => [$kerb]];

@@ -1,0 +1,9 @@
+<?php
+
+$kerb = <<<'RELIEF'
+    oooooooo
+    RELIEF;
+
+$width = 1 <<< 3;
+
+return ['relief' => [$kerb]];

@@ -1,0 +1,7 @@
+<?
+
+$kerb = <<<'RELIEF'
+    oooooooo
+    RELIEF;
+
+return ['relief' => [$kerb]];
