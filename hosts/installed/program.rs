@@ -1,0 +1,21 @@
+//! Prints the tokens of the sheet on standard input and its refusal in words, by the crate that is named as a path.
+
+use puretakoi::{Kind, Reading, Tokens};
+use std::io::{self, Read};
+
+fn main() -> io::Result<()> {
+    let mut script = Vec::new();
+    io::stdin().read_to_end(&mut script)?;
+    let mut refused = None;
+    for token in Tokens::new(&script, Reading::Sheet) {
+        match token {
+            Ok(token) => println!("{} {} {}", token.span, token.kind, String::from_utf8_lossy(&token.value)),
+            Err(refusal) => refused = Some(refusal),
+        }
+    }
+    println!("{} is {}", Kind::Comment.number(), Kind::Comment.name());
+    if let Some(refusal) = refused {
+        println!("{} {}: {}. {}", refusal.span, refusal.name(), refusal.meaning(), refusal.advice());
+    }
+    Ok(())
+}

@@ -1,0 +1,5 @@
+<?php
+<<<'RELIEF'
+  ..##
+  RELIEF;
+'kerb

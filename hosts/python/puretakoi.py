@@ -1,0 +1,300 @@
+"""Puretakoi in Python: the proved reader of the PHP scripts from which tactile maps are embossed, on x86-64 Linux.
+
+    for token in puretakoi.tokens(script):
+        print(token.line, token.column, token.kind.name, token.value)
+    for block in puretakoi.blocks(script):
+        for row in block.rows:
+            print(row)
+
+What can't be read raises Refusal. The library is the one that PURETAKOI_LIBRARY names, else the one that is installed
+with this module, else the one that the system's loader finds. A Stream is for one thread at a time.
+"""
+
+from __future__ import annotations
+
+import ctypes
+import os
+from ctypes import POINTER, c_char_p, c_size_t, c_uint32, c_void_p
+from enum import IntEnum
+from pathlib import Path
+from typing import Any, Dict, Iterator, List, NamedTuple, Sequence, Tuple
+
+__version__ = "0.1.0"
+__all__ = ["Block", "Kind", "Reason", "Refusal", "Stream", "Token", "blocks", "tokens"]
+
+MOST_BYTES = 65536
+_SONAME = "libpuretakoi.so.0"
+_SESSION, _LINE, _DEPTH, _TOKENS, _BYTES, _SLOTS, _SLOT = 199, 1, 3, 4, 5, 7, 3
+_RECORD, _PLACES, _NOWDOC, _FINISHED, _MOST_STEPS = 8, 512, 5, 1, 0xFFFFFFFF
+
+
+class Kind(IntEnum):
+    """Which token it is."""
+
+    INLINE_HTML = 1
+    OPEN_TAG_FULL = 2
+    OPEN_TAG_ECHO = 3
+    OPEN_TAG_SHORT = 4
+    STRING_PART = 5
+    DOLLAR_LEFT_BRACE = 6
+    LEFT_BRACE = 7
+    DOUBLE_QUOTE = 8
+    BACKTICK = 9
+    VARIABLE = 10
+    END_DOC_STRING_NONE = 11
+    END_DOC_STRING_SPACE = 12
+    END_DOC_STRING_TAB = 13
+    IDENTIFIER = 14
+    QUESTION_ARROW = 15
+    ARROW = 16
+    LITERAL_SINGLE_QUOTED_STRING = 17
+    LITERAL_DOUBLE_QUOTED_STRING = 18
+    LITERAL_INTEGER = 19
+    LITERAL_FLOAT = 20
+    COMMENT = 21
+
+
+class Reason(IntEnum):
+    """Why a script is refused."""
+
+    UNEXPECTED_END_OF_FILE = 1
+    INVALID_UNICODE_ESCAPE = 2
+    INVALID_OCTAL_ESCAPE = 3
+    INVALID_DOC_INDENTATION = 4
+    NO_PROPERTY = 5
+    WAIT = 6
+    LIST_FULL = 7
+    POOL_FULL = 8
+    STACK_FULL = 9
+    OUT_OF_PLACE = 10
+    TOO_LARGE = 11
+    BAD_SESSION = 12
+    STRAY_INDENTATION = 13
+
+
+# Of each reason: its name, what it is, what to do.
+_WORDS: Dict[Reason, Tuple[str, str, str]] = {
+    Reason.UNEXPECTED_END_OF_FILE: (
+        "unexpected end of file",
+        "something is still open where the script ends",
+        "Close the string, the text block, the command or the comment.",
+    ),
+    Reason.INVALID_UNICODE_ESCAPE: (
+        "invalid unicode escape",
+        "a \\u{..} escape names no code point",
+        "Write hex digits between the braces, up to 10FFFF and not from D800 to DFFF.",
+    ),
+    Reason.INVALID_OCTAL_ESCAPE: (
+        "invalid octal escape",
+        "an octal escape is over 377",
+        "Write no more than 377 behind the backslash.",
+    ),
+    Reason.INVALID_DOC_INDENTATION: (
+        "invalid indentation of a closer",
+        "the closing line is indented by spaces and tabs mixed",
+        "Use spaces alone or tabs alone before the label.",
+    ),
+    Reason.NO_PROPERTY: (
+        "no property",
+        "neither an arrow nor a name stands where a property is looked for",
+        "Write an arrow or a name there, or pop the frame.",
+    ),
+    Reason.WAIT: (
+        "wait",
+        "what comes next is still needed",
+        "Lend more of the script, or announce its end.",
+    ),
+    Reason.LIST_FULL: (
+        "list full",
+        "there are more tokens than places left in the list",
+        "Take the tokens out and empty the tables, or lend a longer list.",
+    ),
+    Reason.POOL_FULL: (
+        "pool full",
+        "there are more value bytes than bytes left in the pool",
+        "Take the values out and empty the tables, or lend a longer pool.",
+    ),
+    Reason.STACK_FULL: (
+        "stack full",
+        "braces and interpolations are nested more than 64 deep",
+        "Nest them less deep.",
+    ),
+    Reason.OUT_OF_PLACE: (
+        "out of place",
+        "the call does not fit where the cursor and the frames are, or what it was given",
+        "Look at the session and at what was lent before calling again.",
+    ),
+    Reason.TOO_LARGE: (
+        "too large",
+        "there are more than 65,536 bytes of script or pool, or more than 65,537 tokens",
+        "Divide the script into smaller ones.",
+    ),
+    Reason.BAD_SESSION: (
+        "bad session",
+        "the session was changed by hand, or belongs to another script",
+        "Go on with the session of this script, or begin with a fresh one.",
+    ),
+    Reason.STRAY_INDENTATION: (
+        "stray indentation",
+        "a row starts with less than the closing line's indentation",
+        "Indent the row as the closing line is, or the closing line less.",
+    ),
+}
+
+
+class Token(NamedTuple):
+    """A token, the place where it stands (lines and columns from 1, in bytes) and its value."""
+
+    kind: Kind
+    detail: int
+    line: int
+    column: int
+    position: int
+    value: bytes
+
+
+class Block(NamedTuple):
+    """A nowdoc block: the line of its first row, its label, and its rows without their breaks."""
+
+    line: int
+    label: bytes
+    rows: List[bytes]
+
+
+class Refusal(Exception):
+    """Why and where a script is refused, and the tokens that the refused call had read before."""
+
+    def __init__(self, number: int, line: int, column: int, position: int, read: Sequence[Token] = ()) -> None:
+        self.number = Reason(number)
+        self.line, self.column, self.position = line, column, position
+        self.name, self.meaning, self.advice = _WORDS[self.number]
+        self.tokens = list(read)
+        super().__init__(f"refused {number} at {line}:{column}: {self.meaning}. {self.advice}")
+
+
+def _find_library() -> ctypes.CDLL:
+    """The library: PREFIX/lib is looked into from PREFIX/share/puretakoi/python, where this module is installed."""
+    beside = Path(os.path.abspath(__file__)).parent / "../../../lib" / _SONAME
+    path = os.environ.get("PURETAKOI_LIBRARY") or (str(beside) if beside.exists() else _SONAME)
+    try:
+        return ctypes.CDLL(path)
+    except OSError as error:
+        advice = "run hosts/install, or set PURETAKOI_LIBRARY to where it is"
+        raise ImportError(f"the library {path} can't be loaded ({error}): {advice}") from error
+
+
+def _declared(library: ctypes.CDLL) -> ctypes.CDLL:
+    """The calls as puretakoi.h declares them."""
+    numbers: List[Any] = [POINTER(c_uint32), c_size_t]
+    tables = numbers + numbers + [c_void_p, c_size_t] + numbers
+    library.puretakoi_fresh.argtypes = [c_uint32] + numbers
+    library.puretakoi_step.argtypes = [c_char_p, c_size_t, c_uint32] + tables
+    library.puretakoi_walk.argtypes = [c_char_p, c_size_t, c_uint32, c_uint32] + tables
+    for call in (library.puretakoi_fresh, library.puretakoi_step, library.puretakoi_walk):
+        call.restype = c_uint32
+    return library
+
+
+_library = _declared(_find_library())
+
+
+class Stream:
+    """Reads a script that comes in parts of any size, at most 65,536 bytes in all."""
+
+    def __init__(self, *, sheet: bool = False) -> None:
+        """Reads nowdoc blocks as sheets where asked, else as the lexer that was carried over does."""
+        self._source = b""
+        self._is_ended = self._is_finished = False
+        self._session = (c_uint32 * _SESSION)()
+        self._list = (c_uint32 * (_RECORD * _PLACES))()
+        self._pool = ctypes.create_string_buffer(MOST_BYTES)
+        self._answer = (c_uint32 * 5)()
+        _library.puretakoi_fresh(int(sheet), self._session, _SESSION)
+
+    def feed(self, part: bytes) -> List[Token]:
+        """Adds a part, and gives the tokens that can be read."""
+        if self._is_ended:
+            raise ValueError("the script's end is announced: feed a stream of its own")
+        self._source = (self._source + part)[: MOST_BYTES + 1]
+        return self._walk()
+
+    def finish(self) -> List[Token]:
+        """Announces the script's end, and gives the tokens that are left; once all are given, none."""
+        self._is_ended = True
+        return [] if self._is_finished else self._walk()
+
+    def _tables(self) -> Tuple[object, ...]:
+        session, tables = (self._session, _SESSION), (self._list, len(self._list), self._pool, MOST_BYTES)
+        return session + tables + (self._answer, len(self._answer))
+
+    def _walk(self) -> List[Token]:
+        """Walks up to a wait or the end. Where list or pool is full, the tokens are taken and the walk goes on."""
+        read: List[Token] = []
+        while True:
+            source, end = self._source, int(self._is_ended)
+            number = _library.puretakoi_walk(source, len(source), end, _MOST_STEPS, *self._tables())
+            taken = self._take()
+            read += taken
+            self._is_finished = self._answer[0] == _FINISHED
+            if number == Reason.WAIT or self._is_finished:
+                return read
+            if number and not (taken and number in (Reason.LIST_FULL, Reason.POOL_FULL)):
+                raise self._refusal(number, read)
+
+    def _step(self) -> bool:
+        """One step over the whole script: whether more is left. Its tokens are in the tables."""
+        number = _library.puretakoi_step(self._source, len(self._source), 1, *self._tables())
+        if number:
+            raise self._refusal(number)
+        return self._answer[0] != _FINISHED
+
+    def _refusal(self, number: int, read: Sequence[Token] = ()) -> Refusal:
+        """A refusal at the answer's place."""
+        line, column, position = self._answer[2:5]
+        return Refusal(number, line, column, position, read)
+
+    def _take(self) -> List[Token]:
+        """The tokens of the tables, which are empty again."""
+        count, pool = self._session[_TOKENS], bytes(memoryview(self._pool)[: self._session[_BYTES]])
+        self._session[_TOKENS] = self._session[_BYTES] = 0
+        records = (self._list[at : at + _RECORD] for at in range(0, _RECORD * count, _RECORD))
+        return [Token(Kind(r[0]), r[1], r[2], r[3], r[4], pool[r[5] : r[5] + r[6]]) for r in records]
+
+    def _top(self) -> List[int]:
+        """The frame on top: its number, and its label's start and length."""
+        start = _SLOTS + _SLOT * (self._session[_DEPTH] - 1)
+        return self._session[start : start + _SLOT]
+
+
+def _whole(script: bytes, sheet: bool) -> Stream:
+    """A stream with all of a script; of too large a one no more than shows it."""
+    stream = Stream(sheet=sheet)
+    stream._source = bytes(script[: MOST_BYTES + 1])
+    return stream
+
+
+def tokens(script: bytes, *, sheet: bool = False) -> List[Token]:
+    """All tokens of a script. Refusal.tokens has those before a refusal."""
+    return _whole(script, sheet).finish()
+
+
+def blocks(script: bytes) -> Iterator[Block]:
+    """The nowdoc blocks of a sheet, the closing line's indentation taken off each row; those before a refusal too."""
+    stream = _whole(script, sheet=True)
+    more = True
+    while more:
+        (frame, start, length), line = stream._top(), stream._session[_LINE]
+        more = stream._step()
+        read = stream._take()
+        if frame == _NOWDOC:
+            lines = stream._session[_LINE] - line
+            yield Block(line, bytes(script[start : start + length]), _rows(read, lines))
+
+
+def _rows(read: List[Token], lines: int) -> List[bytes]:
+    """The rows of a block's text. A text of no bytes is no row or an empty one: the lines tell."""
+    if lines == 0:
+        return []
+    text = b"".join(token.value for token in read if token.kind is Kind.STRING_PART)
+    *broken, last = text.split(b"\n")
+    return [row[:-1] if row.endswith(b"\r") else row for row in broken] + [last]
