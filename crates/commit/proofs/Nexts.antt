@@ -1,30 +1,27 @@
 -- From a plan to its next, on each way through `commit`. Assumes nothing.
-use Prim.Native.Nat.{ℕ, _+_, _*_, _/_, _≤_, _<_}
+use Prim.Native.Nat.{ℕ, _+_, _/_, _≤_}
 use mathlib.Core.Path.{_≡_, refl, sym, ap, _∙_}
 use mathlib.Core.Bool.{Bool, true, false, false≢true}
 use mathlib.Core.List.{List, [], _∷_}
 use native.Mathlib.Omega.{arith}
-use lib.Dec.{eqb, leb, ltb}
+use lib.Dec.{leb}
 use lib.ListN.{length}
 use mir.Syntax.{w32}
 use mir.Val.{Fits}
 use borrow.Author.Tests.{leb-true, leb-false, ne-eqb, le-ltb, lt-ltb}
-use Rattle.source.specs.Words.{if_then_else_}
-use Rattle.source.specs.Laid.{laid}
 use Rattle.source.specs.declared.Span.{Span}
 use Rattle.source.proofs.Tests.{unrefused}
 use Rattle.state.specs.declared.Answer.{Answer}
 use Rattle.token.specs.Records.{roomRefusal}
 use Rattle.outcome.specs.declared.Change.{Change}
-use Rattle.outcome.specs.Outcomes.{Piece, Outcome, values, limited}
-use Rattle.outcome.specs.Insides.{AllInside, ToldInside, PlaceInside, Inside}
-use Rattle.plan.specs.declared.Drafts.{Drafts}
+use Rattle.outcome.specs.Outcomes.{Piece, Outcome, limited}
+use Rattle.outcome.specs.Insides.{AllInside, PlaceInside}
 use Rattle.plan.specs.declared.Work.{Work}
 use Rattle.plan.specs.declared.Plan.{Plan}
-use Rattle.plan.specs.Plans.{piecesOf, outcomeOf, AllReady, PlanReady}
+use Rattle.plan.specs.Plans.{piecesOf, outcomeOf}
 use Rattle.commit.specs.declared.Next.{Next}
 use Rattle.commit.specs.declared.Mark.{Mark}
-use Rattle.commit.specs.Records.{spanAt, records, countOf, totalOf, Behind, Marked, DraftsFit, DraftsPut}
+use Rattle.commit.specs.Records.{spanAt, countOf, totalOf, Behind, DraftsFit, DraftsPut}
 use Rattle.commit.specs.Nexts.{answerOf, stays, roomFor, nextOf, listAfter, poolAfter}
 use Rattle.commit.specs.Nexts.{isFull, advanced, Advances, Commits, Works, Committed}
 use Rattle.commit.proofs.Spans.{spanAt-here}

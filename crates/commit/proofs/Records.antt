@@ -1,8 +1,8 @@
 -- Counting drafts, and writing their records and values. Assumes nothing.
-use Prim.Native.Nat.{ℕ, _+_, _*_, _/_, _≤_, _<_}
-use mathlib.Core.Path.{_≡_, refl, sym, ap, _∙_}
+use Prim.Native.Nat.{ℕ, _+_, _*_, _/_, _≤_}
+use mathlib.Core.Path.{_≡_, refl, sym, _∙_}
 use mathlib.Core.Bool.{Bool}
-use mathlib.Core.List.{List, [], _∷_, _++_, append-nil}
+use mathlib.Core.List.{List, [], _∷_, append-nil}
 use native.Mathlib.Omega.{arith}
 use lib.ListN.{length, length-append}
 use mir.Syntax.{w32, w64}
@@ -12,11 +12,11 @@ use Rattle.source.specs.declared.Span.{Span}
 use Rattle.source.proofs.Laid.{laid-nil, laid-append}
 use Rattle.token.specs.declared.Token.{Token}
 use Rattle.token.specs.Records.{recordOf}
-use Rattle.outcome.specs.Outcomes.{Piece, values}
+use Rattle.outcome.specs.Outcomes.{values}
 use Rattle.outcome.specs.Insides.{AllInside}
 use Rattle.plan.specs.declared.Draft.{Draft}
 use Rattle.plan.specs.declared.Drafts.{Drafts}
-use Rattle.plan.specs.Plans.{made, pieceOf, piecesOf, Ready, AllReady}
+use Rattle.plan.specs.Plans.{made, pieceOf, piecesOf, AllReady}
 use Rattle.commit.specs.declared.Mark.{Mark}
 use Rattle.commit.specs.Records.{spanAt, tokenOf, records, countOf, totalOf, draftToken}
 use Rattle.commit.specs.Records.{DraftFits, DraftPut, DraftsFit, DraftsPut}

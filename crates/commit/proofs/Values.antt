@@ -1,6 +1,6 @@
 -- Writing the value of a draft, on each way that it comes about. Assumes nothing.
 use Prim.Native.Nat.{ℕ, _+_, _-_, _≤_}
-use mathlib.Core.Path.{_≡_, refl, sym, ap, _∙_}
+use mathlib.Core.Path.{_≡_, _∙_}
 use mathlib.Core.Bool.{Bool}
 use mathlib.Core.List.{List, _++_}
 use native.Mathlib.Omega.{arith}
@@ -17,7 +17,7 @@ use Rattle.sheet.specs.Sheets.{sheetAt}
 use Rattle.sheet.specs.Scans as sheet
 use Rattle.plan.specs.declared.Making.{Making}
 use Rattle.plan.specs.declared.Draft.{Draft}
-use Rattle.plan.specs.Plans.{Named, Range, Block, Able, madeBy, made, Ready}
+use Rattle.plan.specs.Plans.{Named, Range, Block, madeBy, made}
 use Rattle.commit.specs.Records.{Writes}
 
 -- the bytes that a label names, as a part of the source

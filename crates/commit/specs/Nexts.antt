@@ -7,8 +7,8 @@
 --   advanced, Advances     the numbers after so many tokens and value bytes, and that they fit
 --   Commits, Works         what `commit` asks of its plan, and of what the plan tells
 --   Committed              what it gives
-use Prim.Native.Nat.{ℕ, _+_, _*_, _/_, _≤_}
-use mathlib.Core.Bool.{Bool, true, false}
+use Prim.Native.Nat.{ℕ, _+_, _*_, _≤_}
+use mathlib.Core.Bool.{Bool, false}
 use mathlib.Core.List.{List}
 use mathlib.Core.Path.{_≡_}
 use lib.Dec.{eqb, leb}

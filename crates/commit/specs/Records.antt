@@ -21,7 +21,7 @@ use Rattle.outcome.specs.Outcomes.{Piece, values}
 use Rattle.outcome.specs.Insides.{AllInside}
 use Rattle.plan.specs.declared.Draft.{Draft}
 use Rattle.plan.specs.declared.Drafts.{Drafts}
-use Rattle.plan.specs.Plans.{made, piecesOf, Ready, AllReady}
+use Rattle.plan.specs.Plans.{piecesOf, Ready, AllReady}
 use Rattle.commit.specs.declared.Mark.{Mark}
 
 abbrev pub spanAt : List ℕ → Span → ℕ → Span

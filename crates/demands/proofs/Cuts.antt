@@ -3,11 +3,10 @@
 --   walk-longer   a walk over a part, with more announced: it is the walk over every longer script, or it waits somewhere on its way
 use Prim.Native.Nat.{ℕ, zero, suc, _+_, _≤_}
 use mathlib.Core.Path.{_≡_, refl, sym, ap, subst, _∙_}
-use mathlib.Core.Bool.{Bool, true, false, _&&_, false≢true}
+use mathlib.Core.Bool.{Bool, true, false, false≢true}
 use mathlib.Core.List.{List, [], _∷_, _++_, append-nil, append-assoc}
 use native.Mathlib.Omega.{arith}
 use native.Mathlib.Nat.{suc-add}
-use lib.Dec.{eqb}
 use lib.ListN.{length, length-append}
 use lib.Seq.{take-append-seam}
 use Rattle.source.specs.Words.{if_then_else_, every}
@@ -19,7 +18,6 @@ use Rattle.state.specs.Calls.{freshSession}
 use Rattle.state.specs.Gates.{tablesFit}
 use Rattle.state.proofs.Kept.{fresh-good}
 use Rattle.state.proofs.Longer.{every-part}
-use Rattle.outcome.specs.Steps.{stepOutcome}
 use Rattle.lexer.specs.Turns.{After}
 use Rattle.lexer.specs.Calls.{stepped}
 use Rattle.demands.specs.Walks.{goOn, walked, isWait, joined, fed}

@@ -2,30 +2,27 @@
 --   Sound          the session is good, and its marks are not past their tables
 --   settled-sound  of an outcome that lies within the source and changes the stack well
 --   step-sound, number-sound, single-sound, double-sound   of the calls
-use Prim.Native.Nat.{ℕ, zero, suc, _+_, _-_, _*_, _/_, _≤_, _<_}
-use mathlib.Core.Path.{_≡_, refl, sym, ap, subst, _∙_}
-use mathlib.Core.Bool.{Bool, true, false, _&&_, false≢true}
-use mathlib.Core.List.{List, [], _∷_, _++_}
+use Prim.Native.Nat.{ℕ, zero, suc, _+_, _-_, _*_, _/_, _≤_}
+use mathlib.Core.Path.{_≡_, refl, sym, subst, _∙_}
+use mathlib.Core.Bool.{Bool, true, false, false≢true}
+use mathlib.Core.List.{List, [], _∷_}
 use native.Mathlib.Omega.{arith}
 use lib.Dec.{eqb, leb}
-use lib.ListN.{length, getD, set, take, drop, length-take, length-drop, length-append}
-use lib.Seq.{getD-set-other}
-use borrow.Author.Tests.{leb-true, leb-false, le-leb, eqb-true}
-use Rattle.source.specs.Words.{if_then_else_, every}
-use Rattle.source.specs.Laid.{laid}
-use Rattle.source.specs.Cursor.{passed, origin}
+use lib.ListN.{length, getD, set}
+use borrow.Author.Tests.{leb-true, leb-false, eqb-true}
+use Rattle.source.specs.Cursor.{origin}
 use Rattle.source.specs.Refusals.{outOfPlace, wait}
 use Rattle.source.specs.declared.Span.{Span}
-use Rattle.source.proofs.Tests.{choice, &&-left, &&-right, &&-both, unrefused}
+use Rattle.source.proofs.Tests.{choice, &&-left, &&-both, unrefused}
 use Rattle.source.proofs.Laid.{length-laid}
 use Rattle.source.proofs.Words.{every-take, every-set}
 use Rattle.state.specs.declared.Frame.{Frame}
 use Rattle.state.specs.declared.Slot.{Slot}
 use Rattle.state.specs.declared.Session.{Session}
-use Rattle.state.specs.Bounds.{isFrame, isBottom, noSlot, isSlot, isStack, isWithin, isGood, fitsTables}
-use Rattle.state.specs.Calls.{spanOf, moved, entered, left}
-use Rattle.state.specs.Gates.{lentRefusal, tablesFit, sourceFits}
-use Rattle.state.proofs.Kept.{good-numbers, good-frames, good-bottom, good-slots, moved-good, entered-good, left-good}
+use Rattle.state.specs.Bounds.{isBottom, noSlot, isSlot, isStack, isWithin, isGood}
+use Rattle.state.specs.Calls.{spanOf, moved}
+use Rattle.state.specs.Gates.{lentRefusal}
+use Rattle.state.proofs.Kept.{good-numbers, good-bottom, good-slots, moved-good, entered-good, left-good}
 use Rattle.token.specs.Records.{roomRefusal}
 use Rattle.outcome.specs.declared.Change.{Change}
 use Rattle.outcome.specs.Outcomes.{Piece, Outcome, values}

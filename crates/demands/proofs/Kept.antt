@@ -9,7 +9,6 @@ use mathlib.Core.List.{List}
 use native.Mathlib.Omega.{arith}
 use lib.Dec.{eqb}
 use lib.ListN.{length}
-use Rattle.source.specs.Words.{if_then_else_}
 use Rattle.source.specs.Refusals.{outOfPlace, wait}
 use Rattle.source.specs.Cursor.{origin}
 use Rattle.source.specs.declared.Span.{Span}

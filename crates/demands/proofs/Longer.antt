@@ -2,33 +2,27 @@
 -- Assumes nothing.
 --   settled-append   what an outcome comes to
 --   gate-open        the gate, for a sound session and tables that are not too large
-use Prim.Native.Nat.{ℕ, _+_, _-_, _*_, _/_, _≤_}
-use mathlib.Core.Path.{_≡_, refl, sym, ap, _∙_}
-use mathlib.Core.Bool.{Bool, true, false, _&&_}
+use Prim.Native.Nat.{ℕ, _+_, _-_, _/_, _≤_}
+use mathlib.Core.Path.{_≡_, refl, ap}
+use mathlib.Core.Bool.{true}
 use mathlib.Core.List.{List, [], _∷_, _++_}
 use native.Mathlib.Omega.{arith}
-use lib.Dec.{eqb, leb}
 use lib.ListN.{length}
 use borrow.Author.Tests.{le-leb}
-use Rattle.source.specs.Words.{if_then_else_}
-use Rattle.source.specs.Laid.{laid}
 use Rattle.source.specs.Cursor.{passed}
-use Rattle.source.specs.Refusals.{wait}
 use Rattle.source.specs.declared.Span.{Span}
 use Rattle.source.proofs.Tests.{&&-both}
 use Rattle.state.specs.declared.Session.{Session}
-use Rattle.state.specs.Bounds.{isGood, fitsTables}
+use Rattle.state.specs.Bounds.{fitsTables}
 use Rattle.state.specs.Calls.{spanOf}
-use Rattle.state.specs.Gates.{checked, lentRefusal, tablesFit, sourceFits}
+use Rattle.state.specs.Gates.{lentRefusal, tablesFit, sourceFits}
 use Rattle.state.proofs.Longer.{good-append}
-use Rattle.token.specs.Records.{recordOf}
-use Rattle.outcome.specs.declared.Change.{Change}
-use Rattle.outcome.specs.Outcomes.{Piece, Outcome, values}
+use Rattle.outcome.specs.Outcomes.{Piece, Outcome}
 use Rattle.outcome.specs.Insides.{AllInside, Inside}
 use Rattle.outcome.specs.Texts.{slice}
 use Rattle.outcome.proofs.TextDemand.{slice-append}
 use Rattle.commit.specs.Records.{spanAt, records}
-use Rattle.lexer.specs.Turns.{After, changed, refusing, room, settled, written}
+use Rattle.lexer.specs.Turns.{settled}
 use Rattle.demands.proofs.Good.{Sound}
 
 module _ (part rest : List ℕ) where

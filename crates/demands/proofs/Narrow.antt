@@ -1,16 +1,15 @@
 -- The value bytes of a step are no more than the bytes it passed, and the cursor never goes back. Assumes nothing.
-use Prim.Native.Nat.{ℕ, _+_, _-_, _≤_}
+use Prim.Native.Nat.{ℕ, _-_, _≤_}
 use mathlib.Core.Bool.{Bool}
 use mathlib.Core.List.{List}
 use native.Mathlib.Omega.{arith}
 use lib.Dec.{eqb}
 use lib.ListN.{length}
-use Rattle.source.specs.Words.{if_then_else_}
 use Rattle.source.proofs.Tests.{choice}
 use Rattle.state.specs.declared.Session.{Session}
 use Rattle.state.specs.Calls.{spanOf}
 use Rattle.state.specs.Gates.{lentRefusal}
-use Rattle.outcome.specs.Outcomes.{Outcome, values}
+use Rattle.outcome.specs.Outcomes.{Outcome}
 use Rattle.outcome.specs.Insides.{Inside}
 use Rattle.outcome.specs.Steps.{topFrame, stepOutcome, numberOutcome, singleOutcome, doubleOutcome}
 use Rattle.outcome.proofs.Insides.{step-inside, number-inside, single-inside, double-inside}

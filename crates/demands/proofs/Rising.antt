@@ -1,20 +1,17 @@
 -- Positions of records never fall: a step writes its records behind the cursor, and the cursor never goes back. Assumes nothing.
 --   step-rising     where the records before have positions up to the cursor, so have the records after, up to the cursor after
 --   walk-rising     so from an empty list on, after any number of steps
-use Prim.Native.Nat.{ℕ, zero, suc, _+_, _-_, _*_, _/_, _≤_}
-use mathlib.Core.Path.{_≡_, refl, sym, ap, subst, _∙_}
-use mathlib.Core.Bool.{Bool, true, false}
+use Prim.Native.Nat.{ℕ, zero, suc, _+_, _-_, _*_, _≤_}
+use mathlib.Core.Path.{_≡_, refl, sym, ap, _∙_}
+use mathlib.Core.Bool.{Bool}
 use mathlib.Core.List.{List, [], _∷_, _++_, append-assoc}
 use native.Mathlib.Omega.{arith}
 use native.Mathlib.Nat.{zero-add, suc-add}
 use lib.Dec.{eqb}
-use lib.ListN.{length, getD, take, drop, length-take, length-drop}
+use lib.ListN.{length, getD, take, drop, length-drop}
 use lib.Seq.{drop-drop, drop-nil, take-nil, getD-take, take-at, drop-at, length-take-le}
 use borrow.Author.Tests.{eqb-true}
-use Rattle.source.specs.Words.{if_then_else_}
 use Rattle.source.specs.Laid.{laid}
-use Rattle.source.specs.Refusals.{wait}
-use Rattle.source.specs.Cursor.{origin}
 use Rattle.source.specs.declared.Span.{Span}
 use Rattle.source.proofs.Tests.{choice}
 use Rattle.source.proofs.Cursor.{passed-position}
@@ -22,18 +19,17 @@ use Rattle.state.specs.declared.Answer.{Answer}
 use Rattle.state.specs.declared.Session.{Session}
 use Rattle.state.specs.Calls.{spanOf}
 use Rattle.state.specs.Gates.{lentRefusal}
-use Rattle.token.specs.Records.{recordOf}
 use Rattle.outcome.specs.declared.Change.{Change}
 use Rattle.outcome.specs.Outcomes.{Piece, Outcome, values}
 use Rattle.outcome.specs.Insides.{AllInside, Inside}
 use Rattle.outcome.specs.Steps.{stepOutcome}
 use Rattle.outcome.proofs.Insides.{step-inside}
 use Rattle.commit.specs.Records.{spanAt, records}
-use Rattle.lexer.specs.Turns.{After, refusing, room, settled, written}
-use Rattle.lexer.specs.Calls.{gated, stepped}
+use Rattle.lexer.specs.Turns.{After, room, settled, written}
+use Rattle.lexer.specs.Calls.{stepped}
 use Rattle.demands.specs.Walks.{goOn, walked}
 use Rattle.demands.specs.Records.{positions, Rising}
-use Rattle.demands.proofs.Good.{Sound, StaysSound, step-sound, position-inside, room-facts, records-length}
+use Rattle.demands.proofs.Good.{Sound, step-sound, position-inside, room-facts}
 
 -- ---- positions of a list in two parts
 

@@ -5,21 +5,17 @@
 use Prim.Native.Nat.{ℕ, _+_, _/_, _≤_}
 use mathlib.Core.Path.{_≡_, refl, sym, ap, _∙_}
 use mathlib.Core.Bool.{Bool, true, false, false≢true}
-use mathlib.Core.List.{List, [], _∷_, _++_, append-nil}
-use mathlib.Core.Logic.{_↔_}
-use native.Mathlib.Omega.{arith}
+use mathlib.Core.List.{List, [], _++_, append-nil}
 use lib.Dec.{eqb, leb}
-use lib.ListN.{length, length-append}
-use Rattle.source.specs.Words.{if_then_else_, every}
-use Rattle.source.specs.Demand.{isByte, Apart, Waits}
+use lib.ListN.{length}
+use Rattle.source.specs.Words.{every}
+use Rattle.source.specs.Demand.{isByte, Waits}
 use Rattle.source.specs.Refusals.{wait}
 use Rattle.source.proofs.Tests.{choice}
-use Rattle.state.specs.declared.Answer.{Answer}
 use Rattle.state.specs.declared.Session.{Session}
-use Rattle.state.specs.Bounds.{isGood}
 use Rattle.state.specs.Gates.{lentRefusal, tablesFit}
 use Rattle.token.specs.Records.{roomRefusal}
-use Rattle.outcome.specs.Outcomes.{Piece, Outcome, values}
+use Rattle.outcome.specs.Outcomes.{Outcome, values}
 use Rattle.outcome.specs.Insides.{Inside}
 use Rattle.outcome.specs.Steps.{topFrame, stepOutcome, numberOutcome, singleOutcome, doubleOutcome}
 use Rattle.outcome.proofs.Insides.{step-inside, number-inside, single-inside, double-inside}
@@ -28,7 +24,7 @@ use Rattle.outcome.proofs.StepDemand.{step-waits, step-never-waits, number-outc
 use Rattle.outcome.proofs.StepDemand.{single-outcome-waits, single-outcome-never-waits, double-outcome-waits, double-outcome-never-waits}
 use Rattle.commit.specs.Nexts.{answerOf}
 use Rattle.lexer.specs.Turns.{After, room, settled}
-use Rattle.lexer.specs.Calls.{gated, isScripting, stepped, reading, readNumber, readSingle, readDouble}
+use Rattle.lexer.specs.Calls.{isScripting, stepped, reading, readNumber, readSingle, readDouble}
 use Rattle.demands.specs.Walks.{isWait}
 use Rattle.demands.specs.Waits.{WaitsExactly}
 use Rattle.demands.proofs.Good.{Sound, position-inside}

@@ -2,9 +2,7 @@
 use Prim.Native.Nat.{ℕ}
 use mathlib.Core.Path.{_≡_, _∙_}
 use mathlib.Core.List.{List}
-use lib.Dec.{eqb}
 use borrow.Author.Tests.{eq-eqb, ne-eqb}
-use Rattle.source.specs.Words.{if_then_else_}
 use Rattle.source.specs.Laid.{laid}
 use Rattle.state.specs.declared.Answer.{Answer}
 use Rattle.state.specs.declared.Turn.{Turn}

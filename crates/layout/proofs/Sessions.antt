@@ -1,16 +1,13 @@
 -- A session's numbers on each way through the functions that read and write them. Assumes nothing.
 use Prim.Native.Nat.{ℕ, zero, suc, _+_, _*_, _-_, _≤_, _<_}
 use mathlib.Core.Path.{_≡_, refl, sym, ap, _∙_}
-use mathlib.Core.Bool.{Bool, true, false, not, _&&_, _||_}
-use mathlib.Core.List.{List, [], _∷_, _++_, append-assoc, append-nil}
+use mathlib.Core.List.{List, [], _∷_, _++_}
 use native.Mathlib.Omega.{arith}
 use native.Mathlib.Numerals.{add-one}
 use native.Mathlib.Nat.{add-zero, add-comm}
-use lib.Dec.{leb, eqb}
 use lib.ListN.{length, getD, take, drop, set, length-append, length-set}
 use lib.Seq.{sets-eq, getD-drop, drop-drop, take-all, take-suc-set}
-use borrow.Author.Tests.{le-leb, lt-leb, leb-true, eq-eqb, ne-eqb, eqb-true}
-use Rattle.source.specs.Words.{if_then_else_}
+use borrow.Author.Tests.{le-leb, lt-leb, eq-eqb, ne-eqb}
 use Rattle.source.specs.Laid.{laid}
 use Rattle.source.proofs.Laid.{laid-append, laid-rest, length-laid, Writing, writing-first, writing-on, writing-end}
 use Rattle.state.specs.declared.Label.{Label}
@@ -19,7 +16,7 @@ use Rattle.state.specs.declared.Slot.{Slot}
 use Rattle.state.specs.declared.Reading.{Reading}
 use Rattle.state.specs.declared.Session.{Session}
 use Rattle.state.specs.Bounds.{noSlot}
-use Rattle.layout.specs.Sessions.{noLabel, frameNumber, labelOf, slotNumbers, framesNumbers, readingNumber, headNumbers, numbersOf, isLabelNumbers, labelIn, frameIn, slotIn, framesIn, readingIn, depthIn, sessionIn}
+use Rattle.layout.specs.Sessions.{noLabel, frameNumber, labelOf, slotNumbers, framesNumbers, readingNumber, headNumbers, numbersOf, labelIn, frameIn, slotIn, framesIn, readingIn, depthIn, sessionIn}
 
 -- a label in two numbers
 module _ (start len : ℕ) where

@@ -9,7 +9,6 @@ use mathlib.Core.Path.{_≡_}
 use lib.Dec.{eqb}
 use Rattle.source.specs.Words.{if_then_else_}
 use Rattle.source.specs.Laid.{laid}
-use Rattle.source.specs.declared.Span.{Span}
 use Rattle.state.specs.declared.Answer.{Answer}
 use Rattle.state.specs.declared.Turn.{Turn}
 use Rattle.layout.specs.Sessions.{numbersOf}

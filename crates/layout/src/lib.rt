@@ -10,10 +10,10 @@ use state::Turn;
 ghost use mathlib.Core.Path.{_≡_};
 ghost use mathlib.Core.List.{[], _∷_};
 ghost use Prim.Native.Nat.{_+_, _≤_};
-ghost use lib.ListN.{length, getD, drop};
+ghost use lib.ListN.{length, drop};
 ghost use Rattle.source.specs.Laid.{laid};
 ghost use Rattle.layout.specs.Sessions.{frameNumber, labelOf, slotNumbers, framesNumbers, readingNumber, headNumbers, numbersOf, labelIn, frameIn, slotIn, readingIn, depthIn, sessionIn};
-ghost use Rattle.layout.specs.Answers.{answerNumbers, refusalIn, sessionAfter, Turned, Stored};
+ghost use Rattle.layout.specs.Answers.{answerNumbers, refusalIn, Turned, Stored};
 
 // The label in two numbers; one of no bytes where a number has more than 16 bits.
 fn label_in(start: u32, len: u32) -> Label

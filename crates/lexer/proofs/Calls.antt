@@ -3,16 +3,15 @@
 --   settles             from a plan to a turn, behind the gate
 --   settled-moved, stepped-moved   a step that only passes bytes
 --   steps; numbers, singles, doubles   the step; the three readings, told over the outcome that the reading has
-use Prim.Native.Nat.{ℕ, _+_, _-_, _*_, _/_, _≤_, _<_}
+use Prim.Native.Nat.{ℕ, _*_, _/_, _≤_}
 use mathlib.Core.Path.{_≡_, refl, sym, ap, _∙_}
 use mathlib.Core.Bool.{Bool, true, false, not, _&&_}
 use mathlib.Core.List.{List, []}
 use native.Mathlib.Omega.{arith}
 use native.Mathlib.Nat.{add-zero}
-use lib.Dec.{eqb, leb, ltb}
+use lib.Dec.{leb}
 use lib.ListN.{length, drop}
 use borrow.Author.Tests.{leb-true, eq-eqb, ne-eqb, lt-ltb, not-true, not-false}
-use Rattle.source.specs.Words.{if_then_else_}
 use Rattle.source.specs.Cursor.{origin, Reaches}
 use Rattle.source.specs.declared.Span.{Span}
 use Rattle.source.proofs.Tests.{&&-left, &&-right, unrefused}
@@ -38,14 +37,14 @@ use Rattle.outcome.specs.Steps.{topFrame, framed, rest, stepOutcome, numberOutc
 use Rattle.outcome.proofs.Insides.{frame-inside, number-inside, single-inside, double-inside}
 use Rattle.outcome.proofs.Changes.{Limited, literal-room, numbered-room}
 use Rattle.plan.specs.declared.Plan.{Plan}
-use Rattle.plan.specs.Plans.{outcomeOf, PlanReady, Plans, Here}
+use Rattle.plan.specs.Plans.{outcomeOf, Plans, Here}
 use Rattle.commit.specs.declared.Next.{Next}
 use Rattle.commit.specs.declared.Mark.{Mark}
 use Rattle.modes.specs.Passes.{Passes}
-use Rattle.commit.specs.Records.{spanAt, records, Cursor, Marked}
-use Rattle.commit.specs.Nexts.{nextOf, listAfter, poolAfter, Commits, Committed}
-use Rattle.lexer.specs.Turns.{After, Gives, framesAfter, depthAfter, refusing, settled}
-use Rattle.lexer.specs.Calls.{isScripting, gated, stepped, reading, readNumber, readSingle, readDouble}
+use Rattle.commit.specs.Records.{spanAt, records, Cursor}
+use Rattle.commit.specs.Nexts.{Commits, Committed}
+use Rattle.lexer.specs.Turns.{After, Gives, framesAfter, depthAfter, settled}
+use Rattle.lexer.specs.Calls.{isScripting, gated, stepped, reading}
 use Rattle.lexer.specs.Nexts.{markOf, turnOf, Stacked, Turning, Settles}
 use Rattle.lexer.proofs.Nexts.{limited-free, settled-next, settled-list, settled-pool}
 

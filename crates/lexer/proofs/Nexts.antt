@@ -1,6 +1,6 @@
 -- The session behind a step: what `turned` makes of a next is what `settled` says. Assumes nothing.
-use Prim.Native.Nat.{ℕ, _+_, _-_, _≤_, _<_}
-use mathlib.Core.Path.{_≡_, refl, sym, ap, _∙_}
+use Prim.Native.Nat.{ℕ, _+_, _-_, _<_}
+use mathlib.Core.Path.{_≡_, refl}
 use mathlib.Core.Bool.{Bool, true, false}
 use mathlib.Core.List.{List}
 use lib.Dec.{eqb, ltb}
@@ -18,8 +18,8 @@ use Rattle.outcome.specs.declared.Change.{Change}
 use Rattle.outcome.specs.Outcomes.{Piece, Outcome, limited}
 use Rattle.commit.specs.declared.Next.{Next}
 use Rattle.commit.specs.declared.Mark.{Mark}
-use Rattle.commit.specs.Nexts.{stays, advances, roomFor, nextOf, listAfter, poolAfter, isFull, Committed}
-use Rattle.lexer.specs.Turns.{After, Gives, framesAfter, depthAfter, changed, refusing, written, room, settled}
+use Rattle.commit.specs.Nexts.{stays, advances, roomFor, nextOf, listAfter, poolAfter, isFull}
+use Rattle.lexer.specs.Turns.{After, framesAfter, depthAfter, refusing, written, room, settled}
 use Rattle.lexer.specs.Nexts.{markOf, turnOf, Turning}
 
 pub markOf-made : (s : Session) (span : Span) → span ≡ spanOf s

@@ -4,7 +4,7 @@
 --   turnOf     the turn that a next makes of a session
 --   Turning    the frame that a next enters has a place in the stack
 --   Settles    the gate is open, and the plan can be written
-use Prim.Native.Nat.{ℕ, _<_, _≤_}
+use Prim.Native.Nat.{ℕ, _≤_}
 use mathlib.Core.Bool.{Bool, false}
 use mathlib.Core.List.{List}
 use mathlib.Core.Path.{_≡_}

@@ -17,7 +17,6 @@ use Rattle.source.specs.Refusals.{wait}
 use Rattle.source.specs.declared.Span.{Span}
 use Rattle.state.specs.declared.Slot.{Slot}
 use Rattle.state.specs.declared.Session.{Session}
-use Rattle.state.specs.declared.Answer.{Answer}
 use Rattle.state.specs.declared.Turn.{Turn}
 use Rattle.state.specs.Calls.{spanOf, refused}
 use Rattle.token.specs.Records.{roomRefusal}

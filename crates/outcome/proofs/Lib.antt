@@ -2,6 +2,7 @@ pub mod Initials
 pub mod Openings
 pub mod Pieces
 pub mod Comments
+pub mod Ways
 pub mod Insides
 pub mod Changes
 pub mod Demand

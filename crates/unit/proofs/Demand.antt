@@ -27,6 +27,7 @@ use Rattle.unit.proofs.Openings.{Plainly, Quiet, oneMore, oneMore-quiet
 use Rattle.unit.proofs.Openings.{crooked, Opening, falls, faults, splits, closes, byte-told, point-told, stop-told}
 use Rattle.unit.proofs.Openings.{fault-told}
 use Rattle.unit.proofs.Opens.{unit-waits}
+use Rattle.unit.proofs.Stands.{enters}
 
 -- ---- what is told of a reading stays
 
@@ -67,17 +68,6 @@ module _ (m : Mode) (label : List ℕ) (h : Labelled m label) where
       k
 
 -- ---- a wait has two continuations apart
-
--- whether a frame is entered at a stop
-abbrev pub enters : Stop → Bool
-enters Stop.DollarLeftBrace = true
-enters Stop.LeftBrace = true
-enters (Stop.Variable Follow.Offset) = true
-enters (Stop.Variable Follow.Property) = true
-enters (Stop.Variable Follow.Other) = false
-enters Stop.Quote = false
-enters Stop.Interpolation = false
-enters (Stop.Label ind amount) = false
 
 -- what a reading comes to where no frame may be entered: a refusal and its place, be it of a 65th frame, at q; of a text nothing else
 abbrev pub ending : ℕ → Reading → Reading

@@ -1,4 +1,6 @@
 pub mod Stays
+pub mod Stands
+pub mod Lies
 pub mod Inside
 pub mod Openings
 pub mod Opens

@@ -1,0 +1,512 @@
+-- What stands at a place of a text, told once for every mode: where a unit goes on, what its value is of, where it ends a text; and what
+-- a reading is then. All other laws on units and readings are cases of these two.
+--   unit-stands       Stands m n b (n + 1 + length rest) (unitAt m label end n b rest)
+--   collected-skip    a reading that has k bytes to pass is the reading from k bytes on
+--   collected-turn    a reading is its first unit and the reading from behind that unit
+--   text-stands       StandsReading m n (n + length xs) xs (textAt m label end n xs)
+-- Each law is its definition again, with `if-stands` for a choice. Assumes nothing.
+use Prim.Native.Nat.{ℕ, zero, suc, _+_, _-_, _*_, _≤_, _<_}
+use Prim.Native.Char.{Char, code}
+use mathlib.Core.Path.{_≡_, refl, sym, ap, _∙_}
+use mathlib.Core.Bool.{Bool, true, false, _&&_, _||_, false≢true}
+use mathlib.Core.List.{List, [], _∷_}
+use native.Mathlib.Omega.{arith}
+use lib.Dec.{ltb, leb, eqb}
+use lib.ListN.{length, take, drop, length-append}
+use borrow.Author.Tests.{eqb-true, ltb-true}
+use Rattle.source.specs.Refusals.{wait}
+use Rattle.source.specs.Words.{if_then_else_, _is_}
+use Rattle.source.specs.Bytes.{isStart, isIdentifier, isBlank}
+use Rattle.source.proofs.Tests.{choice, &&-left, &&-right}
+use Rattle.unit.specs.declared.Follow.{Follow}
+use Rattle.unit.specs.declared.Indentation.{Indentation}
+use Rattle.unit.specs.declared.Look.{Look}
+use Rattle.unit.specs.declared.Match.{Match}
+use Rattle.unit.specs.declared.Mode.{Mode}
+use Rattle.unit.specs.declared.Stop.{Stop}
+use Rattle.unit.specs.declared.TextUnit.{TextUnit}
+use Rattle.unit.specs.Digits.{digitValue, isScalar, utf8}
+use Rattle.unit.specs.Escapes.{letterValue, fitted, digits, hex, codePoint, braced, escape, quoteEscape}
+use Rattle.unit.specs.Interpolations.{follow, variable, name, dollar, brace, findDollar, findBrace}
+use Rattle.unit.specs.Closers.{matched, indented, closer, judged, line}
+use Rattle.unit.specs.Units.{unitAt}
+use Rattle.unit.specs.Readings.{Reading, Text, Refused, Wait, onto, taken, afterOf, collected, trimmed}
+use Rattle.unit.specs.Readings.{losesBreak, finished, textAt, gap, textEnd}
+use Rattle.unit.proofs.Stays.{clash}
+
+-- a literal leaves its interpolations to `double_quote`: it enters no frame, and only it may end where it starts
+abbrev pub isLiteral : Mode → Bool
+isLiteral Mode.Single = true
+isLiteral Mode.Double = true
+isLiteral Mode.DoubleQuote = false
+isLiteral Mode.ShellExec = false
+isLiteral Mode.Heredoc = false
+isLiteral Mode.Nowdoc = false
+
+-- whether a frame is entered at a stop
+abbrev pub enters : Stop → Bool
+enters Stop.DollarLeftBrace = true
+enters Stop.LeftBrace = true
+enters (Stop.Variable Follow.Offset) = true
+enters (Stop.Variable Follow.Property) = true
+enters (Stop.Variable Follow.Other) = false
+enters Stop.Quote = false
+enters Stop.Interpolation = false
+enters (Stop.Label ind amount) = false
+
+-- a byte of the value: one that passes no other is b itself
+pub record ByteStands (n b hi value after : ℕ) : Type 0 where
+  pub on : n < after
+  pub inside : after ≤ hi
+  pub own : after ≤ suc n → value ≡ b
+
+-- a code point passes more bytes than it has
+pub record PointStands (n hi c after : ℕ) : Type 0 where
+  pub narrow : n + length (utf8 c) < after
+  pub inside : after ≤ hi
+  pub small : c < 0x110000
+
+-- a stop stands behind its gap
+pub record StopStands (literal : Bool) (n hi : ℕ) (stop : Stop) (from after : ℕ) : Type 0 where
+  pub place : n + gap stop ≡ from
+  pub order : from ≤ after
+  pub inside : after ≤ hi
+  pub on : literal ≡ false → n < after
+  pub keeps : literal ≡ true → enters stop ≡ false
+
+-- a refusal, which is not the wait
+pub record FaultStands (n hi number place : ℕ) : Type 0 where
+  pub told : eqb number wait ≡ false
+  pub on : n ≤ place
+  pub inside : place ≤ hi
+
+-- a unit at n, where b stands
+abbrev pub Stands : Bool → ℕ → ℕ → ℕ → TextUnit → Type 0
+Stands literal n b hi (TextUnit.Byte value after) = ByteStands n b hi value after
+Stands literal n b hi (TextUnit.Point c after) = PointStands n hi c after
+Stands literal n b hi (TextUnit.Ends stop from after) = StopStands literal n hi stop from after
+Stands literal n b hi (TextUnit.Fault number place) = FaultStands n hi number place
+Stands literal n b hi TextUnit.Undecided = Unit {0}
+
+abbrev AtMostFour : List ℕ → Type 0
+AtMostFour vs = length vs ≤ 4
+
+pub utf8-length : (c : ℕ) → length (utf8 c) ≤ 4
+unfolding utf8
+utf8-length c =
+    choice AtMostFour (ltb c 0x80) _ _ (λ e. omega arith)
+    (λ e. choice AtMostFour (ltb c 0x800) _ _ (λ f. omega arith)
+    (λ f. choice AtMostFour (ltb c 0x10000) _ _ (λ g. omega arith) (λ g. omega arith)))
+
+scalar-small : (c : ℕ) → isScalar c ≡ true → c < 0x110000
+unfolding isScalar
+scalar-small c e = go (ltb c 0xD800) refl e
+  where
+    go : (t : Bool) → ltb c 0xD800 ≡ t → (t || (leb 0xE000 c && ltb c 0x110000)) ≡ true → c < 0x110000
+    go true h f = omega (arith, ltb-true c 0xD800 h)
+    go false h f = ltb-true c 0x110000 (&&-right (leb 0xE000 c) (ltb c 0x110000) f)
+
+pub matched-length : (label ys : List ℕ) → matched label ys ≡ Match.Whole → length label ≤ length ys
+unfolding matched
+matched-length [] ys h = omega arith
+matched-length (a ∷ label) [] h = clash cc
+matched-length (a ∷ label) (y ∷ ys) h = go (eqb a y) (matched-length label ys) h
+  where
+    go : (t : Bool) → (matched label ys ≡ Match.Whole → length label ≤ length ys)
+        → (if t then matched label ys else Match.Other) ≡ Match.Whole
+        → suc (length label) ≤ suc (length ys)
+    go true shorter e = omega (arith, shorter e)
+    go false shorter e = clash cc
+
+module _ (literal : Bool) (n b hi : ℕ) where
+  if-stands : (t : Bool) (u v : TextUnit) → Stands literal n b hi u → Stands literal n b hi v
+      → Stands literal n b hi (if t then u else v)
+  if-stands t u v x y = choice (Stands literal n b hi) t u v (λ e. x) (λ e. y)
+
+  -- a byte that stands for itself, one that passes another, a refusal
+  itself : {value : ℕ} → value ≡ b → n < hi → ByteStands n b hi value (suc n)
+  itself e h = record { on = omega arith; inside = h; own = λ x. e }
+
+  passing : {value after : ℕ} → n + 2 ≤ after → after ≤ hi → ByteStands n b hi value after
+  passing x y = record { on = omega arith; inside = y; own = λ z. absurd (omega arith) }
+
+  fault : {number place : ℕ} → eqb number wait ≡ false → n ≤ place → place ≤ hi → FaultStands n hi number place
+  fault k x y = record { told = k; on = x; inside = y }
+
+  -- ---- escapes
+
+  fitted-stands : (value p : ℕ) → n + 2 ≤ p → p ≤ hi → Stands literal n b hi (fitted value p)
+  unfolding fitted
+  fitted-stands value p x y = if-stands (ltb value 256) _ _ (passing x y) (fault refl (omega arith) y)
+
+  digits-stands : (end : Bool) (base left value p : ℕ) (xs : List ℕ) → n + 2 ≤ p → p + length xs ≤ hi
+      → Stands literal n b hi (digits end base left value p xs)
+  unfolding digits
+  digits-stands end base zero value p xs x y = fitted-stands value p x (omega arith)
+  digits-stands end base (suc left) value p [] x y = if-stands end _ _ (fitted-stands value p x (omega arith)) tt
+  digits-stands end base (suc left) value p (c ∷ xs) x y =
+      if-stands (ltb (digitValue c) base) _ _
+      (digits-stands end base left (value * base + digitValue c) (suc p) xs (omega arith) (omega arith))
+      (fitted-stands value p x (omega arith))
+
+  -- behind `\u{` and, where there are some, a digit
+  codePoint-stands : (end some : Bool) (value p : ℕ) (xs : List ℕ) → n + 3 ≤ p → (some ≡ true → n + 4 ≤ p) → p + length xs ≤ hi
+      → Stands literal n b hi (codePoint end some value p xs)
+  unfolding codePoint
+  codePoint-stands end some value p [] x w y = if-stands end _ _ (fault refl (omega arith) (omega arith)) tt
+  codePoint-stands end some value p (c ∷ xs) x w y =
+      if-stands (ltb (digitValue c) 16) _ _
+      (codePoint-stands end true (value * 16 + digitValue c) (suc p) xs (omega arith) (λ e. omega arith) (omega arith))
+      (choice (Stands literal n b hi) (some && c is "}") _ _
+      (λ e. choice (Stands literal n b hi) (isScalar value) _ _
+      (λ f.
+      record {
+        narrow = omega (arith, utf8-length value, w (&&-left some (c is "}") e));
+        inside = omega arith;
+        small = scalar-small value f;
+      })
+      (λ f. fault refl (omega arith) (omega arith)))
+      (λ e. fault refl (omega arith) (omega arith)))
+
+  -- the backslash, where it stands for itself
+  module _ (end : Bool) (same : code "\\" ≡ b) where
+    hex-stands : (xs : List ℕ) → n + 2 + length xs ≤ hi → Stands literal n b hi (hex end (suc n) xs)
+    unfolding hex
+    hex-stands [] y = if-stands end _ _ (itself same (omega arith)) tt
+    hex-stands (c ∷ xs) y =
+        if-stands (ltb (digitValue c) 16) _ _
+        (digits-stands end 16 1 (digitValue c) (suc (suc (suc n))) xs (omega arith) (omega arith))
+        (itself same (omega arith))
+
+    braced-stands : (xs : List ℕ) → n + 2 + length xs ≤ hi → Stands literal n b hi (braced end (suc n) xs)
+    unfolding braced
+    braced-stands [] y = if-stands end _ _ (itself same (omega arith)) tt
+    braced-stands (c ∷ xs) y =
+        if-stands (c is "{") _ _
+        (codePoint-stands end false 0 (suc (suc (suc n))) xs (omega arith) (λ e. absurd (false≢true e)) (omega arith))
+        (itself same (omega arith))
+
+    escape-stands : (xs : List ℕ) → suc n + length xs ≤ hi → Stands literal n b hi (escape end (suc n) xs)
+    unfolding escape
+    escape-stands [] y = if-stands end _ _ (itself same (omega arith)) tt
+    escape-stands (c ∷ xs) y =
+        if-stands (ltb (letterValue c) 256) _ _ (passing (omega arith) (omega arith))
+        (if-stands (ltb (digitValue c) 8) _ _
+        (digits-stands end 8 2 (digitValue c) (suc (suc n)) xs (omega arith) (omega arith))
+        (if-stands (c is "x") _ _ (hex-stands xs (omega arith))
+        (if-stands (c is "u") _ _ (braced-stands xs (omega arith)) (itself same (omega arith)))))
+
+    quoteEscape-stands : (xs : List ℕ) → suc n + length xs ≤ hi → Stands literal n b hi (quoteEscape end (suc n) xs)
+    unfolding quoteEscape
+    quoteEscape-stands [] y = if-stands end _ _ (itself same (omega arith)) tt
+    quoteEscape-stands (c ∷ xs) y =
+        if-stands (c is "'" || c is "\\") _ _ (passing (omega arith) (omega arith)) (itself same (omega arith))
+
+  -- ---- a stop at n: of a mode that enters frames, of a literal, of either
+
+  module _ (end : Bool) (other : literal ≡ false) where
+    entering : {stop : Stop} {after : ℕ} → gap stop ≡ 0 → n < after → after ≤ hi → StopStands literal n hi stop n after
+    entering g x y =
+        record {
+          place = omega arith;
+          order = omega arith;
+          inside = y;
+          on = λ e. x;
+          keeps = λ e. absurd (false≢true (sym other ∙ e));
+        }
+
+    variable-stands : (p : ℕ) (l : Look) → n < p → p ≤ hi → Stands literal n b hi (variable n p l)
+    unfolding variable gap
+    variable-stands p (Look.Settled f) x y = entering refl x y
+    variable-stands p Look.Undecided x y = tt
+
+    name-stands : (p : ℕ) (xs : List ℕ) → n < p → p + length xs ≤ hi → Stands literal n b hi (name end n p xs)
+    unfolding name
+    name-stands p [] x y = variable-stands p (follow end []) x (omega arith)
+    name-stands p (c ∷ xs) x y =
+        if-stands (isIdentifier c) _ _ (name-stands (suc p) xs (omega arith) (omega arith))
+        (variable-stands p (follow end (c ∷ xs)) x (omega arith))
+
+    dollar-stands : (xs : List ℕ) → suc n + length xs ≤ hi → code "$" ≡ b → Stands literal n b hi (dollar end n xs)
+    unfolding dollar gap
+    dollar-stands [] y e = if-stands end _ _ (itself e (omega arith)) tt
+    dollar-stands (c ∷ xs) y e =
+        if-stands (c is "{") _ _ (entering refl (omega arith) (omega arith))
+        (if-stands (isStart c) _ _ (name-stands (suc (suc n)) xs (omega arith) (omega arith)) (itself e (omega arith)))
+
+    brace-stands : (xs : List ℕ) → suc n + length xs ≤ hi → code "{" ≡ b → Stands literal n b hi (brace end n xs)
+    unfolding brace gap
+    brace-stands [] y e = if-stands end _ _ (itself e (omega arith)) tt
+    brace-stands (c ∷ xs) y e = if-stands (c is "$") _ _ (entering refl (omega arith) (omega arith)) (itself e (omega arith))
+
+  module _ (end : Bool) (own : literal ≡ true) where
+    found-stands : n ≤ hi → StopStands literal n hi Stop.Interpolation n n
+    unfolding gap
+    found-stands y =
+        record { place = omega arith; order = omega arith; inside = y; on = λ e. absurd (false≢true (sym e ∙ own)); keeps = λ e. refl }
+
+    findDollar-stands : (xs : List ℕ) → suc n + length xs ≤ hi → code "$" ≡ b → Stands literal n b hi (findDollar end n xs)
+    unfolding findDollar
+    findDollar-stands [] y e = if-stands end _ _ (itself e (omega arith)) tt
+    findDollar-stands (c ∷ xs) y e = if-stands (c is "{" || isStart c) _ _ (found-stands (omega arith)) (itself e (omega arith))
+
+    findBrace-stands : (xs : List ℕ) → suc n + length xs ≤ hi → code "{" ≡ b → Stands literal n b hi (findBrace end n xs)
+    unfolding findBrace
+    findBrace-stands [] y e = if-stands end _ _ (itself e (omega arith)) tt
+    findBrace-stands (c ∷ xs) y e = if-stands (c is "$") _ _ (found-stands (omega arith)) (itself e (omega arith))
+
+  quote-stands : suc n ≤ hi → StopStands literal n hi Stop.Quote n (suc n)
+  unfolding gap
+  quote-stands y = record { place = omega arith; order = omega arith; inside = y; on = λ e. omega arith; keeps = λ e. refl }
+
+  -- ---- closers
+
+  label-stands : (ind : Indentation) (amount after : ℕ) → suc n + amount ≤ after → after ≤ hi
+      → StopStands literal n hi (Stop.Label ind amount) (suc n + amount) after
+  unfolding gap
+  label-stands ind amount after x y =
+      record { place = omega arith; order = x; inside = y; on = λ e. omega arith; keeps = λ e. refl }
+
+  closer-stands : (size : ℕ) (ind : Indentation) (amount : ℕ) → suc n + amount + size ≤ hi
+      → Stands literal n b hi (closer size ind amount (suc n + amount))
+  unfolding closer
+  closer-stands size Indentation.None amount y = label-stands Indentation.None amount _ (omega arith) y
+  closer-stands size Indentation.Space amount y = label-stands Indentation.Space amount _ (omega arith) y
+  closer-stands size Indentation.Tab amount y = label-stands Indentation.Tab amount _ (omega arith) y
+  closer-stands size Indentation.Mixed amount y = fault refl (omega arith) (omega arith)
+
+  module _ (label : List ℕ) (end : Bool) (same : code "\n" ≡ b) where
+    judged-stands : (ind : Indentation) (amount : ℕ) (ys : List ℕ) → suc n + amount + length ys ≤ hi
+        → Stands literal n b hi (judged (matched label ys) end n (closer (length label) ind amount (suc n + amount)))
+    unfolding judged
+    judged-stands ind amount ys y = go (matched label ys) (matched-length label ys)
+      where
+        go : (m : Match) → (m ≡ Match.Whole → length label ≤ length ys)
+            → Stands literal n b hi (judged m end n (closer (length label) ind amount (suc n + amount)))
+        go Match.Whole h = closer-stands (length label) ind amount (omega (arith, h refl))
+        go Match.Other h = itself same (omega arith)
+        go Match.Undecided h = if-stands end _ _ (itself same (omega arith)) tt
+
+    line-stands : (ind : Indentation) (amount : ℕ) (xs : List ℕ) → suc n + amount + length xs ≤ hi
+        → Stands literal n b hi (line label end n ind amount xs)
+    unfolding line
+    line-stands ind amount [] y = judged-stands ind amount [] y
+    line-stands ind amount (c ∷ xs) y =
+        if-stands (isBlank c) _ _ (line-stands (indented ind c) (suc amount) xs (omega arith))
+        (judged-stands ind amount (c ∷ xs) y)
+
+-- ---- the six modes
+
+module _ (n b : ℕ) (rest : List ℕ) (label : List ℕ) (end : Bool) where
+  abbrev hi : ℕ
+  hi = n + 1 + length rest
+
+  -- where b is this byte, the first; else the other
+  at-byte : (literal : Bool) (c : Char) (u v : TextUnit) → (code c ≡ b → Stands literal n b hi u) → Stands literal n b hi v
+      → Stands literal n b hi (if b is c then u else v)
+  at-byte literal c u v x y = choice (Stands literal n b hi) (b is c) u v (λ e. x (sym (eqb-true b (code c) e))) (λ e. y)
+
+  plain-stands : ByteStands n b hi b (suc n)
+  plain-stands = itself true n b hi refl (omega arith)
+
+  quoted : (literal : Bool) → StopStands literal n hi Stop.Quote n (suc n)
+  quoted literal = quote-stands literal n b hi (omega arith)
+
+  escaped : (literal : Bool) → code "\\" ≡ b → Stands literal n b hi (escape end (suc n) rest)
+  escaped literal e = escape-stands literal n b hi end e rest (omega arith)
+
+  -- `$` and `{` of a mode that enters frames
+  signs : Stands false n b hi (if b is "$" then dollar end n rest else if b is "{" then brace end n rest else TextUnit.Byte b (suc n))
+  signs =
+      at-byte false "$" _ _ (dollar-stands false n b hi end refl rest (omega arith))
+      (at-byte false "{" _ _ (brace-stands false n b hi end refl rest (omega arith)) plain-stands)
+
+  lined : code "\n" ≡ b → Stands false n b hi (line label end n Indentation.None 0 rest)
+  lined e = line-stands false n b hi label end e Indentation.None 0 rest (omega arith)
+
+  pub unit-stands : (m : Mode) → Stands (isLiteral m) n b hi (unitAt m label end n b rest)
+  unfolding unitAt
+  unit-stands Mode.Single =
+      at-byte true "'" _ _ (λ e. quoted true)
+      (at-byte true "\\" _ _ (λ e. quoteEscape-stands true n b hi end e rest (omega arith)) plain-stands)
+  unit-stands Mode.Double =
+      at-byte true "\"" _ _ (λ e. quoted true)
+      (at-byte true "\\" _ _ (escaped true)
+      (at-byte true "$" _ _ (findDollar-stands true n b hi end refl rest (omega arith))
+      (at-byte true "{" _ _ (findBrace-stands true n b hi end refl rest (omega arith)) plain-stands)))
+  unit-stands Mode.DoubleQuote = at-byte false "\"" _ _ (λ e. quoted false) (at-byte false "\\" _ _ (escaped false) signs)
+  unit-stands Mode.ShellExec = at-byte false "`" _ _ (λ e. quoted false) signs
+  unit-stands Mode.Heredoc = at-byte false "\n" _ _ lined (at-byte false "\\" _ _ (escaped false) signs)
+  unit-stands Mode.Nowdoc = at-byte false "\n" _ _ lined plain-stands
+
+-- ---- readings
+
+module _ (m : Mode) (label : List ℕ) (end : Bool) where
+  pub collected-skip : (k n : ℕ) (xs : List ℕ) → k ≤ length xs
+      → collected m label end k n xs ≡ collected m label end 0 (n + k) (drop k xs)
+  unfolding collected
+  collected-skip zero n xs h =
+      let z : n ≡ n + 0 = omega arith in
+      ap (λ i. collected m label end 0 i xs) z
+  collected-skip (suc k) n [] h = absurd (omega arith)
+  collected-skip (suc k) n (b ∷ xs) h =
+      let z : suc n + k ≡ n + suc k = omega arith in
+      collected-skip k (suc n) xs (omega arith) ∙ ap (λ i. collected m label end 0 i (drop k xs)) z
+
+  pub collected-turn : (n b : ℕ) (rest : List ℕ) (u : TextUnit) → u ≡ unitAt m label end n b rest
+      → collected m label end 0 n (b ∷ rest) ≡ taken u (collected m label end 0 (afterOf u) (drop (afterOf u - (n + 1)) rest))
+  unfolding collected taken afterOf
+  collected-turn n b rest u e = rw (← e) (go u (rw (← e) at (unit-stands n b rest label end m)))
+    where
+      later : (after : ℕ) → n < after → after ≤ n + 1 + length rest
+          → collected m label end (after - suc n) (suc n) rest ≡ collected m label end 0 after (drop (after - (n + 1)) rest)
+      later after x y =
+          let p : suc n + (after - suc n) ≡ after = omega arith in
+          let q : after - suc n ≡ after - (n + 1) = omega arith in
+          collected-skip (after - suc n) (suc n) rest (omega arith) ∙ rw (p, q)
+
+      go : (u : TextUnit) → Stands (isLiteral m) n b (n + 1 + length rest) u
+          → taken u (collected m label end (afterOf u - suc n) (suc n) rest)
+          ≡ taken u (collected m label end 0 (afterOf u) (drop (afterOf u - (n + 1)) rest))
+      go (TextUnit.Byte value after) x = ap (onto (value ∷ [])) (later after (x .on) (x .inside))
+      go (TextUnit.Point c after) x = ap (onto (utf8 c)) (later after (omega (arith, x .narrow)) (x .inside))
+      go (TextUnit.Ends stop from after) x = refl
+      go (TextUnit.Fault number place) x = refl
+      go TextUnit.Undecided x = refl
+
+-- a text that is read from n on, where xs stands: it and the gap behind it end before `from`; where they end there, it is the bytes of xs
+pub record TextStands (literal : Bool) (n hi : ℕ) (xs text : List ℕ) (stop : Stop) (from after : ℕ) : Type 0 where
+  pub fits : n + length text + gap stop ≤ from
+  pub copied : n + length text + gap stop ≡ from → text ≡ take (length text) xs
+  pub order : from ≤ after
+  pub inside : after ≤ hi
+  pub on : literal ≡ false → n < after
+  pub keeps : literal ≡ true → enters stop ≡ false
+
+abbrev pub StandsReading : Bool → ℕ → ℕ → List ℕ → Reading → Type 0
+StandsReading literal n hi xs (Text text stop from after) = TextStands literal n hi xs text stop from after
+StandsReading literal n hi xs (Refused number place) = FaultStands n hi number place
+StandsReading literal n hi xs Wait = Unit {0}
+
+module _ (literal : Bool) (hi : ℕ) where
+  -- a byte before a text that begins k bytes behind it
+  byte-onto : (n b value k : ℕ) (xs : List ℕ) (r : Reading) → (k ≡ 0 → value ≡ b)
+      → StandsReading literal (suc n + k) hi (drop k xs) r → StandsReading literal n hi (b ∷ xs) (onto (value ∷ []) r)
+  unfolding onto
+  byte-onto n b value k xs (Text text stop from after) own x =
+      record {
+        fits = omega (arith, x .fits);
+        copied = same k own x;
+        order = x .order;
+        inside = x .inside;
+        on = λ e. omega (arith, x .fits, x .order);
+        keeps = x .keeps;
+      }
+    where
+      same : (k : ℕ) → (k ≡ 0 → value ≡ b) → TextStands literal (suc n + k) hi (drop k xs) text stop from after
+          → n + suc (length text) + gap stop ≡ from → value ∷ text ≡ b ∷ take (length text) xs
+      same zero own x h = rw (own refl, ← x .copied (omega arith))
+      same (suc k) own x h = absurd (omega (arith, x .fits))
+  byte-onto n b value k xs (Refused number place) own x = record { told = x .told; on = omega (arith, x .on); inside = x .inside }
+  byte-onto n b value k xs Wait own x = tt
+
+  -- fewer bytes before a text than are passed
+  point-onto : (n after : ℕ) (vs xs ys : List ℕ) (r : Reading) → n + length vs < after → StandsReading literal after hi ys r
+      → StandsReading literal n hi xs (onto vs r)
+  unfolding onto
+  point-onto n after vs xs ys (Text text stop from to) h x =
+      record {
+        fits = omega (arith, length-append vs text, x .fits);
+        copied = λ e. absurd (omega (arith, length-append vs text, x .fits));
+        order = x .order;
+        inside = x .inside;
+        on = λ e. omega (arith, x .fits, x .order);
+        keeps = x .keeps;
+      }
+  point-onto n after vs xs ys (Refused number place) h x = record { told = x .told; on = omega (arith, x .on); inside = x .inside }
+  point-onto n after vs xs ys Wait h x = tt
+
+module _ (m : Mode) (label : List ℕ) (end : Bool) (hi : ℕ) where
+  collected-stands : (skip n : ℕ) (xs : List ℕ) → skip ≤ length xs → n + length xs ≤ hi
+      → StandsReading (isLiteral m) (n + skip) hi (drop skip xs) (collected m label end skip n xs)
+  unfolding collected taken afterOf
+  collected-stands skip n [] h y =
+      choice (StandsReading (isLiteral m) (n + skip) hi (drop skip [])) end _ _
+      (λ e. record { told = refl; on = omega arith; inside = omega arith })
+      (λ e. tt)
+  collected-stands (suc k) n (b ∷ xs) h y =
+      let z : suc n + k ≡ n + suc k = omega arith in
+      rw z at (collected-stands k (suc n) xs (omega arith) (omega arith))
+  collected-stands zero n (b ∷ xs) h y =
+      let z : n + 0 ≡ n = omega arith in
+      rw z (go (unitAt m label end n b xs) (unit-stands n b xs label end m) (λ k l. collected-stands k (suc n) xs l (omega arith)))
+    where
+      go : (u : TextUnit) → Stands (isLiteral m) n b (n + 1 + length xs) u
+          → ((k : ℕ) → k ≤ length xs → StandsReading (isLiteral m) (suc n + k) hi (drop k xs) (collected m label end k (suc n) xs))
+          → StandsReading (isLiteral m) n hi (b ∷ xs) (taken u (collected m label end (afterOf u - suc n) (suc n) xs))
+      go (TextUnit.Byte value after) x ih =
+          byte-onto (isLiteral m) hi n b value (after - suc n) xs _ (λ e. x .own (omega (arith, x .on))) (ih (after - suc n) (omega (arith, x .inside)))
+      go (TextUnit.Point c after) x ih =
+          let h : n + length (utf8 c) < suc n + (after - suc n) = omega (arith, x .narrow) in
+          point-onto (isLiteral m) hi n (suc n + (after - suc n)) (utf8 c) (b ∷ xs) (drop (after - suc n) xs) _ h
+          (ih (after - suc n) (omega (arith, x .inside)))
+      go (TextUnit.Ends stop from after) x ih =
+          record {
+            fits = omega (arith, x .place);
+            copied = λ e. refl;
+            order = x .order;
+            inside = omega (arith, x .inside);
+            on = x .on;
+            keeps = x .keeps;
+          }
+      go (TextUnit.Fault number place) x ih = record { told = x .told; on = x .on; inside = omega (arith, x .inside) }
+      go TextUnit.Undecided x ih = tt
+
+pub trimmed-length : (text : List ℕ) → length (trimmed text) ≤ length text
+unfolding trimmed
+trimmed-length [] = omega arith
+trimmed-length (b ∷ []) = choice (λ vs. length vs ≤ 1) (b is "\n") [] (b ∷ []) (λ e. omega arith) (λ e. omega arith)
+trimmed-length (b ∷ c ∷ text) = omega (arith, trimmed-length (c ∷ text))
+
+-- a text that is as long as before has lost no break
+trimmed-whole : (text : List ℕ) → length text ≤ length (trimmed text) → trimmed text ≡ text
+unfolding trimmed
+trimmed-whole [] h = refl
+trimmed-whole (b ∷ []) h = go (b is "\n") h
+  where
+    go : (t : Bool) → 1 ≤ length (if t then [] else b ∷ []) → (if t then [] else b ∷ []) ≡ b ∷ []
+    go true h = absurd (omega arith)
+    go false h = refl
+trimmed-whole (b ∷ c ∷ text) h = ap (λ ys. b ∷ ys) (trimmed-whole (c ∷ text) (omega arith))
+
+finished-stands : (literal : Bool) (m : Mode) (n hi : ℕ) (xs : List ℕ) (r : Reading) → StandsReading literal n hi xs r
+    → StandsReading literal n hi xs (finished m r)
+unfolding finished
+finished-stands literal m n hi xs (Text text stop from after) x =
+    choice (λ vs. TextStands literal n hi xs vs stop from after) (losesBreak m stop) _ _
+    (λ e.
+    record {
+      fits = omega (arith, trimmed-length text, x .fits);
+      copied = shorter;
+      order = x .order;
+      inside = x .inside;
+      on = x .on;
+      keeps = x .keeps;
+    })
+    (λ e. x)
+  where
+    shorter : n + length (trimmed text) + gap stop ≡ from → trimmed text ≡ take (length (trimmed text)) xs
+    shorter e =
+        let whole : trimmed text ≡ text = trimmed-whole text (omega (arith, x .fits)) in
+        let long : n + length text + gap stop ≡ from = rw whole at e in
+        rw whole (x .copied long)
+finished-stands literal m n hi xs (Refused number place) x = x
+finished-stands literal m n hi xs Wait x = tt
+
+pub text-stands : (m : Mode) (label : List ℕ) (end : Bool) (n : ℕ) (xs : List ℕ)
+    → StandsReading (isLiteral m) n (n + length xs) xs (textAt m label end n xs)
+unfolding textAt
+text-stands m label end n xs =
+    let z : n + 0 ≡ n = omega arith in
+    finished-stands (isLiteral m) m n (n + length xs) xs _
+    (rw z at (collected-stands m label end (n + length xs) 0 n xs (omega arith) (omega arith)))
