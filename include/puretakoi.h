@@ -1,4 +1,4 @@
-/* Puretakoi for hosts in C and C++ on x86-64 Linux: the functions of libpuretakoi (in the repository libembed.a),
+/* Puretakoi for hosts in C and C++ on x86-64 Linux: the functions of libpuretakoi (libpuretakoi.a, libpuretakoi.so),
  * the layout of a session, and the refusal numbers. puretakoi_words.h has the refusals and the kinds in words.
  *
  * A slice is a pointer and a length, in bytes for uint8_t and in numbers for uint32_t. Pointer and length must be true, a pointer is

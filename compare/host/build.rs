@@ -1,8 +1,8 @@
-//! Links the proved library: target/staticlib/libembed.a.
+//! Links the proved library: target/staticlib/libpuretakoi.a.
 
 #[path = "../archive.rs"]
 mod archive;
 
 fn main() {
-    archive::link("embed");
+    archive::link("puretakoi");
 }

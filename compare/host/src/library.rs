@@ -1,4 +1,4 @@
-//! The functions of libembed.a, as include/puretakoi.h gives them. A slice is its pointer and its length.
+//! The functions of libpuretakoi.a, as include/puretakoi.h gives them. A slice is its pointer and its length.
 
 use cases::{Call, Function};
 

@@ -9,11 +9,11 @@ use native.Mathlib.Nat.{add-zero}
 use lib.ListN.{length, getD, drop, drop-of-length-le}
 use lib.Seq.{drop-drop}
 use borrow.Author.Tests.{eq-eqb, ne-eqb, not-true, not-false}
-use Rattle.source.specs.Bytes.{isBlank}
-use Rattle.source.specs.Words.{run}
-use Rattle.source.specs.Identifiers.{RunEnd}
-use Rattle.source.proofs.Tests.{choice}
-use Rattle.source.proofs.Words.{drop-one}
+use Rattle.byte.specs.Bytes.{isBlank}
+use Rattle.byte.specs.Words.{run}
+use Rattle.source.specs.Code.{RunEnd}
+use Rattle.byte.proofs.Tests.{choice}
+use Rattle.byte.proofs.Words.{drop-one}
 use Rattle.unit.specs.declared.Indentation.{Indentation}
 use Rattle.unit.specs.declared.Match.{Match}
 use Rattle.unit.specs.declared.TextUnit.{TextUnit}

@@ -7,8 +7,8 @@ use unit::TextUnit;
 ghost use mathlib.Core.Path.{_≡_};
 ghost use Prim.Native.Nat.{_+_, _≤_, _<_};
 ghost use lib.ListN.{length, drop};
-ghost use Rattle.source.specs.Bytes.{isBlank};
-ghost use Rattle.source.specs.Identifiers.{RunEnd};
+ghost use Rattle.byte.specs.Bytes.{isBlank};
+ghost use Rattle.source.specs.Code.{RunEnd};
 ghost use Rattle.unit.specs.declared.Indentation.{Indentation};
 ghost use Rattle.unit.specs.declared.Stop.{Stop};
 ghost use Rattle.unit.specs.declared.TextUnit.{TextUnit};
@@ -78,7 +78,7 @@ fn closer_of(size: usize, ind: Indentation, amount: usize, n: usize) -> TextUnit
         Indentation::Space => ends_at(Indentation::Space, amount, n, size),
         Indentation::Tab => ends_at(Indentation::Tab, amount, n, size),
         Indentation::Mixed => TextUnit::Fault {
-            number: source::INVALID_DOC_INDENTATION,
+            number: byte::INVALID_DOC_INDENTATION,
             place: n,
         },
     }
@@ -135,7 +135,7 @@ fn closing_line_at(src: &[u8], label: &[u8], n: usize, end: bool) -> TextUnit
     let mut amount = 0;
     while i < src.len() {
         let b = src[i];
-        if !source::is_blank(b) {
+        if !byte::is_blank(b) {
             return label_at(src, label, n, end, ind, amount, i);
         }
         ind = indented_by(ind, b);
@@ -152,7 +152,7 @@ fn blank_end(src: &[u8], at: usize) -> usize
 {
     let mut i = at;
     while i < src.len() {
-        if !source::is_blank(src[i]) {
+        if !byte::is_blank(src[i]) {
             return i;
         }
         i += 1;

@@ -6,8 +6,8 @@ use mathlib.Core.List.{List}
 use native.Mathlib.Omega.{arith}
 use lib.ListN.{length, getD, drop, length-drop, drop-of-length-le}
 use borrow.Author.Tests.{ne-eqb}
-use Rattle.source.specs.Refusals.{unexpectedEndOfFile}
-use Rattle.source.proofs.Words.{drop-one}
+use Rattle.byte.specs.Refusals.{unexpectedEndOfFile}
+use Rattle.byte.proofs.Words.{drop-one}
 use Rattle.token.specs.Kinds.{comment}
 use Rattle.outcome.specs.declared.Change.{Change}
 use Rattle.outcome.specs.declared.CommentEnd.{CommentEnd}
@@ -15,7 +15,7 @@ use Rattle.outcome.specs.declared.CommentKind.{CommentKind}
 use Rattle.outcome.specs.Comments.{isNext, endTaken, commentEnd, endless, commented, commentAt, slash, hash}
 use Rattle.outcome.proofs.Comments.{commentEnd-inside}
 use Rattle.plan.specs.declared.Plan.{Plan}
-use Rattle.plan.specs.Plans.{Plans, copiedDraft, goesPlan, onePlan, endingPlan}
+use Rattle.plan.specs.Code.{Plans, copiedDraft, goesPlan, onePlan, endingPlan}
 use Rattle.plan.proofs.Plans.{token-plans, refused-plans, wait-plans, sign-plans, last-sign-plans}
 
 -- ---- a comment

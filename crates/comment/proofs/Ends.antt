@@ -8,14 +8,14 @@ use native.Mathlib.Nat.{add-zero}
 use lib.Dec.{eqb}
 use lib.ListN.{length, getD, drop, drop-of-length-le}
 use lib.Seq.{drop-drop}
-use Rattle.source.specs.Words.{if_then_else_, run}
-use Rattle.source.specs.Identifiers.{RunEnd}
-use Rattle.source.proofs.Tests.{choice, none-of}
-use Rattle.source.proofs.Words.{drop-one}
+use Rattle.byte.specs.Words.{if_then_else_, run}
+use Rattle.source.specs.Code.{RunEnd}
+use Rattle.byte.proofs.Tests.{choice, none-of}
+use Rattle.byte.proofs.Words.{drop-one}
 use Rattle.outcome.specs.declared.CommentEnd.{CommentEnd}
 use Rattle.outcome.specs.declared.CommentKind.{CommentKind}
 use Rattle.outcome.specs.Comments.{isNext, ends, commentEnd}
-use Rattle.comment.specs.Ends.{isInner}
+use Rattle.comment.specs.Code.{isInner}
 
 -- ---- at a place
 

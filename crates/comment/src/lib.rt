@@ -7,12 +7,12 @@ use plan::Plan;
 ghost use mathlib.Core.Path.{_≡_};
 ghost use Prim.Native.Nat.{_+_, _≤_, _<_};
 ghost use lib.ListN.{length, getD, drop};
-ghost use Rattle.source.specs.Identifiers.{RunEnd};
-ghost use Rattle.source.specs.Words.{if_then_else_};
+ghost use Rattle.source.specs.Code.{RunEnd};
+ghost use Rattle.byte.specs.Words.{if_then_else_};
 ghost use Rattle.outcome.specs.declared.CommentEnd.{CommentEnd};
 ghost use Rattle.outcome.specs.Comments.{isNext, ends, endTaken, commentEnd, endless, commentAt, slash, hash};
-ghost use Rattle.plan.specs.Plans.{Plans};
-ghost use Rattle.comment.specs.Ends.{isInner};
+ghost use Rattle.plan.specs.Code.{Plans};
+ghost use Rattle.comment.specs.Code.{isInner};
 
 // Whether this byte stands at a place.
 fn is_next(src: &[u8], at: usize, c: u8) -> bool
@@ -102,7 +102,7 @@ fn endless(kind: CommentKind, src: &[u8], at: usize, end: bool) -> Plan
             plan::one_token(token::COMMENT, at, src.len() - at, Change::Keep)
         }
         CommentKind::MultiLine => Plan::Refused {
-            number: source::UNEXPECTED_END_OF_FILE,
+            number: byte::UNEXPECTED_END_OF_FILE,
             place: src.len(),
         },
     }

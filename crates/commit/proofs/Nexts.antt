@@ -10,7 +10,7 @@ use mir.Syntax.{w32}
 use mir.Val.{Fits}
 use borrow.Author.Tests.{leb-true, leb-false, ne-eqb, le-ltb, lt-ltb}
 use Rattle.source.specs.declared.Span.{Span}
-use Rattle.source.proofs.Tests.{unrefused}
+use Rattle.byte.proofs.Tests.{unrefused}
 use Rattle.state.specs.declared.Answer.{Answer}
 use Rattle.token.specs.Records.{roomRefusal}
 use Rattle.outcome.specs.declared.Change.{Change}
@@ -18,12 +18,12 @@ use Rattle.outcome.specs.Outcomes.{Piece, Outcome, limited}
 use Rattle.outcome.specs.Insides.{AllInside, PlaceInside}
 use Rattle.plan.specs.declared.Work.{Work}
 use Rattle.plan.specs.declared.Plan.{Plan}
-use Rattle.plan.specs.Plans.{piecesOf, outcomeOf}
+use Rattle.plan.specs.Code.{piecesOf, outcomeOf}
 use Rattle.commit.specs.declared.Next.{Next}
 use Rattle.commit.specs.declared.Mark.{Mark}
-use Rattle.commit.specs.Records.{spanAt, countOf, totalOf, Behind, DraftsFit, DraftsPut}
-use Rattle.commit.specs.Nexts.{answerOf, stays, roomFor, nextOf, listAfter, poolAfter}
-use Rattle.commit.specs.Nexts.{isFull, advanced, Advances, Commits, Works, Committed}
+use Rattle.commit.specs.Records.{spanAt, answerOf}
+use Rattle.commit.specs.Code.{countOf, totalOf, Ahead, DraftsFit, DraftsPut, stays, roomFor, nextOf, listAfter, poolAfter}
+use Rattle.commit.specs.Code.{isFull, advanced, Advances, Commits, Works, Committed}
 use Rattle.commit.proofs.Spans.{spanAt-here}
 use Rattle.commit.proofs.Records.{length-piecesOf, length-values}
 
@@ -101,7 +101,7 @@ module _ (src : List ℕ) (end : Bool) (m : Mark) (w : Work) (l q : List ℕ) (f
 
         pub work-advances : Advances src m w count total
         work-advances = record {
-          behind = record { cursor = f .marked .cursor; low = f .inside .order; high = f .inside .inside };
+          ahead = record { cursor = f .marked .cursor; low = f .inside .order; high = f .inside .inside };
           places = omega (arith, room-open .0, f .marked .places);
           room = omega (arith, room-open .1, f .marked .room);
         }
@@ -147,7 +147,7 @@ module _ (src : List ℕ) (end : Bool) (m : Mark) (depth : ℕ) (plan : Plan) (l
   commit-wait r e h = rw e (record { next = h; list = refl; pool = refl })
 
   module _ (number place : ℕ) (e : plan ≡ Plan.Refused number place) where
-    pub commit-behind : Behind src (m .span) place
+    pub commit-behind : Ahead src (m .span) place
     unfolding outcomeOf
     commit-behind =
         let i : PlaceInside (m .span .position) (length src) number place = rw e at f .inside in

@@ -7,19 +7,19 @@ use native.Mathlib.Omega.{arith}
 use lib.ListN.{length, length-append}
 use mir.Syntax.{w32, w64}
 use mir.Val.{Fits}
-use Rattle.source.specs.Laid.{laid}
+use Rattle.byte.specs.Laid.{laid}
 use Rattle.source.specs.declared.Span.{Span}
-use Rattle.source.proofs.Laid.{laid-nil, laid-append}
+use Rattle.byte.proofs.Laid.{laid-nil, laid-append}
 use Rattle.token.specs.declared.Token.{Token}
 use Rattle.token.specs.Records.{recordOf}
 use Rattle.outcome.specs.Outcomes.{values}
 use Rattle.outcome.specs.Insides.{AllInside}
 use Rattle.plan.specs.declared.Draft.{Draft}
 use Rattle.plan.specs.declared.Drafts.{Drafts}
-use Rattle.plan.specs.Plans.{made, pieceOf, piecesOf, AllReady}
+use Rattle.plan.specs.Code.{made, pieceOf, piecesOf, AllReady}
 use Rattle.commit.specs.declared.Mark.{Mark}
-use Rattle.commit.specs.Records.{spanAt, tokenOf, records, countOf, totalOf, draftToken}
-use Rattle.commit.specs.Records.{DraftFits, DraftPut, DraftsFit, DraftsPut}
+use Rattle.commit.specs.Records.{spanAt, tokenOf, records}
+use Rattle.commit.specs.Code.{countOf, totalOf, draftToken, DraftFits, DraftPut, DraftsFit, DraftsPut}
 
 -- an arm of a match on drafts
 pub countOf-arm : (drafts arm : Drafts) (r : ℕ) → drafts ≡ arm → r ≡ countOf arm → r ≡ countOf drafts
@@ -101,7 +101,7 @@ module _ (src : List ℕ) (end : Bool) (m : Mark) (d e : Draft) (l q : List ℕ)
       let a = two-all .0 in
       record {
         drawn = record {
-          behind = record { cursor = f .marked .cursor; low = a .low; high = a .high };
+          ahead = record { cursor = f .marked .cursor; low = a .low; high = a .high };
           detail = a .detail;
           len = omega (arith, two-narrow);
         };
@@ -116,7 +116,7 @@ module _ (src : List ℕ) (end : Bool) (m : Mark) (d e : Draft) (l q : List ℕ)
       let a = two-all .1 .0 in
       record {
         drawn = record {
-          behind = record { cursor = f .marked .cursor; low = omega (arith, two-all .0 .low, a .low); high = a .high };
+          ahead = record { cursor = f .marked .cursor; low = omega (arith, two-all .0 .low, a .low); high = a .high };
           detail = a .detail;
           len = omega (arith, two-narrow);
         };
@@ -160,7 +160,7 @@ module _ (src : List ℕ) (end : Bool) (m : Mark) (drafts : Drafts) (l q : List 
         let room : m .bytes + d .len ≤ length q = rw e at f .room in
         record {
           drawn = record {
-            behind = record { cursor = f .marked .cursor; low = all .0 .low; high = all .0 .high };
+            ahead = record { cursor = f .marked .cursor; low = all .0 .low; high = all .0 .high };
             detail = all .0 .detail;
             len = narrow;
           };

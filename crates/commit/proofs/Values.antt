@@ -5,20 +5,20 @@ use mathlib.Core.Bool.{Bool}
 use mathlib.Core.List.{List, _++_}
 use native.Mathlib.Omega.{arith}
 use lib.ListN.{length, take, drop, length-take, length-drop}
-use Rattle.source.specs.Laid.{laid}
-use Rattle.source.proofs.Laid.{laid-rest}
+use Rattle.byte.specs.Laid.{laid}
+use Rattle.byte.proofs.Laid.{laid-rest}
 use Rattle.state.specs.declared.Label.{Label}
 use Rattle.state.specs.Bounds.{labelBytes}
 use Rattle.unit.specs.declared.Mode.{Mode}
 use Rattle.unit.specs.Readings.{textAt}
-use Rattle.text.specs.Scans as text
+use Rattle.text.specs.Code as text
 use Rattle.number.specs.Numbers as number
 use Rattle.sheet.specs.Sheets.{sheetAt}
-use Rattle.sheet.specs.Scans as sheet
+use Rattle.sheet.specs.Code as sheet
 use Rattle.plan.specs.declared.Making.{Making}
 use Rattle.plan.specs.declared.Draft.{Draft}
-use Rattle.plan.specs.Plans.{Named, Range, Block, madeBy, made}
-use Rattle.commit.specs.Records.{Writes}
+use Rattle.plan.specs.Code.{Named, Range, Block, madeBy, made}
+use Rattle.commit.specs.Code.{Writes}
 
 -- the bytes that a label names, as a part of the source
 pub labelBytes-part : (src : List ℕ) (label : Label)

@@ -1,2 +1,2 @@
 pub mod Records
-pub mod Nexts
+pub mod Code

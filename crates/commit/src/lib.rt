@@ -14,15 +14,16 @@ use unit::Mode;
 ghost use mathlib.Core.Path.{_≡_};
 ghost use Prim.Native.Nat.{_+_, _≤_};
 ghost use lib.ListN.{length};
-ghost use Rattle.source.specs.Laid.{laid};
+ghost use Rattle.byte.specs.Laid.{laid};
 ghost use Rattle.state.specs.Bounds.{labelBytes};
-ghost use Rattle.text.specs.Scans as text;
+ghost use Rattle.text.specs.Code as text;
 ghost use Rattle.outcome.specs.Outcomes.{limited};
 ghost use Rattle.plan.specs.declared.Drafts.{Drafts};
 ghost use Rattle.plan.specs.declared.Plan.{Plan};
-ghost use Rattle.plan.specs.Plans.{Named, made, pieceOf, piecesOf, outcomeOf};
-ghost use Rattle.commit.specs.Records.{spanAt, draftToken, countOf, totalOf, Behind, Writes, Drawn, DraftFits, DraftPut, DraftsFit, DraftsPut};
-ghost use Rattle.commit.specs.Nexts.{stays, isFull, answerOf, advanced, Advances, Works, Commits, Committed};
+ghost use Rattle.plan.specs.Code.{Named, made, pieceOf, piecesOf, outcomeOf};
+ghost use Rattle.commit.specs.Records.{spanAt, answerOf};
+ghost use Rattle.commit.specs.Code.{draftToken, countOf, totalOf, Ahead, Writes, Drawn, DraftFits, DraftPut, DraftsFit, DraftsPut};
+ghost use Rattle.commit.specs.Code.{stays, isFull, advanced, Advances, Works, Commits, Committed};
 
 // The cursor and the two fill marks.
 pub struct Mark {
@@ -40,7 +41,7 @@ pub struct Next {
 
 // The span of a place behind the cursor.
 pub fn span_at(src: &[u8], p: Span, place: usize) -> Span
-    requires { ⌜ Behind (now src) p place ⌝ }
+    requires { ⌜ Ahead (now src) p place ⌝ }
     ensures { λ r. ⌜ r ≡ spanAt (now (src .entry)) p place ⌝ }
 {
     let at = p.position as usize;
@@ -241,7 +242,7 @@ pub fn commit(
         Plan::Told(w) => {
             let change = w.change;
             if is_full(change, depth) {
-                return stay(source::STACK_FULL, m.span, m);
+                return stay(byte::STACK_FULL, m.span, m);
             }
             write_work(src, end, m, w, list, pool)
         }
@@ -249,6 +250,6 @@ pub fn commit(
             let span = span_at(src, m.span, place);
             stay(number, span, m)
         }
-        Plan::Wait => stay(source::WAIT, m.span, m),
+        Plan::Wait => stay(byte::WAIT, m.span, m),
     }
 }

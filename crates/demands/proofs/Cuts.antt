@@ -9,8 +9,8 @@ use native.Mathlib.Omega.{arith}
 use native.Mathlib.Nat.{suc-add}
 use lib.ListN.{length, length-append}
 use lib.Seq.{take-append-seam}
-use Rattle.source.specs.Words.{if_then_else_, every}
-use Rattle.source.specs.Demand.{isByte}
+use Rattle.byte.specs.Words.{if_then_else_, every}
+use Rattle.byte.specs.Demand.{isByte}
 use Rattle.state.specs.declared.Answer.{Answer}
 use Rattle.state.specs.declared.Reading.{Reading}
 use Rattle.state.specs.declared.Session.{Session}

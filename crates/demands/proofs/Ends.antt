@@ -11,12 +11,12 @@ use mathlib.Core.List.{List, [], _∷_}
 use native.Mathlib.Omega.{arith}
 use lib.Dec.{eqb}
 use lib.ListN.{length, getD, set}
-use Rattle.source.specs.Words.{every}
-use Rattle.source.specs.Demand.{isByte}
-use Rattle.source.specs.Refusals.{wait}
+use Rattle.byte.specs.Words.{every}
+use Rattle.byte.specs.Demand.{isByte}
+use Rattle.byte.specs.Refusals.{wait}
 use Rattle.source.specs.Cursor.{origin}
 use Rattle.source.specs.declared.Span.{Span}
-use Rattle.source.proofs.Tests.{choice}
+use Rattle.byte.proofs.Tests.{choice}
 use Rattle.state.specs.declared.Answer.{Answer}
 use Rattle.state.specs.declared.Frame.{Frame}
 use Rattle.state.specs.declared.Reading.{Reading}

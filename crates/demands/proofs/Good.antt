@@ -11,11 +11,11 @@ use lib.Dec.{eqb, leb}
 use lib.ListN.{length, getD, set}
 use borrow.Author.Tests.{leb-true, leb-false, eqb-true}
 use Rattle.source.specs.Cursor.{origin}
-use Rattle.source.specs.Refusals.{outOfPlace, wait}
+use Rattle.byte.specs.Refusals.{outOfPlace, wait}
 use Rattle.source.specs.declared.Span.{Span}
-use Rattle.source.proofs.Tests.{choice, &&-left, &&-both, unrefused}
-use Rattle.source.proofs.Laid.{length-laid}
-use Rattle.source.proofs.Words.{every-take, every-set}
+use Rattle.byte.proofs.Tests.{choice, &&-left, &&-both, unrefused}
+use Rattle.byte.proofs.Laid.{length-laid}
+use Rattle.byte.proofs.Words.{every-take, every-set}
 use Rattle.state.specs.declared.Frame.{Frame}
 use Rattle.state.specs.declared.Slot.{Slot}
 use Rattle.state.specs.declared.Session.{Session}

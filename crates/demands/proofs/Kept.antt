@@ -9,10 +9,10 @@ use mathlib.Core.List.{List}
 use native.Mathlib.Omega.{arith}
 use lib.Dec.{eqb}
 use lib.ListN.{length}
-use Rattle.source.specs.Refusals.{outOfPlace, wait}
+use Rattle.byte.specs.Refusals.{outOfPlace, wait}
 use Rattle.source.specs.Cursor.{origin}
 use Rattle.source.specs.declared.Span.{Span}
-use Rattle.source.proofs.Tests.{choice}
+use Rattle.byte.proofs.Tests.{choice}
 use Rattle.state.specs.declared.Answer.{Answer}
 use Rattle.state.specs.declared.Session.{Session}
 use Rattle.state.specs.declared.Turn.{Turn}
@@ -23,7 +23,8 @@ use Rattle.outcome.specs.Outcomes.{Piece, Outcome}
 use Rattle.outcome.specs.Steps.{topFrame, stepOutcome}
 use Rattle.commit.specs.declared.Mark.{Mark}
 use Rattle.commit.specs.declared.Next.{Next}
-use Rattle.commit.specs.Nexts.{answerOf, Committed}
+use Rattle.commit.specs.Records.{answerOf}
+use Rattle.commit.specs.Code.{Committed}
 use Rattle.lexer.specs.Turns.{After, Gives, refusing, room, settled, written}
 use Rattle.lexer.specs.Calls.{gated, isScripting, stepped, reading}
 

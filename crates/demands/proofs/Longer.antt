@@ -11,7 +11,7 @@ use lib.ListN.{length}
 use borrow.Author.Tests.{le-leb}
 use Rattle.source.specs.Cursor.{passed}
 use Rattle.source.specs.declared.Span.{Span}
-use Rattle.source.proofs.Tests.{&&-both}
+use Rattle.byte.proofs.Tests.{&&-both}
 use Rattle.state.specs.declared.Session.{Session}
 use Rattle.state.specs.Bounds.{fitsTables}
 use Rattle.state.specs.Calls.{spanOf}

@@ -5,7 +5,7 @@ use mathlib.Core.List.{List}
 use native.Mathlib.Omega.{arith}
 use lib.Dec.{eqb}
 use lib.ListN.{length}
-use Rattle.source.proofs.Tests.{choice}
+use Rattle.byte.proofs.Tests.{choice}
 use Rattle.state.specs.declared.Session.{Session}
 use Rattle.state.specs.Calls.{spanOf}
 use Rattle.state.specs.Gates.{lentRefusal}

@@ -11,9 +11,9 @@ use lib.Dec.{eqb}
 use lib.ListN.{length, getD, take, drop, length-drop}
 use lib.Seq.{drop-drop, drop-nil, take-nil, getD-take, take-at, drop-at, length-take-le}
 use borrow.Author.Tests.{eqb-true}
-use Rattle.source.specs.Laid.{laid}
+use Rattle.byte.specs.Laid.{laid}
 use Rattle.source.specs.declared.Span.{Span}
-use Rattle.source.proofs.Tests.{choice}
+use Rattle.byte.proofs.Tests.{choice}
 use Rattle.source.proofs.Cursor.{passed-position}
 use Rattle.state.specs.declared.Answer.{Answer}
 use Rattle.state.specs.declared.Session.{Session}

@@ -8,10 +8,10 @@ use mathlib.Core.Bool.{Bool, true, false, false≢true}
 use mathlib.Core.List.{List, [], _++_, append-nil}
 use lib.Dec.{eqb, leb}
 use lib.ListN.{length}
-use Rattle.source.specs.Words.{every}
-use Rattle.source.specs.Demand.{isByte, Waits}
-use Rattle.source.specs.Refusals.{wait}
-use Rattle.source.proofs.Tests.{choice}
+use Rattle.byte.specs.Words.{every}
+use Rattle.byte.specs.Demand.{isByte, Waits}
+use Rattle.byte.specs.Refusals.{wait}
+use Rattle.byte.proofs.Tests.{choice}
 use Rattle.state.specs.declared.Session.{Session}
 use Rattle.state.specs.Gates.{lentRefusal, tablesFit}
 use Rattle.token.specs.Records.{roomRefusal}
@@ -22,7 +22,7 @@ use Rattle.outcome.proofs.Insides.{step-inside, number-inside, single-inside, d
 use Rattle.outcome.proofs.Demand.{told-waits, refused-waits}
 use Rattle.outcome.proofs.StepDemand.{step-waits, step-never-waits, number-outcome-waits, number-outcome-never-waits}
 use Rattle.outcome.proofs.StepDemand.{single-outcome-waits, single-outcome-never-waits, double-outcome-waits, double-outcome-never-waits}
-use Rattle.commit.specs.Nexts.{answerOf}
+use Rattle.commit.specs.Records.{answerOf}
 use Rattle.lexer.specs.Turns.{After, room, settled}
 use Rattle.lexer.specs.Calls.{isScripting, stepped, reading, readNumber, readSingle, readDouble}
 use Rattle.demands.specs.Walks.{isWait}

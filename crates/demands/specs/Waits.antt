@@ -9,7 +9,7 @@ use mathlib.Core.List.{List, _++_}
 use mathlib.Core.Logic.{_↔_}
 use mathlib.Core.Path.{_≡_}
 use lib.ListN.{length}
-use Rattle.source.specs.Demand.{Apart}
+use Rattle.byte.specs.Demand.{Apart}
 use Rattle.outcome.specs.Outcomes.{Outcome}
 use Rattle.lexer.specs.Turns.{After}
 use Rattle.demands.specs.Walks.{isWait}

@@ -9,8 +9,8 @@ use Prim.Native.Nat.{ℕ, zero, suc}
 use mathlib.Core.Bool.{Bool, true, false}
 use mathlib.Core.List.{List, [], _∷_, _++_}
 use lib.Dec.{eqb}
-use Rattle.source.specs.Words.{if_then_else_}
-use Rattle.source.specs.Refusals.{wait}
+use Rattle.byte.specs.Words.{if_then_else_}
+use Rattle.byte.specs.Refusals.{wait}
 use Rattle.state.specs.declared.Answer.{Answer}
 use Rattle.state.specs.declared.Session.{Session}
 use Rattle.state.specs.Calls.{done}

@@ -6,8 +6,8 @@ use native.Mathlib.Omega.{arith}
 use lib.ListN.{length, set}
 use lib.Seq.{sets-eq}
 use borrow.Author.Tests.{le-leb, lt-leb, lt-ltb, le-ltb}
-use Rattle.source.specs.Laid.{laid}
-use Rattle.source.proofs.Laid.{set-laid}
+use Rattle.byte.specs.Laid.{laid}
+use Rattle.byte.proofs.Laid.{set-laid}
 use Rattle.unit.specs.Digits.{digitValue, utf8}
 
 -- a byte against both ends of the three ranges

@@ -8,8 +8,8 @@ use native.Mathlib.Numerals.{add-one}
 use lib.Dec.{eqb, ltb}
 use lib.ListN.{length, getD, drop, drop-of-length-le}
 use borrow.Author.Tests.{eq-eqb, ne-eqb, lt-ltb, le-ltb, le-leb, ltb-false}
-use Rattle.source.specs.Words.{if_then_else_}
-use Rattle.source.proofs.Words.{drop-one}
+use Rattle.byte.specs.Words.{if_then_else_}
+use Rattle.byte.proofs.Words.{drop-one}
 use Rattle.unit.specs.declared.TextUnit.{TextUnit}
 use Rattle.unit.specs.Digits.{digitValue, isScalar}
 use Rattle.unit.specs.Escapes.{last, backslash, letterValue, fitted, digits, hex, codePoint, braced, escape, quoteEscape}

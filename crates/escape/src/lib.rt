@@ -6,8 +6,8 @@ ghost use mathlib.Core.Bool.{true, false};
 ghost use lib.Dec.{ltb};
 ghost use Prim.Native.Nat.{_+_, _*_, _≤_, _<_};
 ghost use lib.ListN.{length, drop};
-ghost use Rattle.source.specs.Words.{if_then_else_};
-ghost use Rattle.source.specs.Laid.{laid};
+ghost use Rattle.byte.specs.Words.{if_then_else_};
+ghost use Rattle.byte.specs.Laid.{laid};
 ghost use Rattle.unit.specs.declared.TextUnit.{TextUnit};
 ghost use Rattle.unit.specs.Digits.{digitValue, isScalar, utf8};
 ghost use Rattle.unit.specs.Escapes.{last, backslash, letterValue, fitted, digits, hex, codePoint, braced, escape, quoteEscape};
@@ -146,7 +146,7 @@ fn fitted(value: u32, n: usize) -> TextUnit
         };
     }
     TextUnit::Fault {
-        number: source::INVALID_OCTAL_ESCAPE,
+        number: byte::INVALID_OCTAL_ESCAPE,
         place: n,
     }
 }
@@ -235,7 +235,7 @@ fn closed(code: u32, after: usize) -> TextUnit
         return TextUnit::Point { code, after };
     }
     TextUnit::Fault {
-        number: source::INVALID_UNICODE_ESCAPE,
+        number: byte::INVALID_UNICODE_ESCAPE,
         place: after,
     }
 }
@@ -256,7 +256,7 @@ fn code_point_at(src: &[u8], at: usize, end: bool) -> TextUnit
                 return closed(value, n + 1);
             }
             return TextUnit::Fault {
-                number: source::INVALID_UNICODE_ESCAPE,
+                number: byte::INVALID_UNICODE_ESCAPE,
                 place: n,
             };
         }
@@ -265,7 +265,7 @@ fn code_point_at(src: &[u8], at: usize, end: bool) -> TextUnit
         n += 1;
     }
     let fault = TextUnit::Fault {
-        number: source::INVALID_UNICODE_ESCAPE,
+        number: byte::INVALID_UNICODE_ESCAPE,
         place: n,
     };
     last(end, fault)

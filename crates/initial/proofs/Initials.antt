@@ -17,9 +17,9 @@ use Rattle.outcome.proofs.Initials.{TagInside, tagged-inside}
 use Rattle.plan.specs.declared.Draft.{Draft}
 use Rattle.plan.specs.declared.Drafts.{Drafts}
 use Rattle.plan.specs.declared.Plan.{Plan}
-use Rattle.plan.specs.Plans.{madeBy, piecesOf, outcomeOf, Here, Plans, copiedDraft, partedPlan}
+use Rattle.plan.specs.Code.{madeBy, piecesOf, outcomeOf, Here, Plans, copiedDraft, partedPlan}
 use Rattle.plan.proofs.Plans.{copied-ready, parted-plans}
-use Rattle.initial.specs.Initials.{tagPlan, overPlan}
+use Rattle.initial.specs.Code.{tagPlan, overPlan}
 
 pub tagPlan-made : (at place kind length after : ℕ) (tag : OpenTagKind) (text draft : Draft) (r : Plan)
     → length ≡ tagLength tag → kind ≡ tagKind tag

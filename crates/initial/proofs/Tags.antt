@@ -7,8 +7,8 @@ use native.Mathlib.Omega.{arith}
 use native.Mathlib.Numerals.{add-one}
 use lib.ListN.{length, getD, drop, drop-of-length-le}
 use borrow.Author.Tests.{eq-eqb, ne-eqb, le-leb, lt-leb}
-use Rattle.source.specs.Words.{if_then_else_, _is_, bytes}
-use Rattle.source.proofs.Words.{drop-one}
+use Rattle.byte.specs.Words.{if_then_else_, _is_, bytes}
+use Rattle.byte.proofs.Words.{drop-one}
 use Rattle.outcome.specs.declared.OpenTagKind.{OpenTagKind}
 use Rattle.outcome.specs.declared.Tag.{Tag}
 use Rattle.outcome.specs.declared.Tagged.{Tagged}

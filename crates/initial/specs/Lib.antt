@@ -1,1 +1,1 @@
-pub mod Initials
+pub mod Code

@@ -12,11 +12,11 @@ use state::Frame;
 ghost use mathlib.Core.Path.{_≡_};
 ghost use Prim.Native.Nat.{_+_, _≤_, _<_};
 ghost use lib.ListN.{length, getD, drop};
-ghost use Rattle.source.specs.Words.{if_then_else_, _is_, bytes};
+ghost use Rattle.byte.specs.Words.{if_then_else_, _is_, bytes};
 ghost use Rattle.outcome.specs.declared.Tag.{Tag};
 ghost use Rattle.outcome.specs.Initials.{lower, fullTag, openTag, tag, tagged, tagKind, tagLength, initial};
-ghost use Rattle.plan.specs.Plans.{Here, Plans};
-ghost use Rattle.initial.specs.Initials.{tagPlan, overPlan};
+ghost use Rattle.plan.specs.Code.{Here, Plans};
+ghost use Rattle.initial.specs.Code.{tagPlan, overPlan};
 
 // A letter in lower case.
 fn lower(b: u8) -> u8

@@ -9,10 +9,10 @@ use native.Mathlib.Nat.{add-zero}
 use lib.ListN.{length, getD, drop, drop-of-length-le}
 use lib.Seq.{drop-drop}
 use borrow.Author.Tests.{eq-eqb, ne-eqb}
-use Rattle.source.specs.Words.{if_then_else_, run}
-use Rattle.source.specs.Bytes.{isStart, isIdentifier}
-use Rattle.source.specs.Identifiers.{RunEnd}
-use Rattle.source.proofs.Words.{drop-one}
+use Rattle.byte.specs.Words.{if_then_else_, run}
+use Rattle.byte.specs.Bytes.{isStart, isIdentifier}
+use Rattle.source.specs.Code.{RunEnd}
+use Rattle.byte.proofs.Words.{drop-one}
 use Rattle.unit.specs.declared.Follow.{Follow}
 use Rattle.unit.specs.declared.Look.{Look}
 use Rattle.unit.specs.declared.Stop.{Stop}

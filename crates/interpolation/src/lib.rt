@@ -29,7 +29,7 @@ fn property_at(src: &[u8], n: usize, end: bool) -> Look
     if src.len() <= n {
         return last_look(end);
     }
-    if source::is_start(src[n]) {
+    if byte::is_start(src[n]) {
         return Look::Settled(Follow::Property);
     }
     Look::Settled(Follow::Other)
@@ -128,7 +128,7 @@ pub fn dollar_at(src: &[u8], n: usize, end: bool) -> TextUnit
             after: i + 1,
         };
     }
-    if source::is_start(b) {
+    if byte::is_start(b) {
         return name_at(src, n, i + 1, end);
     }
     TextUnit::Byte {
@@ -183,7 +183,7 @@ pub fn find_dollar(src: &[u8], n: usize, end: bool) -> TextUnit
     if next == b'{' {
         return found_at(n);
     }
-    if source::is_start(next) {
+    if byte::is_start(next) {
         return found_at(n);
     }
     TextUnit::Byte {

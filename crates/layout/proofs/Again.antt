@@ -10,10 +10,10 @@ use native.Mathlib.Omega.{arith}
 use lib.Dec.{leb, eqb}
 use lib.ListN.{length, getD, take, drop}
 use borrow.Author.Tests.{eqb-true}
-use Rattle.source.specs.Words.{if_then_else_, every}
-use Rattle.source.specs.Laid.{laid}
-use Rattle.source.specs.Refusals.{tooLarge, badSession}
-use Rattle.source.proofs.Tests.{&&-left, &&-right, &&-both, choice}
+use Rattle.byte.specs.Words.{if_then_else_, every}
+use Rattle.byte.specs.Laid.{laid}
+use Rattle.byte.specs.Refusals.{tooLarge, badSession}
+use Rattle.byte.proofs.Tests.{&&-left, &&-right, &&-both, choice}
 use Rattle.state.specs.declared.Label.{Label}
 use Rattle.state.specs.declared.Frame.{Frame}
 use Rattle.state.specs.declared.Slot.{Slot}

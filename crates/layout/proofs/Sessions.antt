@@ -8,8 +8,8 @@ use native.Mathlib.Nat.{add-zero, add-comm}
 use lib.ListN.{length, getD, take, drop, set, length-append, length-set}
 use lib.Seq.{sets-eq, getD-drop, drop-drop, take-all, take-suc-set}
 use borrow.Author.Tests.{le-leb, lt-leb, eq-eqb, ne-eqb}
-use Rattle.source.specs.Laid.{laid}
-use Rattle.source.proofs.Laid.{laid-append, laid-rest, length-laid, Writing, writing-first, writing-on, writing-end}
+use Rattle.byte.specs.Laid.{laid}
+use Rattle.byte.proofs.Laid.{laid-append, laid-rest, length-laid, Writing, writing-first, writing-on, writing-end}
 use Rattle.state.specs.declared.Label.{Label}
 use Rattle.state.specs.declared.Frame.{Frame}
 use Rattle.state.specs.declared.Slot.{Slot}

@@ -7,8 +7,8 @@ use Prim.Native.Nat.{ℕ}
 use mathlib.Core.List.{List, [], _∷_}
 use mathlib.Core.Path.{_≡_}
 use lib.Dec.{eqb}
-use Rattle.source.specs.Words.{if_then_else_}
-use Rattle.source.specs.Laid.{laid}
+use Rattle.byte.specs.Words.{if_then_else_}
+use Rattle.byte.specs.Laid.{laid}
 use Rattle.state.specs.declared.Answer.{Answer}
 use Rattle.state.specs.declared.Turn.{Turn}
 use Rattle.layout.specs.Sessions.{numbersOf}

@@ -12,10 +12,11 @@ use native.Mathlib.Nat.{add-zero}
 use lib.Dec.{leb}
 use lib.ListN.{length, drop}
 use borrow.Author.Tests.{leb-true, eq-eqb, ne-eqb, lt-ltb, not-true, not-false}
-use Rattle.source.specs.Cursor.{origin, Reaches}
+use Rattle.source.specs.Cursor.{origin}
+use Rattle.source.specs.Code.{Reaches}
 use Rattle.source.specs.declared.Span.{Span}
-use Rattle.source.proofs.Tests.{&&-left, &&-right, unrefused}
-use Rattle.source.proofs.Laid.{laid-nil}
+use Rattle.byte.proofs.Tests.{&&-left, &&-right, unrefused}
+use Rattle.byte.proofs.Laid.{laid-nil}
 use Rattle.state.specs.declared.Frame.{Frame}
 use Rattle.state.specs.declared.Session.{Session}
 use Rattle.state.specs.declared.Turn.{Turn}
@@ -37,15 +38,15 @@ use Rattle.outcome.specs.Steps.{topFrame, framed, rest, stepOutcome, numberOutc
 use Rattle.outcome.proofs.Insides.{frame-inside, number-inside, single-inside, double-inside}
 use Rattle.outcome.proofs.Changes.{Limited, literal-room, numbered-room}
 use Rattle.plan.specs.declared.Plan.{Plan}
-use Rattle.plan.specs.Plans.{outcomeOf, Plans, Here}
+use Rattle.plan.specs.Code.{outcomeOf, Plans, Here}
 use Rattle.commit.specs.declared.Next.{Next}
 use Rattle.commit.specs.declared.Mark.{Mark}
-use Rattle.modes.specs.Passes.{Passes}
-use Rattle.commit.specs.Records.{spanAt, records, Cursor}
-use Rattle.commit.specs.Nexts.{Commits, Committed}
+use Rattle.modes.specs.Code.{Passes}
+use Rattle.commit.specs.Records.{spanAt, records}
+use Rattle.commit.specs.Code.{Cursor, Commits, Committed}
 use Rattle.lexer.specs.Turns.{After, Gives, framesAfter, depthAfter, settled}
 use Rattle.lexer.specs.Calls.{isScripting, gated, stepped, reading}
-use Rattle.lexer.specs.Nexts.{markOf, turnOf, Stacked, Turning, Settles}
+use Rattle.lexer.specs.Code.{markOf, turnOf, Stacked, Turning, Settles}
 use Rattle.lexer.proofs.Nexts.{limited-free, settled-next, settled-list, settled-pool}
 
 -- what an open gate tells

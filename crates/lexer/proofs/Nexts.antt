@@ -6,9 +6,9 @@ use mathlib.Core.List.{List}
 use lib.Dec.{eqb, ltb}
 use lib.ListN.{length, set}
 use borrow.Author.Tests.{leb-false, lt-leb, ltb-true}
-use Rattle.source.specs.Words.{if_then_else_}
+use Rattle.byte.specs.Words.{if_then_else_}
 use Rattle.source.specs.declared.Span.{Span}
-use Rattle.source.proofs.Tests.{choice}
+use Rattle.byte.proofs.Tests.{choice}
 use Rattle.state.specs.declared.Frame.{Frame}
 use Rattle.state.specs.declared.Slot.{Slot}
 use Rattle.state.specs.declared.Session.{Session}
@@ -18,9 +18,9 @@ use Rattle.outcome.specs.declared.Change.{Change}
 use Rattle.outcome.specs.Outcomes.{Piece, Outcome, limited}
 use Rattle.commit.specs.declared.Next.{Next}
 use Rattle.commit.specs.declared.Mark.{Mark}
-use Rattle.commit.specs.Nexts.{stays, advances, roomFor, nextOf, listAfter, poolAfter, isFull}
+use Rattle.commit.specs.Code.{stays, advances, roomFor, nextOf, listAfter, poolAfter, isFull}
 use Rattle.lexer.specs.Turns.{After, framesAfter, depthAfter, refusing, written, room, settled}
-use Rattle.lexer.specs.Nexts.{markOf, turnOf, Turning}
+use Rattle.lexer.specs.Code.{markOf, turnOf, Turning}
 
 pub markOf-made : (s : Session) (span : Span) → span ≡ spanOf s
     → record { span = span; tokens = s .tokens; bytes = s .bytes } ≡ markOf s

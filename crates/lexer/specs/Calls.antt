@@ -9,15 +9,15 @@ use mathlib.Core.Bool.{Bool}
 use mathlib.Core.List.{List}
 use lib.Dec.{eqb}
 use lib.ListN.{length}
-use Rattle.source.specs.Words.{if_then_else_}
+use Rattle.byte.specs.Words.{if_then_else_}
 use Rattle.source.specs.Cursor.{origin}
-use Rattle.source.specs.Refusals.{outOfPlace}
+use Rattle.byte.specs.Refusals.{outOfPlace}
 use Rattle.state.specs.declared.Session.{Session}
 use Rattle.state.specs.Calls.{spanOf}
 use Rattle.state.specs.Gates.{lentRefusal}
 use Rattle.outcome.specs.Outcomes.{Outcome}
 use Rattle.outcome.specs.Steps.{topFrame, stepOutcome, numberOutcome, singleOutcome, doubleOutcome}
-unfoldable pub use Rattle.modes.specs.Passes.{isScripting}
+unfoldable pub use Rattle.modes.specs.Code.{isScripting}
 use Rattle.lexer.specs.Turns.{After, refusing, settled}
 
 abbrev pub gated : List ℕ → Session → List ℕ → List ℕ → After → After

@@ -1,3 +1,3 @@
 pub mod Turns
 pub mod Calls
-pub mod Nexts
+pub mod Code

@@ -11,9 +11,9 @@ use mathlib.Core.List.{List}
 use mathlib.Core.Path.{_≡_}
 use lib.Dec.{eqb}
 use lib.ListN.{length, set}
-use Rattle.source.specs.Words.{if_then_else_}
-use Rattle.source.specs.Laid.{laid}
-use Rattle.source.specs.Refusals.{wait}
+use Rattle.byte.specs.Words.{if_then_else_}
+use Rattle.byte.specs.Laid.{laid}
+use Rattle.byte.specs.Refusals.{wait}
 use Rattle.source.specs.declared.Span.{Span}
 use Rattle.state.specs.declared.Slot.{Slot}
 use Rattle.state.specs.declared.Session.{Session}
@@ -22,8 +22,7 @@ use Rattle.state.specs.Calls.{spanOf, refused}
 use Rattle.token.specs.Records.{roomRefusal}
 use Rattle.outcome.specs.declared.Change.{Change}
 use Rattle.outcome.specs.Outcomes.{Piece, Outcome, values}
-pub use Rattle.commit.specs.Records.{spanAt, records}
-pub use Rattle.commit.specs.Nexts.{answerOf}
+pub use Rattle.commit.specs.Records.{spanAt, records, answerOf}
 
 pub record After : Type 0 where
   pub turn : Turn

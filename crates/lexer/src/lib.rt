@@ -17,10 +17,10 @@ ghost use lib.ListN.{length};
 ghost use Rattle.state.specs.Calls.{moved, done};
 ghost use Rattle.outcome.specs.Outcomes.{limited};
 ghost use Rattle.outcome.specs.Steps.{topFrame};
-ghost use Rattle.plan.specs.Plans.{outcomeOf};
+ghost use Rattle.plan.specs.Code.{outcomeOf};
 ghost use Rattle.lexer.specs.Turns.{Gives, settled};
 ghost use Rattle.lexer.specs.Calls.{gated, stepped, readNumber, readSingle, readDouble};
-ghost use Rattle.lexer.specs.Nexts.{markOf, turnOf, Stacked, Turning, Settles};
+ghost use Rattle.lexer.specs.Code.{markOf, turnOf, Stacked, Turning, Settles};
 
 // The session's cursor and marks.
 fn mark_of(s: Session) -> Mark
@@ -125,10 +125,10 @@ pub fn read_number(src: &[u8], end: bool, s: Session, list: &mut [u32], pool: &m
         return state::refuse_at_gate(shut, s);
     }
     if !modes::is_scripting(top_frame(s)) {
-        return state::refuse(source::OUT_OF_PLACE, state::span_of(s), s);
+        return state::refuse(byte::OUT_OF_PLACE, state::span_of(s), s);
     }
     let at = s.position as usize;
-    let plan = texts::number(at, src, at, end);
+    let plan = drafts::number(at, src, at, end);
     settle(src, end, s, plan, list, pool)
 }
 
@@ -141,10 +141,10 @@ pub fn read_single(src: &[u8], end: bool, s: Session, list: &mut [u32], pool: &m
         return state::refuse_at_gate(shut, s);
     }
     if !modes::is_scripting(top_frame(s)) {
-        return state::refuse(source::OUT_OF_PLACE, state::span_of(s), s);
+        return state::refuse(byte::OUT_OF_PLACE, state::span_of(s), s);
     }
     let at = s.position as usize;
-    let plan = texts::literal(
+    let plan = drafts::literal(
         token::LITERAL_SINGLE_QUOTED_STRING,
         at,
         Mode::Single,
@@ -164,10 +164,10 @@ pub fn read_double(src: &[u8], end: bool, s: Session, list: &mut [u32], pool: &m
         return state::refuse_at_gate(shut, s);
     }
     if !modes::is_scripting(top_frame(s)) {
-        return state::refuse(source::OUT_OF_PLACE, state::span_of(s), s);
+        return state::refuse(byte::OUT_OF_PLACE, state::span_of(s), s);
     }
     let at = s.position as usize;
-    let plan = texts::literal(
+    let plan = drafts::literal(
         token::LITERAL_DOUBLE_QUOTED_STRING,
         at,
         Mode::Double,

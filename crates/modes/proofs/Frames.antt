@@ -8,10 +8,10 @@ use native.Mathlib.Numerals.{add-one}
 use lib.Dec.{leb, ltb}
 use lib.ListN.{length, getD, drop, drop-of-length-le}
 use borrow.Author.Tests.{ne-eqb, lt-ltb, le-ltb, leb-true}
-use Rattle.source.specs.Words.{if_then_else_, every}
-use Rattle.source.specs.Bytes.{isDigit, isStart, isLetter, isIdentifier}
-use Rattle.source.proofs.Tests.{&&-left, &&-right}
-use Rattle.source.proofs.Words.{drop-one}
+use Rattle.byte.specs.Words.{if_then_else_, every}
+use Rattle.byte.specs.Bytes.{isDigit, isStart, isLetter, isIdentifier}
+use Rattle.byte.proofs.Tests.{&&-left, &&-right}
+use Rattle.byte.proofs.Words.{drop-one}
 use Rattle.state.specs.declared.Frame.{Frame}
 use Rattle.state.specs.declared.Label.{Label}
 use Rattle.state.specs.declared.Reading.{Reading}
@@ -30,7 +30,7 @@ use Rattle.outcome.specs.Comments.{slash, hash}
 use Rattle.outcome.specs.Scripts.{point, word, closeTag, scripting}
 use Rattle.outcome.specs.Steps.{textMode, framed}
 use Rattle.plan.specs.declared.Plan.{Plan}
-use Rattle.plan.specs.Plans.{outcomeOf, piecesOf, Named, Plans, noLabel, goesPlan, endingPlan}
+use Rattle.plan.specs.Code.{outcomeOf, piecesOf, Named, Plans, noLabel, goesPlan, endingPlan}
 use Rattle.modes.specs.Ends.{finishedPlan}
 use Rattle.plan.proofs.Plans.{goes-plans, wait-plans, ending-plans, sign-plans, last-sign-plans}
 use Rattle.modes.proofs.Looks.{name-small}

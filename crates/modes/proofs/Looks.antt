@@ -9,11 +9,11 @@ use lib.Dec.{eqb, ltb, leb·suc-suc}
 use lib.ListN.{length, getD, drop, length-drop, drop-of-length-le}
 use lib.Seq.{drop-drop}
 use borrow.Author.Tests.{ne-eqb, lt-ltb, le-ltb, not-true, not-false}
-use Rattle.source.specs.Words.{if_then_else_, run}
-use Rattle.source.specs.Bytes.{isStart, isIdentifier}
-use Rattle.source.specs.Identifiers.{RunEnd}
-use Rattle.source.specs.Refusals.{unexpectedEndOfFile, noProperty}
-use Rattle.source.proofs.Words.{drop-one}
+use Rattle.byte.specs.Words.{if_then_else_, run}
+use Rattle.byte.specs.Bytes.{isStart, isIdentifier}
+use Rattle.source.specs.Code.{RunEnd}
+use Rattle.byte.specs.Refusals.{unexpectedEndOfFile, noProperty}
+use Rattle.byte.proofs.Words.{drop-one}
 use Rattle.state.specs.declared.Frame.{Frame}
 use Rattle.token.specs.Kinds.{identifier, questionArrow, arrow}
 use Rattle.outcome.specs.declared.Change.{Change}
@@ -21,7 +21,7 @@ use Rattle.outcome.specs.declared.Run.{Run}
 use Rattle.outcome.specs.Outcomes.{Outcome, goes, ending}
 use Rattle.outcome.specs.Lookings.{named, isBracketed, varname, lookingForVarname, property, arrowHead, questioned, lookingForProperty, varOffset}
 use Rattle.plan.specs.declared.Plan.{Plan}
-use Rattle.plan.specs.Plans.{Here, Plans, copiedDraft, goesPlan, onePlan, endingPlan}
+use Rattle.plan.specs.Code.{Here, Plans, copiedDraft, goesPlan, onePlan, endingPlan}
 use Rattle.plan.proofs.Plans.{token-plans, goes-plans, refused-plans, wait-plans, ending-plans}
 
 -- ---- runs of identifier bytes

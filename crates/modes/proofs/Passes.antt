@@ -9,13 +9,13 @@ use lib.Dec.{eqb, leb}
 use lib.ListN.{length, getD, take, drop, length-drop}
 use lib.Seq.{length-take-le}
 use borrow.Author.Tests.{eqb-true, ne-eqb, leb-true, lt-leb, not-true, not-false}
-use Rattle.source.specs.Words.{if_then_else_, run, every}
-use Rattle.source.specs.Bytes.{isDigit, isStart, isLetter, isIdentifier, isNoBreak, isNoneOf}
-use Rattle.source.specs.Identifiers.{RunEnd}
-use Rattle.source.specs.Cursor.{passedByte, passed, LineStart}
+use Rattle.byte.specs.Words.{if_then_else_, run, every}
+use Rattle.byte.specs.Bytes.{isDigit, isStart, isLetter, isIdentifier, isNoBreak, isNoneOf}
+use Rattle.source.specs.Code.{RunEnd, LineStart}
+use Rattle.source.specs.Cursor.{passedByte, passed}
 use Rattle.source.specs.declared.Span.{Span}
-use Rattle.source.proofs.Tests.{&&-left, &&-right, &&-both, none-of}
-use Rattle.source.proofs.Words.{drop-one}
+use Rattle.byte.proofs.Tests.{&&-left, &&-right, &&-both, none-of}
+use Rattle.byte.proofs.Words.{drop-one}
 use Rattle.source.proofs.Cursor.{passed-position}
 use Rattle.source.proofs.Counts.{passed-same}
 use Rattle.state.specs.declared.Frame.{Frame}
@@ -24,8 +24,8 @@ use Rattle.outcome.specs.Outcomes.{goes}
 use Rattle.outcome.specs.Lookings.{named}
 use Rattle.outcome.specs.Scripts.{word, scripting}
 use Rattle.outcome.specs.Steps.{framed}
-use Rattle.plan.specs.Plans.{Here}
-use Rattle.modes.specs.Passes.{isScripting, isOther, PassesAt, Passes}
+use Rattle.plan.specs.Code.{Here}
+use Rattle.modes.specs.Code.{isScripting, isOther, PassesAt, Passes}
 use Rattle.modes.proofs.Looks.{named-stops}
 
 pub isScripting-arm : (f arm : Frame) (r : Bool) → f ≡ arm → r ≡ isScripting arm → r ≡ isScripting f

@@ -1,2 +1,2 @@
 pub mod Ends
-pub mod Passes
+pub mod Code

@@ -11,7 +11,7 @@ ghost use mathlib.Core.Bool.{true};
 ghost use lib.ListN.{drop};
 ghost use Rattle.state.specs.Bounds.{isFrame};
 ghost use Rattle.outcome.specs.Steps.{framed};
-ghost use Rattle.plan.specs.Plans.{Here, Plans};
+ghost use Rattle.plan.specs.Code.{Here, Plans};
 
 mod lookings;
 mod passing;
@@ -28,10 +28,10 @@ pub fn plan_at(src: &[u8], end: bool, f: Frame, nowdocs: Reading, depth: u32, at
     match f {
         Frame::Initial => initial::initial(src, at, end),
         Frame::Scripting => scripting::scripting(src, at, end, depth),
-        Frame::DoubleQuote => texts::text_mode(Mode::DoubleQuote, src, plan::no_label(), at, end),
-        Frame::ShellExec => texts::text_mode(Mode::ShellExec, src, plan::no_label(), at, end),
-        Frame::Heredoc(label) => texts::text_mode(Mode::Heredoc, src, label, at, end),
-        Frame::Nowdoc(label) => texts::nowdoc(nowdocs, src, label, at, end),
+        Frame::DoubleQuote => drafts::text_mode(Mode::DoubleQuote, src, plan::no_label(), at, end),
+        Frame::ShellExec => drafts::text_mode(Mode::ShellExec, src, plan::no_label(), at, end),
+        Frame::Heredoc(label) => drafts::text_mode(Mode::Heredoc, src, label, at, end),
+        Frame::Nowdoc(label) => drafts::nowdoc(nowdocs, src, label, at, end),
         Frame::LookingForVarname => lookings::looking_for_varname(src, at, end),
         Frame::LookingForProperty => lookings::looking_for_property(src, at, end),
         Frame::VarOffset => lookings::var_offset(src, at, end),

@@ -7,9 +7,9 @@ use state::Frame;
 ghost use mathlib.Core.Path.{_≡_};
 ghost use Prim.Native.Nat.{_+_, _≤_, _<_};
 ghost use lib.ListN.{length, drop};
-ghost use Rattle.source.specs.Refusals.{noProperty};
+ghost use Rattle.byte.specs.Refusals.{noProperty};
 ghost use Rattle.outcome.specs.Lookings.{named, isBracketed, varname, lookingForVarname, arrowHead, questioned, lookingForProperty, varOffset};
-ghost use Rattle.plan.specs.Plans.{Here, Plans};
+ghost use Rattle.plan.specs.Code.{Here, Plans};
 
 // How many identifier bytes come, with the one before `at`.
 pub fn named_at(src: &[u8], at: usize, end: bool) -> Run
@@ -56,7 +56,7 @@ pub fn looking_for_varname(src: &[u8], at: usize, end: bool) -> Plan
     if src.len() <= at {
         return plan::ending(end, plan::goes(at, Change::Swap(Frame::Scripting)));
     }
-    if !source::is_start(src[at]) {
+    if !byte::is_start(src[at]) {
         return plan::goes(at, Change::Swap(Frame::Scripting));
     }
     let run = named_at(src, at + 1, end);
@@ -71,7 +71,7 @@ fn no_property(at: usize) -> Plan
     ensures { λ r. ⌜ r ≡ Plan.Refused noProperty at ⌝ }
 {
     Plan::Refused {
-        number: source::NO_PROPERTY,
+        number: byte::NO_PROPERTY,
         place: at,
     }
 }
@@ -121,7 +121,7 @@ pub fn looking_for_property(src: &[u8], at: usize, end: bool) -> Plan
     if b == b'-' {
         return arrow_head(token::ARROW, 1, src, at, end);
     }
-    if !source::is_start(b) {
+    if !byte::is_start(b) {
         return no_property(at);
     }
     let run = named_at(src, at + 1, end);
@@ -138,7 +138,7 @@ pub fn var_offset(src: &[u8], at: usize, end: bool) -> Plan
 {
     if src.len() <= at {
         let refusal = Plan::Refused {
-            number: source::UNEXPECTED_END_OF_FILE,
+            number: byte::UNEXPECTED_END_OF_FILE,
             place: at,
         };
         return plan::ending(end, refusal);

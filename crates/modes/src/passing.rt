@@ -2,11 +2,10 @@
 use source::Span;
 use state::Frame;
 ghost use mathlib.Core.Path.{_≡_};
-ghost use Prim.Native.Nat.{_≤_};
 ghost use lib.ListN.{length};
-ghost use Rattle.source.specs.Cursor.{Reaches};
-ghost use Rattle.plan.specs.Plans.{Here};
-ghost use Rattle.modes.specs.Passes.{isScripting, isOther, PassesAt, Passes};
+ghost use Rattle.source.specs.Code.{Reaches};
+ghost use Rattle.plan.specs.Code.{Here};
+ghost use Rattle.modes.specs.Code.{isScripting, isOther, PassesAt, Passes};
 
 // Whether a frame is Scripting.
 pub fn is_scripting(f: Frame) -> bool
@@ -40,7 +39,7 @@ fn is_other(b: u8) -> bool
         b'<' => false,
         b'/' => false,
         b'#' => false,
-        _ => !source::is_digit(b),
+        _ => !byte::is_digit(b),
     }
 }
 
@@ -53,7 +52,7 @@ fn passed_at(src: &[u8], at: usize) -> usize
         return 0;
     }
     let b = src[at];
-    if source::is_start(b) {
+    if byte::is_start(b) {
         let n = source::run_end(src, at + 1);
         if n == src.len() {
             return 0;

@@ -15,13 +15,13 @@ ghost use mathlib.Core.List.{[]};
 ghost use Prim.Native.Nat.{_+_, _≤_, _<_};
 ghost use lib.Dec.{ltb};
 ghost use lib.ListN.{length, getD, drop};
-ghost use Rattle.source.specs.Words.{if_then_else_};
+ghost use Rattle.byte.specs.Words.{if_then_else_};
 ghost use Rattle.outcome.specs.declared.Change.{Change};
 ghost use Rattle.outcome.specs.Lookings.{named};
 ghost use Rattle.unit.specs.Readings.{textAt};
 ghost use Rattle.outcome.specs.Texts.{literal};
 ghost use Rattle.outcome.specs.Scripts.{point, word, closeTag, scripting};
-ghost use Rattle.plan.specs.Plans.{Here, Plans};
+ghost use Rattle.plan.specs.Code.{Here, Plans};
 ghost use Rattle.modes.specs.Ends.{finishedPlan};
 
 // The opening quote at a place: a literal of this kind.
@@ -29,7 +29,7 @@ fn quoted(kind: u32, mode: Mode, src: &[u8], at: usize, end: bool) -> Plan
     requires { ⌜ (at < length (now src)) × (length (now src) ≤ 65536) ⌝ }
     ensures { λ r. ⌜ Plans (now (src .entry)) end (literal kind at (textAt mode [] end (at + 1) (drop (at + 1) (now (src .entry))))) r ⌝ }
 {
-    texts::literal(kind, at, mode, src, at + 1, end)
+    drafts::literal(kind, at, mode, src, at + 1, end)
 }
 
 // The `.` at a place: before a digit it begins a number.
@@ -41,8 +41,8 @@ fn point(src: &[u8], at: usize, end: bool) -> Plan
     if src.len() <= i {
         return plan::ending(end, plan::goes(i, Change::Keep));
     }
-    if source::is_digit(src[i]) {
-        return texts::number(at, src, at, end);
+    if byte::is_digit(src[i]) {
+        return drafts::number(at, src, at, end);
     }
     plan::goes(i, Change::Keep)
 }
@@ -118,10 +118,10 @@ pub fn scripting(src: &[u8], at: usize, end: bool, depth: u32) -> Plan
         b'/' => comment::slash(src, at, end),
         b'#' => comment::hash(src, at, end),
         _ => {
-            if source::is_digit(b) {
-                return texts::number(at, src, at, end);
+            if byte::is_digit(b) {
+                return drafts::number(at, src, at, end);
             }
-            if source::is_start(b) {
+            if byte::is_start(b) {
                 return word(src, at, end);
             }
             plan::goes(i, Change::Keep)

@@ -8,9 +8,9 @@ use lib.Dec.{eqb, leb}
 use lib.ListN.{length, drop}
 use lib.Seq.{drop-at}
 use borrow.Author.Tests.{eqb-true, leb-true, le-leb, not-true}
-use Rattle.source.specs.Words.{if_then_else_}
-use Rattle.source.specs.Bytes.{isDigit, isOctal, isHex, isLetter, isStart, isIdentifier}
-use Rattle.source.proofs.Tests.{&&-left, &&-right, &&-both}
+use Rattle.byte.specs.Words.{if_then_else_}
+use Rattle.byte.specs.Bytes.{isDigit, isOctal, isHex, isLetter, isStart, isIdentifier}
+use Rattle.byte.proofs.Tests.{&&-left, &&-right, &&-both}
 use Rattle.number.specs.declared.Base.{Base}
 use Rattle.number.specs.declared.Literal.{Literal}
 use Rattle.number.specs.Numbers.{Digits, Reading, isOne, baseNamed, baseOf, isExponent, before, last, digitsMore}

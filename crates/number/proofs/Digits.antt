@@ -24,7 +24,3 @@ module _ (base : Base) (end : Bool) (n b : ℕ) where
       pub digitsMore-joined : eqb b 95 ≡ true → isOne base c ≡ true → digitsMore base end n (b ∷ c ∷ xs) ≡ before c (digitsMore base end (suc (suc n)) xs)
       unfolding digitsMore
       digitsMore-joined under one = rw (none, under, one)
-
-      pub digitsMore-lone : eqb b 95 ≡ true → isOne base c ≡ false → digitsMore base end n (b ∷ c ∷ xs) ≡ Digits.Read [] n
-      unfolding digitsMore
-      digitsMore-lone under other = rw (none, under, other)

@@ -9,8 +9,8 @@ use native.Mathlib.Numerals.{add-one}
 use lib.ListN.{length, getD, drop, length-drop, drop-of-length-le}
 use lib.Seq.{drop-drop}
 use borrow.Author.Tests.{eq-eqb, ne-eqb}
-use Rattle.source.specs.Bytes.{isDigit}
-use Rattle.source.proofs.Words.{drop-one}
+use Rattle.byte.specs.Bytes.{isDigit}
+use Rattle.byte.proofs.Words.{drop-one}
 use Rattle.number.specs.declared.Ahead.{Ahead}
 use Rattle.number.specs.declared.Base.{Base}
 use Rattle.number.specs.declared.Extent.{Extent}
@@ -19,7 +19,7 @@ use Rattle.number.specs.declared.Place.{Place}
 use Rattle.number.specs.Numbers.{Digits, Reading, baseOf, isExponent, isSign, last}
 use Rattle.number.specs.Numbers.{digits, signed, closing, followed, power, exponent, fraction, digitAhead}
 use Rattle.number.specs.Numbers.{powerAhead, decided, marked, tail, decimal, prefixed, numberIn, numberAt}
-use Rattle.number.specs.Extents.{placeOf, extentOf, closingExtent}
+use Rattle.number.specs.Code.{placeOf, extentOf, closingExtent}
 use Rattle.number.proofs.Values.{DigitsTaken, digits-taken, prefix}
 use Rattle.number.proofs.Runs.{extentOf-closing, extentOf-onto}
 

@@ -4,7 +4,7 @@
 --   float-read        DNUM, EXPONENT_DNUM
 --   differences       texts that the manual does not have as literals, and what is read of them
 -- Assumes nothing.
-use Prim.Native.Nat.{ℕ, suc, _+_, _-_}
+use Prim.Native.Nat.{ℕ, suc, _+_}
 use mathlib.Core.Path.{_≡_, refl, _∙_}
 use mathlib.Core.Bool.{Bool, true, false, _&&_, _||_, false≢true}
 use mathlib.Core.List.{List, [], _∷_, _++_, append-assoc, append-nil}
@@ -12,9 +12,9 @@ use native.Mathlib.Omega.{arith}
 use lib.Dec.{eqb}
 use lib.ListN.{length, length-append}
 use borrow.Author.Tests.{eqb-true}
-use Rattle.source.specs.Words.{if_then_else_, bytes}
-use Rattle.source.specs.Bytes.{isDigit, isOctal, isHex}
-use Rattle.source.proofs.Tests.{&&-left, &&-right, &&-both}
+use Rattle.byte.specs.Words.{if_then_else_, bytes}
+use Rattle.byte.specs.Bytes.{isDigit, isOctal, isHex}
+use Rattle.byte.proofs.Tests.{&&-left, &&-right, &&-both}
 use Rattle.number.specs.declared.Ahead.{Ahead}
 use Rattle.number.specs.declared.Base.{Base}
 use Rattle.number.specs.declared.Literal.{Literal}

@@ -9,7 +9,7 @@ use mathlib.Core.Bool.{Bool, true}
 use mathlib.Core.List.{List, [], _∷_}
 use native.Mathlib.Omega.{arith}
 use lib.ListN.{drop}
-use Rattle.source.specs.Bytes.{isDigit}
+use Rattle.byte.specs.Bytes.{isDigit}
 use Rattle.number.specs.declared.Base.{Base}
 use Rattle.number.specs.declared.Literal.{Literal}
 use Rattle.number.specs.Numbers.{Digits, Reading, isOne, baseOf, before, digitsMore, digits, onto, closing, followed}

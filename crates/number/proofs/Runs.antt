@@ -10,14 +10,14 @@ use lib.Dec.{eqb}
 use lib.ListN.{length, getD, drop, length-drop, drop-of-length-le}
 use lib.Seq.{drop-drop}
 use borrow.Author.Tests.{eq-eqb, ne-eqb, not-true, not-false}
-use Rattle.source.specs.Words.{if_then_else_}
-use Rattle.source.proofs.Words.{drop-one}
+use Rattle.byte.specs.Words.{if_then_else_}
+use Rattle.byte.proofs.Words.{drop-one}
 use Rattle.number.specs.declared.Base.{Base}
 use Rattle.number.specs.declared.Literal.{Literal}
 use Rattle.number.specs.declared.Place.{Place}
 use Rattle.number.specs.Numbers.{Digits, Reading, isOne, baseNamed, baseOf, isSign, before, last, digitsMore}
 use Rattle.number.specs.Numbers.{digits, signed, onto, closing}
-use Rattle.number.specs.Extents.{placeOf, extentOf, closingExtent, digitWidth, WidthAt, stopped}
+use Rattle.number.specs.Code.{placeOf, extentOf, closingExtent, digitWidth, WidthAt, stopped}
 
 -- a place and the next in the source
 drop-last : (src : List ℕ) (at : ℕ) → at < length src → length src - at < 2 → drop at src ≡ getD src at 0 ∷ []

@@ -13,9 +13,9 @@ use lib.Dec.{eqb}
 use lib.ListN.{length, take, drop, length-drop}
 use lib.Seq.{take-add, length-take-le}
 use borrow.Author.Tests.{eqb-true, ne-eqb}
-use Rattle.source.specs.Words.{if_then_else_}
-use Rattle.source.specs.Bytes.{isDigit, isOctal, isHex}
-use Rattle.source.proofs.Tests.{&&-left, &&-right, choice}
+use Rattle.byte.specs.Words.{if_then_else_}
+use Rattle.byte.specs.Bytes.{isDigit, isOctal, isHex}
+use Rattle.byte.proofs.Tests.{&&-left, &&-right, choice}
 use Rattle.number.specs.declared.Ahead.{Ahead}
 use Rattle.number.specs.declared.Base.{Base}
 use Rattle.number.specs.declared.Literal.{Literal}

@@ -14,10 +14,10 @@ use lib.Dec.{eqb}
 use lib.ListN.{length, drop, length-drop, length-append, drop-of-length-le}
 use lib.Seq.{drop-append-le}
 use borrow.Author.Tests.{eqb-true}
-use Rattle.source.specs.Words.{if_then_else_, every}
-use Rattle.source.specs.Bytes.{isDigit, isOctal, isHex}
-use Rattle.source.specs.Demand.{Apart, Waits}
-use Rattle.source.proofs.Demand.{waits}
+use Rattle.byte.specs.Words.{if_then_else_, every}
+use Rattle.byte.specs.Bytes.{isDigit, isOctal, isHex}
+use Rattle.byte.specs.Demand.{Apart, Waits}
+use Rattle.byte.proofs.Demand.{waits}
 use Rattle.number.specs.declared.Ahead.{Ahead}
 use Rattle.number.specs.declared.Base.{Base}
 use Rattle.number.specs.declared.Literal.{Literal}

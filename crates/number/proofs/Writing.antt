@@ -8,14 +8,14 @@ use native.Mathlib.Numerals.{add-one}
 use lib.ListN.{length, getD, set, take, drop, length-append, length-drop, take-append-drop}
 use lib.Seq.{take-suc, take-all}
 use borrow.Author.Tests.{eq-eqb, ne-eqb}
-use Rattle.source.specs.Laid.{laid}
-use Rattle.source.proofs.Laid.{set-laid, Writing, writing-first, writing-on, writing-end}
+use Rattle.byte.specs.Laid.{laid}
+use Rattle.byte.proofs.Laid.{set-laid, Writing, writing-first, writing-on, writing-end}
 use Rattle.number.specs.declared.Base.{Base}
 use Rattle.number.specs.declared.Extent.{Extent}
 use Rattle.number.specs.declared.Literal.{Literal}
 use Rattle.number.specs.declared.Scanned.{Scanned}
 use Rattle.number.specs.Numbers.{Reading, baseOf, numberAt, scanned, lowerExponent, spelling, spelled, valueOf}
-use Rattle.number.specs.Extents.{extentOf}
+use Rattle.number.specs.Code.{extentOf}
 use Rattle.number.proofs.Values.{spelled-append, length-spelled, numberAt-inside, numberAt-value}
 
 -- one byte more of the text

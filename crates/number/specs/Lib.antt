@@ -1,3 +1,3 @@
 pub mod Numbers
-pub mod Extents
+pub mod Code
 pub mod Manual

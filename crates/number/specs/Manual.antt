@@ -11,8 +11,8 @@ use Prim.Native.Char.{code}
 use mathlib.Core.Bool.{Bool, true, false, not, _&&_, _||_}
 use mathlib.Core.List.{List, [], _∷_, _++_}
 use mathlib.Core.Path.{_≡_, refl}
-use Rattle.source.specs.Words.{if_then_else_, _is_, _from_to_, bytes}
-use Rattle.source.specs.Bytes.{isDigit, isOctal, isHex, isIdentifier}
+use Rattle.byte.specs.Words.{if_then_else_, _is_, _from_to_, bytes}
+use Rattle.byte.specs.Bytes.{isDigit, isOctal, isHex, isIdentifier}
 
 unfoldable pub grouped : (ℕ → Bool) → Bool → List ℕ → Bool
 grouped digit behind [] = behind

@@ -14,8 +14,8 @@ use mathlib.Core.Bool.{Bool, true, false, _&&_, _||_}
 use mathlib.Core.List.{List, [], _∷_, _++_}
 use mathlib.Core.Path.{_≡_, refl}
 use lib.ListN.{length, take, drop}
-use Rattle.source.specs.Words.{if_then_else_, _is_, _from_to_, bytes}
-use Rattle.source.specs.Bytes.{isDigit, isOctal, isHex}
+use Rattle.byte.specs.Words.{if_then_else_, _is_, _from_to_, bytes}
+use Rattle.byte.specs.Bytes.{isDigit, isOctal, isHex}
 use Rattle.number.specs.declared.Ahead.{Ahead}
 use Rattle.number.specs.declared.Base.{Base}
 use Rattle.number.specs.declared.Literal.{Literal}

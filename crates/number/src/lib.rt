@@ -3,11 +3,11 @@
 ghost use mathlib.Core.Path.{_≡_};
 ghost use Prim.Native.Nat.{_+_, _<_, _≤_};
 ghost use lib.ListN.{length, drop};
-ghost use Rattle.source.specs.Laid.{laid};
+ghost use Rattle.byte.specs.Laid.{laid};
 ghost use Rattle.number.specs.Numbers.{isOne, baseNamed, baseOf, isExponent, isSign, last, digitsMore, digits, signed};
 ghost use Rattle.number.specs.Numbers.{power, exponent, fraction, digitAhead, powerAhead, marked, tail, decimal, prefixed};
 ghost use Rattle.number.specs.Numbers.{numberAt, scanned, valueOf};
-ghost use Rattle.number.specs.Extents.{placeOf, extentOf, closingExtent, WidthAt, stopped};
+ghost use Rattle.number.specs.Code.{placeOf, extentOf, closingExtent, WidthAt, stopped};
 
 mod value;
 
@@ -63,9 +63,9 @@ fn is_one(base: Base, b: u8) -> bool
 {
     match base {
         Base::Binary => (b'0' <= b) & (b <= b'1'),
-        Base::Octal => source::is_octal(b),
-        Base::Decimal => source::is_digit(b),
-        Base::Hex => source::is_hex(b),
+        Base::Octal => byte::is_octal(b),
+        Base::Decimal => byte::is_digit(b),
+        Base::Hex => byte::is_hex(b),
     }
 }
 
@@ -255,7 +255,7 @@ fn digit_ahead(src: &[u8], at: usize, end: bool) -> Ahead
         }
         return Ahead::Undecided;
     }
-    if source::is_digit(src[at]) {
+    if byte::is_digit(src[at]) {
         return Ahead::Yes;
     }
     Ahead::No

@@ -3,7 +3,7 @@ use crate::Base;
 ghost use mathlib.Core.Path.{_≡_};
 ghost use Prim.Native.Nat.{_≤_};
 ghost use lib.ListN.{length};
-ghost use Rattle.source.specs.Laid.{laid};
+ghost use Rattle.byte.specs.Laid.{laid};
 ghost use Rattle.number.specs.declared.Base.{Base};
 ghost use Rattle.number.specs.Numbers.{lowerExponent, spelling, spelled};
 

@@ -7,9 +7,8 @@ use native.Mathlib.Omega.{arith}
 use native.Mathlib.Numerals.{add-one}
 use lib.ListN.{length, getD, drop, drop-of-length-le}
 use borrow.Author.Tests.{ne-eqb, lt-ltb, le-ltb, not-true, not-false}
-use Rattle.source.specs.Words.{_is_}
-use Rattle.source.specs.Bytes.{isStart, isIdentifier}
-use Rattle.source.proofs.Words.{drop-one}
+use Rattle.byte.specs.Bytes.{isStart, isIdentifier}
+use Rattle.byte.proofs.Words.{drop-one}
 use Rattle.outcome.specs.declared.DocStringKind.{DocStringKind}
 use Rattle.outcome.specs.declared.Opening.{Opening}
 use Rattle.outcome.specs.Openings.{lastOpening, lineFeed, docBreak, docQuote, docEnd, docName, docStart, docLabel, thirdLess, opening}

@@ -14,8 +14,8 @@ use Rattle.outcome.specs.declared.Opening.{Opening}
 use Rattle.outcome.specs.Openings.{opening, docFrame, opened}
 use Rattle.outcome.proofs.Openings.{LabelInside, opening-label}
 use Rattle.plan.specs.declared.Plan.{Plan}
-use Rattle.plan.specs.Plans.{piecesOf, outcomeOf, Plans, goesPlan}
-use Rattle.opening.specs.Openings.{blockPlan}
+use Rattle.plan.specs.Code.{piecesOf, outcomeOf, Plans, goesPlan}
+use Rattle.opening.specs.Code.{blockPlan}
 
 pub docFrame-arm : (kind arm : DocStringKind) (label : Label) (r : Frame) → kind ≡ arm → r ≡ docFrame arm label → r ≡ docFrame kind label
 docFrame-arm kind arm label r e h = rw e h

@@ -12,8 +12,8 @@ ghost use Prim.Native.Nat.{_+_, _≤_, _<_};
 ghost use lib.ListN.{length, drop};
 ghost use Rattle.outcome.specs.Openings.{lastOpening, lineFeed, docBreak, docQuote, docEnd, docName, docStart, docLabel, thirdLess};
 ghost use Rattle.outcome.specs.Openings.{opening, docFrame, opened};
-ghost use Rattle.plan.specs.Plans.{Plans};
-ghost use Rattle.opening.specs.Openings.{blockPlan};
+ghost use Rattle.plan.specs.Code.{Plans};
+ghost use Rattle.opening.specs.Code.{blockPlan};
 
 // Nothing is left.
 fn last_opening(end: bool) -> Opening
@@ -108,7 +108,7 @@ fn doc_name(src: &[u8], n: usize, end: bool, kind: DocStringKind, start: usize) 
     let mut i = n;
     let mut len = 1;
     while i < src.len() {
-        if !source::is_identifier(src[i]) {
+        if !byte::is_identifier(src[i]) {
             return doc_end(src, i, end, kind, start, len);
         }
         if 64 <= len {
@@ -127,7 +127,7 @@ fn doc_start(src: &[u8], n: usize, end: bool, kind: DocStringKind) -> Opening
     if src.len() <= n {
         return last_opening(end);
     }
-    if source::is_start(src[n]) {
+    if byte::is_start(src[n]) {
         return doc_name(src, n + 1, end, kind, n);
     }
     Opening::Other

@@ -6,16 +6,16 @@
 use Prim.Native.Nat.{ℕ, suc, _+_, _-_, _≤_, _<_}
 use Prim.Native.Char.{code}
 use mathlib.Core.Path.{_≡_, refl, sym, ap, _∙_}
-use mathlib.Core.Bool.{Bool, true, false, _&&_}
+use mathlib.Core.Bool.{Bool, true, false}
 use mathlib.Core.List.{List, [], _∷_}
 use native.Mathlib.Omega.{arith}
 use lib.Dec.{ltb}
 use lib.ListN.{length, take, drop, length-drop}
 use lib.Seq.{drop-drop}
 use borrow.Author.Tests.{ltb-true, le-leb}
-use Rattle.source.specs.Words.{if_then_else_, _is_, every}
-use Rattle.source.specs.Bytes.{isDigit, isStart, isIdentifier}
-use Rattle.source.proofs.Tests.{choice, &&-both}
+use Rattle.byte.specs.Words.{if_then_else_, _is_, every}
+use Rattle.byte.specs.Bytes.{isDigit, isStart, isIdentifier}
+use Rattle.byte.proofs.Tests.{choice, &&-both}
 use Rattle.state.specs.declared.Frame.{Frame}
 use Rattle.state.specs.declared.Label.{Label}
 use Rattle.state.specs.declared.Reading.{Reading}

@@ -9,9 +9,9 @@ use Prim.Native.Char.{code}
 use native.Mathlib.Omega.{arith}
 use lib.ListN.{length, length-append}
 use lib.Seq.{take-append-le}
-use Rattle.source.specs.Words.{if_then_else_, _is_, every, bytes}
-use Rattle.source.specs.Refusals.{unexpectedEndOfFile}
-use Rattle.source.proofs.Tests.{choice, &&-right}
+use Rattle.byte.specs.Words.{if_then_else_, _is_, every, bytes}
+use Rattle.byte.specs.Refusals.{unexpectedEndOfFile}
+use Rattle.byte.proofs.Tests.{choice, &&-right}
 use Rattle.token.specs.Kinds.{comment}
 use Rattle.unit.proofs.Stays.{Stays, clash, if-stays}
 use Rattle.unit.proofs.Openings.{oneMore}

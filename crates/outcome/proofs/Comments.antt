@@ -8,8 +8,8 @@ use mathlib.Core.Bool.{Bool, true, false, false≢true}
 use mathlib.Core.List.{List, [], _∷_}
 use native.Mathlib.Omega.{arith}
 use lib.ListN.{length}
-use Rattle.source.specs.Words.{_is_}
-use Rattle.source.proofs.Tests.{choice, &&-right}
+use Rattle.byte.specs.Words.{_is_}
+use Rattle.byte.proofs.Tests.{choice, &&-right}
 use Rattle.token.specs.Kinds.{comment}
 use Rattle.outcome.specs.declared.CommentEnd.{CommentEnd}
 use Rattle.outcome.specs.declared.CommentKind.{CommentKind}

@@ -11,10 +11,10 @@ use mathlib.Core.Bool.{Bool, true, false}
 use mathlib.Core.List.{List, [], _∷_, _++_, append-nil, append-assoc}
 use Prim.Native.Nat.{ℕ}
 use lib.Dec.{ltb}
-use Rattle.source.specs.Words.{if_then_else_, every}
-use Rattle.source.specs.Demand.{isByte, Apart, Waits}
-use Rattle.source.specs.Refusals.{stackFull}
-use Rattle.source.proofs.Demand.{apart-by, waits}
+use Rattle.byte.specs.Words.{if_then_else_, every}
+use Rattle.byte.specs.Demand.{isByte, Apart, Waits}
+use Rattle.byte.specs.Refusals.{stackFull}
+use Rattle.byte.proofs.Demand.{apart-by, waits}
 use Rattle.unit.proofs.Stays.{Stays, clash}
 use Rattle.outcome.specs.declared.Change.{Change}
 use Rattle.outcome.specs.Outcomes.{Piece, Outcome, limited}

@@ -9,9 +9,9 @@ use native.Mathlib.Omega.{arith}
 use lib.Dec.{eqb}
 use lib.ListN.{length, drop, length-drop, length-append}
 use lib.Seq.{take-append-le, drop-append-le}
-use Rattle.source.specs.Words.{_is_, every, bytes}
-use Rattle.source.specs.Demand.{isByte}
-use Rattle.source.proofs.Tests.{choice, &&-left, &&-right}
+use Rattle.byte.specs.Words.{_is_, every, bytes}
+use Rattle.byte.specs.Demand.{isByte}
+use Rattle.byte.proofs.Tests.{choice, &&-left, &&-right}
 use Rattle.unit.proofs.Stays.{Stays, clash, if-stays}
 use Rattle.unit.proofs.Openings.{oneMore, if-waits}
 use Rattle.outcome.specs.declared.OpenTagKind.{OpenTagKind}

@@ -1,13 +1,13 @@
 -- Where the first tag of a text lies: `tagged-inside`. Assumes nothing.
 use Prim.Native.Nat.{ℕ, suc, _+_, _≤_}
 use mathlib.Core.Path.{_≡_, subst}
-use mathlib.Core.Bool.{Bool, true, false}
+use mathlib.Core.Bool.{Bool}
 use mathlib.Core.List.{List, [], _∷_}
 use native.Mathlib.Omega.{arith}
 use lib.Dec.{eqb}
 use lib.ListN.{length}
-use Rattle.source.specs.Words.{if_then_else_, _is_, bytes}
-use Rattle.source.proofs.Tests.{choice}
+use Rattle.byte.specs.Words.{_is_, bytes}
+use Rattle.byte.proofs.Tests.{choice}
 use Rattle.outcome.specs.declared.OpenTagKind.{OpenTagKind}
 use Rattle.outcome.specs.declared.Tag.{Tag}
 use Rattle.outcome.specs.declared.Tagged.{Tagged}

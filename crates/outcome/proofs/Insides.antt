@@ -2,7 +2,7 @@
 --   framed-inside     Inside n (n + length xs) (framed f src nowdocs depth end n xs)
 --   step-inside       Inside (s .position) (length src) (stepOutcome src end s), and the readings' the same
 -- So positions never fall, and a step has no more value bytes than it passes. Assumes nothing.
-use Prim.Native.Nat.{ℕ, suc, _+_, _-_, _≤_, _<_}
+use Prim.Native.Nat.{ℕ, suc, _+_, _-_, _≤_}
 use Prim.Native.Char.{code}
 use mathlib.Core.Path.{_≡_, refl}
 use mathlib.Core.Bool.{Bool}
@@ -10,10 +10,10 @@ use mathlib.Core.List.{List, [], _∷_}
 use native.Mathlib.Omega.{arith}
 use lib.Dec.{ltb}
 use lib.ListN.{length, take, drop, length-drop}
-use Rattle.source.specs.Words.{if_then_else_, _is_}
-use Rattle.source.specs.Refusals.{noProperty, unexpectedEndOfFile}
-use Rattle.source.specs.Bytes.{isDigit, isStart, isIdentifier}
-use Rattle.source.proofs.Tests.{choice}
+use Rattle.byte.specs.Words.{if_then_else_, _is_}
+use Rattle.byte.specs.Refusals.{noProperty, unexpectedEndOfFile}
+use Rattle.byte.specs.Bytes.{isDigit, isStart, isIdentifier}
+use Rattle.byte.proofs.Tests.{choice}
 use Rattle.state.specs.declared.Frame.{Frame}
 use Rattle.state.specs.declared.Reading.{Reading}
 use Rattle.state.specs.declared.Session.{Session}

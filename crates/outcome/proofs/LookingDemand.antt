@@ -4,14 +4,14 @@
 use mathlib.Core.Path.{_≡_, refl, ap, _∙_}
 use mathlib.Core.Bool.{Bool, true, false}
 use mathlib.Core.List.{List, [], _∷_, _++_}
-use Prim.Native.Nat.{ℕ, suc, _+_, _-_, _≤_, _<_}
+use Prim.Native.Nat.{ℕ, suc, _+_, _≤_, _<_}
 use native.Mathlib.Omega.{arith}
 use lib.ListN.{length, drop, length-drop}
 use lib.Seq.{take-append-le, drop-append-le, drop-append-seam}
-use Rattle.source.specs.Words.{if_then_else_, _is_, every, bytes}
-use Rattle.source.specs.Bytes.{isStart, isIdentifier, isLetter, isDigit}
-use Rattle.source.specs.Refusals.{unexpectedEndOfFile, noProperty}
-use Rattle.source.proofs.Tests.{choice}
+use Rattle.byte.specs.Words.{if_then_else_, _is_, every, bytes}
+use Rattle.byte.specs.Bytes.{isStart, isIdentifier, isLetter, isDigit}
+use Rattle.byte.specs.Refusals.{unexpectedEndOfFile, noProperty}
+use Rattle.byte.proofs.Tests.{choice}
 use Rattle.state.specs.declared.Frame.{Frame}
 use Rattle.token.specs.Kinds.{identifier, arrow, questionArrow}
 use Rattle.unit.proofs.Stays.{Stays, clash, if-stays}

@@ -6,9 +6,9 @@ use mathlib.Core.Bool.{Bool, true, false}
 use mathlib.Core.List.{List, [], _∷_, _++_, append-nil}
 use Prim.Native.Nat.{ℕ, suc}
 use lib.Dec.{ltb}
-use Rattle.source.specs.Words.{if_then_else_, _is_, every, bytes}
-use Rattle.source.specs.Bytes.{isStart, isIdentifier, isLetter, isDigit}
-use Rattle.source.specs.Demand.{isByte}
+use Rattle.byte.specs.Words.{if_then_else_, _is_, every, bytes}
+use Rattle.byte.specs.Bytes.{isStart, isIdentifier, isLetter, isDigit}
+use Rattle.byte.specs.Demand.{isByte}
 use Rattle.unit.proofs.Stays.{Stays, clash}
 use Rattle.outcome.specs.declared.DocStringKind.{DocStringKind}
 use Rattle.outcome.specs.declared.Opening.{Opening}

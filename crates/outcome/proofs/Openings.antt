@@ -1,16 +1,16 @@
 -- The label of a text block that opens: `opening-label`, 1 to 64 identifier bytes of the source, and the block's break behind it.
 -- Assumes nothing.
 use Prim.Native.Nat.{ℕ, zero, suc, _+_, _-_, _≤_, _<_}
-use mathlib.Core.Path.{_≡_, refl, sym, ap, subst, _∙_}
-use mathlib.Core.Bool.{Bool, true, false, _&&_, _||_}
+use mathlib.Core.Path.{_≡_, refl, ap, subst, _∙_}
+use mathlib.Core.Bool.{Bool, true, false, _||_}
 use mathlib.Core.List.{List, [], _∷_}
 use native.Mathlib.Omega.{arith}
-use lib.Dec.{ltb, eqb}
+use lib.Dec.{ltb}
 use lib.ListN.{length, take, drop}
 use borrow.Author.Tests.{ltb-true}
-use Rattle.source.specs.Words.{if_then_else_, _is_, every}
-use Rattle.source.specs.Bytes.{isStart, isIdentifier, isDigit}
-use Rattle.source.proofs.Tests.{choice, &&-left, &&-right, &&-both}
+use Rattle.byte.specs.Words.{if_then_else_, _is_, every}
+use Rattle.byte.specs.Bytes.{isStart, isIdentifier, isDigit}
+use Rattle.byte.proofs.Tests.{choice, &&-left, &&-right, &&-both}
 use Rattle.outcome.specs.declared.DocStringKind.{DocStringKind}
 use Rattle.outcome.specs.declared.Opening.{Opening}
 use Rattle.outcome.specs.Openings.{lineFeed, docBreak, docQuote, docEnd, docName, docStart, docLabel, thirdLess, opening}

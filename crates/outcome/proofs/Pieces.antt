@@ -7,9 +7,9 @@ use mathlib.Core.List.{List, [], _∷_, _++_, append-nil}
 use native.Mathlib.Omega.{arith}
 use lib.Dec.{eqb}
 use lib.ListN.{length, take, length-take, length-append}
-use Rattle.source.specs.Words.{if_then_else_}
-use Rattle.source.specs.Refusals.{wait}
-use Rattle.source.proofs.Tests.{choice}
+use Rattle.byte.specs.Words.{if_then_else_}
+use Rattle.byte.specs.Refusals.{wait}
+use Rattle.byte.proofs.Tests.{choice}
 use Rattle.outcome.specs.Outcomes.{Piece, Outcome, piece, unlessEmpty, values}
 use Rattle.outcome.specs.Insides.{ToldInside, PlaceInside, Inside}
 

@@ -13,9 +13,9 @@ use native.Mathlib.Omega.{arith}
 use lib.Dec.{ltb}
 use lib.ListN.{length, drop, length-drop}
 use lib.Seq.{length-take-le}
-use Rattle.source.specs.Words.{if_then_else_, _is_}
-use Rattle.source.specs.Bytes.{isDigit, isStart, isIdentifier}
-use Rattle.source.proofs.Tests.{choice}
+use Rattle.byte.specs.Words.{if_then_else_, _is_}
+use Rattle.byte.specs.Bytes.{isDigit, isStart, isIdentifier}
+use Rattle.byte.proofs.Tests.{choice}
 use Rattle.state.specs.declared.Frame.{Frame}
 use Rattle.state.specs.declared.Label.{Label}
 use Rattle.state.specs.declared.Reading.{Reading}

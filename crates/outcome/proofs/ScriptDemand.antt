@@ -7,8 +7,8 @@ use Prim.Native.Char.{code}
 use native.Mathlib.Omega.{arith}
 use lib.Dec.{ltb}
 use lib.ListN.{length}
-use Rattle.source.specs.Words.{if_then_else_, _is_, every, bytes}
-use Rattle.source.specs.Bytes.{isStart, isIdentifier, isLetter, isDigit}
+use Rattle.byte.specs.Words.{if_then_else_, _is_, every, bytes}
+use Rattle.byte.specs.Bytes.{isStart, isIdentifier, isLetter, isDigit}
 use Rattle.state.specs.declared.Frame.{Frame}
 use Rattle.token.specs.Kinds.{literalSingleQuotedString, literalDoubleQuotedString}
 use Rattle.unit.specs.declared.Mode.{Mode}

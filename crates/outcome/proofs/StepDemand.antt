@@ -10,8 +10,8 @@ use Prim.Native.Nat.{ℕ, _≤_}
 use native.Mathlib.Omega.{arith}
 use lib.ListN.{length, drop, length-take, length-drop}
 use lib.Seq.{drop-append-le}
-use Rattle.source.specs.Words.{every}
-use Rattle.source.specs.Demand.{isByte, Waits}
+use Rattle.byte.specs.Words.{every}
+use Rattle.byte.specs.Demand.{isByte, Waits}
 use Rattle.state.specs.declared.Frame.{Frame}
 use Rattle.state.specs.declared.Label as state
 use Rattle.state.specs.declared.Reading.{Reading}

@@ -11,8 +11,8 @@ use native.Mathlib.Omega.{arith}
 use lib.Dec.{eqb}
 use lib.ListN.{length, drop, length-drop}
 use lib.Seq.{take-append-le, drop-append-le}
-use Rattle.source.specs.Words.{if_then_else_}
-use Rattle.source.proofs.Demand.{apart-by}
+use Rattle.byte.specs.Words.{if_then_else_}
+use Rattle.byte.proofs.Demand.{apart-by}
 use Rattle.state.specs.declared.Frame.{Frame}
 use Rattle.state.specs.declared.Reading as state
 use Rattle.token.specs.Kinds.{literalInteger, stringPart}

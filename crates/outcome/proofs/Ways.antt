@@ -6,17 +6,17 @@
 use Prim.Native.Nat.{ℕ, suc, _+_, _-_, _≤_, _<_}
 use Prim.Native.Char.{code}
 use mathlib.Core.Path.{_≡_, refl, sym, ap, _∙_}
-use mathlib.Core.Bool.{Bool, true, false, _&&_, false≢true}
-use mathlib.Core.List.{List, [], _∷_, _++_}
+use mathlib.Core.Bool.{Bool, true, false, false≢true}
+use mathlib.Core.List.{List, [], _∷_}
 use native.Mathlib.Omega.{arith}
 use lib.Dec.{eqb, ltb}
 use lib.ListN.{length, take, drop, length-drop}
 use lib.Seq.{drop-drop, length-take-le}
 use borrow.Author.Tests.{ltb-true, le-leb}
-use Rattle.source.specs.Words.{if_then_else_, _is_, every}
-use Rattle.source.specs.Refusals.{noProperty, unexpectedEndOfFile, wait}
-use Rattle.source.specs.Bytes.{isDigit, isStart, isIdentifier}
-use Rattle.source.proofs.Tests.{choice, &&-both}
+use Rattle.byte.specs.Words.{if_then_else_, _is_, every}
+use Rattle.byte.specs.Refusals.{noProperty, unexpectedEndOfFile, wait}
+use Rattle.byte.specs.Bytes.{isDigit, isStart, isIdentifier}
+use Rattle.byte.proofs.Tests.{choice, &&-both}
 use Rattle.state.specs.declared.Frame.{Frame}
 use Rattle.state.specs.declared.Label.{Label}
 use Rattle.state.specs.declared.Reading.{Reading}
@@ -43,7 +43,7 @@ use Rattle.outcome.specs.declared.Opening.{Opening}
 use Rattle.outcome.specs.declared.OpenTagKind.{OpenTagKind}
 use Rattle.outcome.specs.declared.Run.{Run}
 use Rattle.outcome.specs.declared.Tagged.{Tagged}
-use Rattle.outcome.specs.Outcomes.{Piece, Outcome, piece, unlessEmpty}
+use Rattle.outcome.specs.Outcomes.{Piece, Outcome, piece}
 use Rattle.outcome.specs.Insides.{ToldInside, PlaceInside}
 use Rattle.outcome.specs.Initials.{tagged, tagLength, inlined, initial}
 use Rattle.outcome.specs.Openings.{opening, docFrame, opened}
@@ -52,7 +52,7 @@ use Rattle.outcome.specs.Lookings.{named, isBracketed, varname, lookingF
 use Rattle.outcome.specs.Comments.{isNext, endTaken, commentEnd, endless, commented, commentAt, slash, hash}
 use Rattle.outcome.specs.Scripts.{point, word, closeTag, scripting}
 use Rattle.outcome.specs.Steps.{textMode, nowdoc, framed}
-use Rattle.outcome.proofs.Pieces.{take-length, goes-inside, one-inside, parted-inside, token-inside}
+use Rattle.outcome.proofs.Pieces.{take-length, goes-inside, one-inside, parted-inside}
 use Rattle.outcome.proofs.Comments.{CommentInside, commentEnd-inside}
 use Rattle.outcome.proofs.Openings.{LabelInside, OpeningInside, opening-inside}
 use Rattle.outcome.proofs.Initials.{TaggedInside, tagged-within}

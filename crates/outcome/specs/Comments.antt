@@ -14,8 +14,8 @@ use mathlib.Core.Bool.{Bool, false, _&&_, _||_}
 use mathlib.Core.List.{List, [], _∷_}
 use lib.Dec.{eqb}
 use lib.ListN.{length}
-use Rattle.source.specs.Words.{if_then_else_, _is_}
-use Rattle.source.specs.Refusals.{unexpectedEndOfFile}
+use Rattle.byte.specs.Words.{if_then_else_, _is_}
+use Rattle.byte.specs.Refusals.{unexpectedEndOfFile}
 use Rattle.token.specs.Kinds.{comment}
 use Rattle.outcome.specs.declared.Change.{Change}
 use Rattle.outcome.specs.declared.CommentEnd.{CommentEnd}

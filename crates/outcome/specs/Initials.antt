@@ -5,12 +5,12 @@
 --   initial                 what contracts cite: the text before the tag, if there is some, and the tag with its own span
 -- `end` says that the text is all there.
 use Prim.Native.Nat.{ℕ, suc, _+_, _-_}
-use mathlib.Core.Bool.{Bool, true, false, _&&_}
+use mathlib.Core.Bool.{Bool, true, false}
 use mathlib.Core.List.{List, [], _∷_, _++_}
 use mathlib.Core.Path.{_≡_, refl}
 use lib.Dec.{eqb}
 use lib.ListN.{length, take, drop}
-use Rattle.source.specs.Words.{if_then_else_, _is_, _from_to_, bytes}
+use Rattle.byte.specs.Words.{if_then_else_, _is_, _from_to_, bytes}
 use Rattle.state.specs.declared.Frame.{Frame}
 use Rattle.token.specs.Kinds.{inlineHtml, openTagFull, openTagEcho, openTagShort}
 use Rattle.outcome.specs.declared.Change.{Change}

@@ -8,7 +8,7 @@ use mathlib.Core.Bool.{false}
 use mathlib.Core.Path.{_≡_}
 use lib.Dec.{eqb}
 use lib.ListN.{length}
-use Rattle.source.specs.Refusals.{wait}
+use Rattle.byte.specs.Refusals.{wait}
 use Rattle.outcome.specs.Outcomes.{Piece, Outcome, values}
 
 pub record PieceInside (n after : ℕ) (p : Piece) : Type 0 where

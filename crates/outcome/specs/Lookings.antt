@@ -5,12 +5,12 @@
 --   varOffset            in `$a[..]`: one byte is passed, and at `]` the frame is left; nothing left is 1
 -- n is the position of the text's head, `end` says that the text is all there.
 use Prim.Native.Nat.{ℕ, suc, _+_}
-use mathlib.Core.Bool.{Bool, true, false, _||_}
+use mathlib.Core.Bool.{Bool, false, _||_}
 use mathlib.Core.List.{List, [], _∷_}
 use lib.ListN.{take, drop}
-use Rattle.source.specs.Words.{if_then_else_, _is_}
-use Rattle.source.specs.Bytes.{isStart, isIdentifier}
-use Rattle.source.specs.Refusals.{unexpectedEndOfFile, noProperty}
+use Rattle.byte.specs.Words.{if_then_else_, _is_}
+use Rattle.byte.specs.Bytes.{isStart, isIdentifier}
+use Rattle.byte.specs.Refusals.{unexpectedEndOfFile, noProperty}
 use Rattle.state.specs.declared.Frame.{Frame}
 use Rattle.token.specs.Kinds.{identifier, questionArrow, arrow}
 use Rattle.outcome.specs.declared.Change.{Change}

@@ -7,12 +7,12 @@
 --   opening              behind the first `<`
 --   opened               what contracts cite: the step at that `<`
 use Prim.Native.Nat.{ℕ, suc}
-use mathlib.Core.Bool.{Bool, true, false}
+use mathlib.Core.Bool.{Bool, true}
 use mathlib.Core.List.{List, [], _∷_}
 use mathlib.Core.Path.{_≡_, refl}
 use lib.Dec.{ltb}
-use Rattle.source.specs.Words.{if_then_else_, _is_, bytes}
-use Rattle.source.specs.Bytes.{isStart, isIdentifier, isLetter, isDigit}
+use Rattle.byte.specs.Words.{if_then_else_, _is_, bytes}
+use Rattle.byte.specs.Bytes.{isStart, isIdentifier, isLetter, isDigit}
 use Rattle.state.specs.declared.Frame.{Frame}
 use Rattle.state.specs.declared.Label.{Label}
 use Rattle.outcome.specs.declared.Change.{Change}

@@ -7,11 +7,11 @@
 --   ending     nothing is left of the text: this at the announced end, else wait
 --   limited    the 64-frame limit: refusal 9, at the cursor n
 use Prim.Native.Nat.{ℕ}
-use mathlib.Core.Bool.{Bool, true, false}
+use mathlib.Core.Bool.{Bool, false}
 use mathlib.Core.List.{List, [], _∷_, _++_}
 use lib.Dec.{ltb}
-use Rattle.source.specs.Words.{if_then_else_}
-use Rattle.source.specs.Refusals.{stackFull}
+use Rattle.byte.specs.Words.{if_then_else_}
+use Rattle.byte.specs.Refusals.{stackFull}
 use Rattle.outcome.specs.declared.Change.{Change}
 
 pub record Piece : Type 0 where

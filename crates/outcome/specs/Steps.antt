@@ -4,11 +4,10 @@
 --   stepOutcome     what the step's contract cites
 --   numberOutcome, singleOutcome, doubleOutcome   the readings, with the span at the cursor; asked where Scripting is on top
 use Prim.Native.Nat.{ℕ, _-_}
-use mathlib.Core.Bool.{Bool, true, false}
+use mathlib.Core.Bool.{Bool}
 use mathlib.Core.List.{List, []}
 use lib.ListN.{getD, drop}
 use Rattle.state.specs.declared.Frame.{Frame}
-use Rattle.state.specs.declared.Label.{Label}
 use Rattle.state.specs.declared.Reading.{Reading}
 use Rattle.state.specs.declared.Session.{Session}
 use Rattle.state.specs.Bounds.{labelBytes, noSlot}

@@ -10,7 +10,7 @@ use Prim.Native.Nat.{ℕ, _-_}
 use mathlib.Core.Bool.{Bool, true, false}
 use mathlib.Core.List.{List, [], _∷_, _++_}
 use lib.ListN.{take, drop}
-use Rattle.source.specs.Words.{if_then_else_}
+use Rattle.byte.specs.Words.{if_then_else_}
 use Rattle.state.specs.declared.Frame.{Frame}
 use Rattle.token.specs.Kinds.{stringPart, dollarLeftBrace, leftBrace, doubleQuote, backtick, variable}
 use Rattle.token.specs.Kinds.{endDocStringNone, endDocStringSpace, endDocStringTab, literalInteger, literalFloat}
@@ -23,7 +23,7 @@ use Rattle.number.specs.declared.Literal.{Literal}
 use Rattle.number.specs.Numbers as number
 use Rattle.sheet.specs.Sheets as sheet
 use Rattle.outcome.specs.declared.Change.{Change}
-use Rattle.outcome.specs.Outcomes.{Piece, Outcome, piece, unlessEmpty}
+use Rattle.outcome.specs.Outcomes.{Outcome, piece, unlessEmpty}
 
 unfoldable pub slice : ℕ → List ℕ → ℕ → ℕ → List ℕ
 slice n xs from after = take (after - from) (drop (from - n) xs)

@@ -7,15 +7,15 @@ use native.Mathlib.Omega.{arith}
 use native.Mathlib.Numerals.{add-one}
 use lib.ListN.{length, drop, length-take, length-drop}
 use borrow.Author.Tests.{eq-eqb, ne-eqb}
-use Rattle.source.specs.Words.{if_then_else_}
+use Rattle.byte.specs.Words.{if_then_else_}
 use Rattle.outcome.specs.declared.Change.{Change}
 use Rattle.outcome.specs.Outcomes.{Outcome, unlessEmpty, goes, ending}
 use Rattle.outcome.specs.Lookings.{token}
 use Rattle.plan.specs.declared.Draft.{Draft}
 use Rattle.plan.specs.declared.Drafts.{Drafts}
 use Rattle.plan.specs.declared.Plan.{Plan}
-use Rattle.plan.specs.Plans.{madeBy, made, pieceOf, piecesOf, outcomeOf, Ready, Plans, copiedDraft}
-use Rattle.plan.specs.Plans.{workPlan, goesPlan, onePlan, partedPlan, endingPlan}
+use Rattle.plan.specs.Code.{madeBy, made, pieceOf, piecesOf, outcomeOf, Ready, Plans, copiedDraft}
+use Rattle.plan.specs.Code.{workPlan, goesPlan, onePlan, partedPlan, endingPlan}
 
 module _ (part d : Draft) (after : ℕ) (change : Change) where
   pub partedPlan-empty : (r : Plan) → part .len ≡ 0 → r ≡ onePlan d after change → r ≡ partedPlan part d after change

@@ -5,7 +5,7 @@ use state::Label;
 use unit::Mode;
 ghost use mathlib.Core.Path.{_≡_};
 ghost use Prim.Native.Nat.{_+_, _-_, _≤_};
-ghost use Rattle.plan.specs.Plans.{noLabel, copiedDraft, goesPlan, onePlan, partedPlan, endingPlan};
+ghost use Rattle.plan.specs.Code.{noLabel, copiedDraft, goesPlan, onePlan, partedPlan, endingPlan};
 
 // How a token's value comes about.
 pub enum Making {

@@ -1,11 +1,11 @@
 -- A number asked for by numbers, on each way through the code. Assumes nothing.
-use Prim.Native.Nat.{ℕ, _+_, _≤_, _<_}
-use mathlib.Core.Path.{_≡_, refl, sym, ap, _∙_}
+use Prim.Native.Nat.{ℕ, _≤_, _<_}
+use mathlib.Core.Path.{_≡_, refl, sym, _∙_}
 use mathlib.Core.List.{List}
 use native.Mathlib.Omega.{arith}
 use lib.ListN.{length, drop, length-drop}
 use borrow.Author.Tests.{le-leb, lt-leb}
-use Rattle.source.specs.Laid.{laid}
+use Rattle.byte.specs.Laid.{laid}
 use Rattle.number.specs.declared.Literal.{Literal}
 use Rattle.number.specs.declared.Scanned.{Scanned}
 use Rattle.number.specs.Numbers.{Reading, numberAt, scanned, valueOf}

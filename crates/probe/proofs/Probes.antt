@@ -6,15 +6,15 @@ use mathlib.Core.List.{List}
 use lib.Dec.{leb}
 use lib.ListN.{length, drop}
 use borrow.Author.Tests.{le-leb, lt-leb, leb-true, ne-eqb}
-use Rattle.source.specs.Laid.{laid}
-use Rattle.source.proofs.Tests.{choice}
+use Rattle.byte.specs.Laid.{laid}
+use Rattle.byte.proofs.Tests.{choice}
 use Rattle.unit.specs.declared.Follow.{Follow}
 use Rattle.unit.specs.declared.Indentation.{Indentation}
 use Rattle.unit.specs.declared.Mode.{Mode}
 use Rattle.unit.specs.declared.Stop.{Stop}
 use Rattle.unit.specs.Readings.{Reading, Text, Refused, Wait, textAt}
 use Rattle.text.specs.declared.Scanned.{Scanned}
-use Rattle.text.specs.Scans.{measured, valueOf, Measured}
+use Rattle.text.specs.Code.{measured, valueOf, Measured}
 use Rattle.probe.specs.declared.Probed.{Probed}
 use Rattle.probe.specs.Probes.{modeOf, announced, asked, stopNumber, amountOf, numbered, valueRefusal, written, Valued}
 

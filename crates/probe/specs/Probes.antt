@@ -13,9 +13,9 @@ use mathlib.Core.List.{List}
 use mathlib.Core.Path.{_≡_}
 use lib.Dec.{leb, eqb}
 use lib.ListN.{length, drop}
-use Rattle.source.specs.Words.{if_then_else_}
-use Rattle.source.specs.Laid.{laid}
-use Rattle.source.specs.Refusals.{wait, poolFull, outOfPlace, tooLarge}
+use Rattle.byte.specs.Words.{if_then_else_}
+use Rattle.byte.specs.Laid.{laid}
+use Rattle.byte.specs.Refusals.{wait, poolFull, outOfPlace, tooLarge}
 use Rattle.unit.specs.declared.Follow.{Follow}
 use Rattle.unit.specs.declared.Indentation.{Indentation}
 use Rattle.unit.specs.declared.Mode.{Mode}

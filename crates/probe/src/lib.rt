@@ -8,7 +8,7 @@ use unit::Indentation;
 use unit::Mode;
 use unit::Stop;
 ghost use mathlib.Core.Path.{_≡_};
-ghost use Rattle.text.specs.Scans.{measured};
+ghost use Rattle.text.specs.Code.{measured};
 ghost use Rattle.probe.specs.Probes.{modeOf, asked, stopNumber, amountOf, refusal, numbered, Valued};
 ghost use Rattle.probe.specs.Literals.{literalNumber, counted, askedNumber, NumberValued};
 
@@ -128,7 +128,7 @@ fn numbered(s: Scanned) -> Probed
             len,
         },
         Scanned::Refused { number, place } => refusal(number, place),
-        Scanned::Wait => refusal(source::WAIT, 0),
+        Scanned::Wait => refusal(byte::WAIT, 0),
     }
 }
 
@@ -144,16 +144,16 @@ fn scanned(mode: u32, src: &[u8], label: &[u8], at: usize, end: u32) -> Scanned
     ensures { λ r. ⌜ r ≡ measured (asked mode (now (src .entry)) (now (label .entry)) at end) ⌝ }
 {
     if 65536 < src.len() {
-        return refused(source::TOO_LARGE);
+        return refused(byte::TOO_LARGE);
     }
     if 5 < mode {
-        return refused(source::OUT_OF_PLACE);
+        return refused(byte::OUT_OF_PLACE);
     }
     if src.len() < at {
-        return refused(source::OUT_OF_PLACE);
+        return refused(byte::OUT_OF_PLACE);
     }
     if 64 < label.len() {
-        return refused(source::OUT_OF_PLACE);
+        return refused(byte::OUT_OF_PLACE);
     }
     text::scan_text(mode_of(mode), src, label, at, end != 0)
 }
@@ -192,13 +192,13 @@ pub extern "C" fn puretakoi_probe_value(
             after: _,
         } => {
             if value.len() < len {
-                return source::POOL_FULL;
+                return byte::POOL_FULL;
             }
             text::write_text(mode_of(mode), src, label, at, end != 0, len, value);
             0
         }
         Scanned::Refused { number, place: _ } => number,
-        Scanned::Wait => source::WAIT,
+        Scanned::Wait => byte::WAIT,
     }
 }
 
@@ -229,7 +229,7 @@ fn counted(s: number::Scanned) -> Probed
             after,
             len,
         },
-        number::Scanned::Wait => refusal(source::WAIT, 0),
+        number::Scanned::Wait => refusal(byte::WAIT, 0),
     }
 }
 
@@ -239,10 +239,10 @@ pub extern "C" fn puretakoi_probe_number(src: &[u8], at: usize, end: u32) -> Pro
     ensures { λ r. ⌜ r ≡ askedNumber (now (src .entry)) at end ⌝ }
 {
     if 65536 < src.len() {
-        return refusal(source::TOO_LARGE, 0);
+        return refusal(byte::TOO_LARGE, 0);
     }
     if src.len() < at {
-        return refusal(source::OUT_OF_PLACE, 0);
+        return refusal(byte::OUT_OF_PLACE, 0);
     }
     counted(number::scan_number(src, at, end != 0))
 }
@@ -258,10 +258,10 @@ pub extern "C" fn puretakoi_probe_number_value(
     ensures { λ r. ⌜ NumberValued (now (src .entry)) at end (now (value .entry)) r (now (value .exit)) ⌝ }
 {
     if 65536 < src.len() {
-        return source::TOO_LARGE;
+        return byte::TOO_LARGE;
     }
     if src.len() < at {
-        return source::OUT_OF_PLACE;
+        return byte::OUT_OF_PLACE;
     }
     match number::scan_number(src, at, end != 0) {
         number::Scanned::Number {
@@ -270,11 +270,11 @@ pub extern "C" fn puretakoi_probe_number_value(
             len,
         } => {
             if len > value.len() {
-                return source::POOL_FULL;
+                return byte::POOL_FULL;
             }
             number::write_number(src, at, after, value);
             0
         }
-        number::Scanned::Wait => source::WAIT,
+        number::Scanned::Wait => byte::WAIT,
     }
 }

@@ -54,7 +54,7 @@ fn print_refusal(number: u32, span: Span) {
 
 // Whether a refusal says that a table is full.
 fn is_full(number: u32) -> bool {
-    (number == source::LIST_FULL) | (number == source::POOL_FULL)
+    (number == byte::LIST_FULL) | (number == byte::POOL_FULL)
 }
 
 // Walks to the script's end; where a table is full the rows are printed and both are emptied, and they have room for any step. A step that
@@ -103,7 +103,7 @@ fn main() {
             column: 1,
             position: 0,
         };
-        print_refusal(source::TOO_LARGE, first);
+        print_refusal(byte::TOO_LARGE, first);
         return;
     }
     if is_unreadable() {

@@ -4,7 +4,7 @@
 --   unbroken-break    a text without its last break has so many bytes less
 --   block-body        the lines before a closing line are whole, and are the lines of the source up to it
 -- Assumes nothing.
-use Prim.Native.Nat.{ℕ, zero, suc, _+_, _-_, _<_, _≤_}
+use Prim.Native.Nat.{ℕ, zero, suc, _+_, _<_, _≤_}
 use Prim.Native.Char.{code}
 use mathlib.Core.Path.{_≡_, refl, sym, ap, _∙_}
 use mathlib.Core.Bool.{Bool, true, false, _&&_, false≢true}
@@ -14,15 +14,15 @@ use lib.Dec.{eqb, leb}
 use lib.ListN.{length, take, drop, length-append}
 use lib.Seq.{take-append-add}
 use borrow.Author.Tests.{eqb-true, leb-true}
-use Rattle.source.specs.Words.{if_then_else_, _is_, run, every}
-use Rattle.source.specs.Bytes.{isBlank}
-use Rattle.source.proofs.Tests.{choice, &&-left, &&-right, &&-both}
+use Rattle.byte.specs.Words.{if_then_else_, _is_, run, every}
+use Rattle.byte.specs.Bytes.{isBlank}
+use Rattle.byte.proofs.Tests.{choice, &&-left, &&-right, &&-both}
 use Rattle.unit.specs.declared.Indentation.{Indentation}
 use Rattle.unit.proofs.Openings.{other-byte}
 use Rattle.sheet.specs.declared.Line.{Line}
 use Rattle.sheet.specs.Bodies.{Indent, Text, Kept, Stray, followed, bodyText, unbroken}
 use Rattle.sheet.specs.Sheets.{lineKind, Block, Closed, Missing, Open, withLine, told, block}
-use Rattle.sheet.specs.Scans.{offsetOf, isStray, breakOf, isLine}
+use Rattle.sheet.specs.Code.{offsetOf, isStray, breakOf, isLine}
 use Rattle.sheet.proofs.Lines.{total, Lined, none, last, broken, flat}
 use Rattle.sheet.proofs.Turns.{unindented-parts}
 

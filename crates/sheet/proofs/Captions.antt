@@ -8,9 +8,9 @@ use mathlib.Core.Path.{_≡_, refl}
 use mathlib.Core.Bool.{Bool, true, false}
 use mathlib.Core.List.{List, [], _∷_, _++_, append-nil}
 use borrow.Author.Tests.{eq-eqb}
-use Rattle.source.specs.Words.{if_then_else_, _is_, run, bytes}
-use Rattle.source.specs.Bytes.{isBlank, isIdentifier}
-use Rattle.source.proofs.Tests.{choice}
+use Rattle.byte.specs.Words.{if_then_else_, _is_, run, bytes}
+use Rattle.byte.specs.Bytes.{isBlank, isIdentifier}
+use Rattle.byte.proofs.Tests.{choice}
 use Rattle.unit.specs.declared.Indentation.{Indentation}
 use Rattle.unit.specs.declared.Match.{Match}
 use Rattle.unit.specs.Closers.{indented}

@@ -14,9 +14,9 @@ use native.Mathlib.Omega.{arith}
 use lib.Dec.{eqb}
 use lib.ListN.{length, drop}
 use borrow.Author.Tests.{eqb-true}
-use Rattle.source.specs.Words.{if_then_else_, _is_, every}
-use Rattle.source.specs.Bytes.{isBlank, isIdentifier, isStart, isLetter, isDigit}
-use Rattle.source.proofs.Tests.{choice, &&-left, &&-right}
+use Rattle.byte.specs.Words.{if_then_else_, _is_, every}
+use Rattle.byte.specs.Bytes.{isBlank, isIdentifier, isStart, isLetter, isDigit}
+use Rattle.byte.proofs.Tests.{choice, &&-left, &&-right}
 use Rattle.unit.specs.declared.Indentation.{Indentation}
 use Rattle.unit.specs.declared.Match.{Match}
 use Rattle.unit.specs.Closers.{matched, indented}

@@ -11,9 +11,9 @@ use mathlib.Core.Bool.{true, false}
 use mathlib.Core.List.{List, [], _∷_, _++_, append-nil}
 use native.Mathlib.Omega.{arith}
 use lib.ListN.{length, length-append}
-use Rattle.source.specs.Words.{every}
-use Rattle.source.specs.Demand.{Apart, Waits}
-use Rattle.source.proofs.Demand.{apart-by, waits}
+use Rattle.byte.specs.Words.{every}
+use Rattle.byte.specs.Demand.{Apart, Waits}
+use Rattle.byte.proofs.Demand.{apart-by, waits}
 use Rattle.unit.specs.declared.Indentation.{Indentation}
 use Rattle.unit.specs.Labels.{Label}
 use Rattle.unit.proofs.Stays.{Stays, clash}

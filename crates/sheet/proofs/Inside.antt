@@ -10,10 +10,10 @@ use mathlib.Core.List.{List, [], _∷_}
 use native.Mathlib.Omega.{arith}
 use lib.Dec.{leb, eqb}
 use lib.ListN.{length, drop, length-append, length-drop}
-use Rattle.source.specs.Refusals.{strayIndentation}
-use Rattle.source.specs.Words.{_is_, run}
-use Rattle.source.specs.Bytes.{isBlank}
-use Rattle.source.proofs.Tests.{choice}
+use Rattle.byte.specs.Refusals.{strayIndentation}
+use Rattle.byte.specs.Words.{_is_, run}
+use Rattle.byte.specs.Bytes.{isBlank}
+use Rattle.byte.proofs.Tests.{choice}
 use Rattle.unit.specs.declared.Indentation.{Indentation}
 use Rattle.unit.specs.declared.Match.{Match}
 use Rattle.unit.specs.Closers.{matched, indented}

@@ -11,11 +11,11 @@ use mathlib.Core.Bool.{Bool, true, false, _||_, false≢true}
 use mathlib.Core.List.{List, [], _∷_, _++_}
 use native.Mathlib.Omega.{arith}
 use lib.ListN.{length, length-append}
-use Rattle.source.specs.Words.{if_then_else_, _is_, every}
-use Rattle.source.proofs.Tests.{choice, &&-left, &&-right}
+use Rattle.byte.specs.Words.{if_then_else_, _is_, every}
+use Rattle.byte.proofs.Tests.{choice, &&-left, &&-right}
 use Rattle.unit.proofs.Openings.{oneMore}
 use Rattle.sheet.specs.Bodies.{inFront, lines}
-use Rattle.sheet.specs.Scans.{isLine}
+use Rattle.sheet.specs.Code.{isLine}
 
 unfoldable pub total : List (List ℕ) → ℕ
 total [] = 0

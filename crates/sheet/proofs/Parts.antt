@@ -8,8 +8,7 @@ use lib.Dec.{leb}
 use lib.ListN.{length, take, drop}
 use lib.Seq.{take-append-le, take-append-add, take-length, take-nil}
 use borrow.Author.Tests.{leb-true, leb-false}
-use Rattle.source.specs.Words.{_is_}
-use Rattle.sheet.specs.Scans.{Lesser}
+use Rattle.sheet.specs.Code.{Lesser}
 
 pub drop-take : (k m : ℕ) (xs : List ℕ) → drop k (take m xs) ≡ take (m - k) (drop k xs)
 drop-take zero m xs = let e : m ≡ m - 0 = omega arith in ap (λ (n : ℕ). take n xs) e

@@ -7,14 +7,14 @@ use mathlib.Core.List.{List, _++_}
 use native.Mathlib.Omega.{arith}
 use lib.ListN.{length, take, drop, length-drop}
 use lib.Seq.{length-take-le, take-add, drop-append-seam}
-use Rattle.source.specs.Bytes.{isBlank}
+use Rattle.byte.specs.Bytes.{isBlank}
 use Rattle.unit.specs.declared.Indentation.{Indentation}
 use Rattle.sheet.specs.declared.Found.{Found}
 use Rattle.sheet.specs.declared.Scanned.{Scanned}
 use Rattle.sheet.specs.declared.Size.{Size}
 use Rattle.sheet.specs.Bodies.{Text, Kept, Stray, lines, bodyText, unbroken}
 use Rattle.sheet.specs.Sheets.{Block, Closed, Missing, Open, block, Refused, Wait, filled, stripped, answered, sheetAt}
-use Rattle.sheet.specs.Scans.{found, sizeOf, breakOf, Body, measured}
+use Rattle.sheet.specs.Code.{found, sizeOf, breakOf, Body, measured}
 use Rattle.unit.proofs.Stays.{clash}
 use Rattle.sheet.proofs.Lines.{total, total-lines, lines-lined, flat, flat-lines, lines-flat}
 use Rattle.sheet.proofs.Inside.{ClosedInside, BlockInside, block-inside}

@@ -9,10 +9,10 @@ use lib.Dec.{eqb}
 use lib.ListN.{length, getD, drop, length-drop, drop-of-length-le}
 use lib.Seq.{getD-drop, drop-drop}
 use borrow.Author.Tests.{eq-eqb, ne-eqb, le-leb, lt-leb, not-true, not-false}
-use Rattle.source.specs.Words.{if_then_else_, _is_, run}
-use Rattle.source.specs.Bytes.{isBlank, isIdentifier, isNoBreak}
-use Rattle.source.specs.Identifiers.{RunEnd}
-use Rattle.source.proofs.Words.{drop-one}
+use Rattle.byte.specs.Words.{if_then_else_, _is_, run}
+use Rattle.byte.specs.Bytes.{isBlank, isIdentifier, isNoBreak}
+use Rattle.source.specs.Code.{RunEnd}
+use Rattle.byte.proofs.Words.{drop-one}
 use Rattle.unit.specs.declared.Indentation.{Indentation}
 use Rattle.unit.specs.declared.Match.{Match}
 use Rattle.unit.specs.Closers.{matched, indented}
@@ -20,7 +20,7 @@ use Rattle.unit.proofs.Inside.{matched-length}
 use Rattle.sheet.specs.declared.Line.{Line}
 use Rattle.sheet.specs.Bodies.{isBreak, isOver}
 use Rattle.sheet.specs.Sheets.{closingLabel, judgedLine, lineKind}
-use Rattle.sheet.specs.Scans.{lineLength, LineEnd, offsetOf, isStray, breakOf}
+use Rattle.sheet.specs.Code.{lineLength, LineEnd, offsetOf, isStray, breakOf}
 use Rattle.sheet.proofs.Closings.{bounded, closingLabel-bounded}
 use Rattle.sheet.proofs.Inside.{run-length}
 

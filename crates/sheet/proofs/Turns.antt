@@ -9,15 +9,15 @@ use lib.Dec.{eqb, leb}
 use lib.ListN.{length, take, drop, length-drop, length-append, drop-of-length-le}
 use lib.Seq.{drop-drop, length-take-le}
 use borrow.Author.Tests.{leb-true}
-use Rattle.source.specs.Words.{if_then_else_, _is_, run}
-use Rattle.source.proofs.Tests.{choice}
+use Rattle.byte.specs.Words.{if_then_else_, _is_, run}
+use Rattle.byte.proofs.Tests.{choice}
 use Rattle.unit.specs.declared.Indentation.{Indentation}
 use Rattle.sheet.specs.declared.Found.{Found}
 use Rattle.sheet.specs.declared.Line.{Line}
 use Rattle.sheet.specs.declared.Size.{Size}
 use Rattle.sheet.specs.Bodies.{Indent, Text, Kept, Stray, inFront, lines, isOver, unindented, followed, bodyText}
 use Rattle.sheet.specs.Sheets.{lineKind, Block, Closed, Missing, Open, withLine, told, block}
-use Rattle.sheet.specs.Scans.{lineLength, LineEnd, found, offsetOf, isStray, sizeOf}
+use Rattle.sheet.specs.Code.{lineLength, LineEnd, found, offsetOf, isStray, sizeOf}
 use Rattle.sheet.proofs.Inside.{lineKind-inside, run-length}
 
 -- the lines of a text are its first line and the lines behind it

@@ -8,14 +8,14 @@ use lib.Dec.{ltb}
 use lib.ListN.{length, take, drop, length-append, length-drop, drop-of-length-le}
 use lib.Seq.{length-take-le, take-take, drop-drop}
 use borrow.Author.Tests.{ltb-true, ltb-false}
-use Rattle.source.specs.Words.{if_then_else_, _is_}
-use Rattle.source.specs.Laid.{laid}
-use Rattle.source.proofs.Laid.{laid-nil, laid-append, length-laid}
+use Rattle.byte.specs.Words.{if_then_else_, _is_}
+use Rattle.byte.specs.Laid.{laid}
+use Rattle.byte.proofs.Laid.{laid-nil, laid-append, length-laid}
 use Rattle.unit.specs.declared.Indentation.{Indentation}
 use Rattle.sheet.specs.declared.Found.{Found}
 use Rattle.sheet.specs.Bodies.{Indent, Text, Kept, Stray, lines, followed, bodyText, unbroken}
 use Rattle.sheet.specs.Sheets.{filled, stripped, sheetAt, block}
-use Rattle.sheet.specs.Scans.{LineEnd, found, offsetOf, isStray, leftOf, valueOf, Lesser, Left, Closing, Measured}
+use Rattle.sheet.specs.Code.{LineEnd, found, offsetOf, isStray, leftOf, valueOf, Lesser, Left, Closing, Measured}
 use Rattle.sheet.proofs.Inside.{TextInside, body-inside, unbroken-length}
 use Rattle.sheet.proofs.Lines.{total, total-lines}
 use Rattle.sheet.proofs.Scans.{reading-missing, reading-open, reading-closed, scan-amount, scan-part, scan-count, scan-body}

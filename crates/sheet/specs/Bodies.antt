@@ -10,7 +10,7 @@ use mathlib.Core.List.{List, [], _∷_, _++_}
 use mathlib.Core.Path.{_≡_, refl}
 use lib.Dec.{leb, eqb}
 use lib.ListN.{length, drop}
-use Rattle.source.specs.Words.{if_then_else_, _is_, run, bytes}
+use Rattle.byte.specs.Words.{if_then_else_, _is_, run, bytes}
 
 -- a closing line's indentation: which byte, and how many
 pub record Indent : Type 0 where

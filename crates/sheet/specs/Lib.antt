@@ -1,3 +1,3 @@
 pub mod Bodies
 pub mod Sheets
-pub mod Scans
+pub mod Code

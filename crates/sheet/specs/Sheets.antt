@@ -13,9 +13,9 @@ use mathlib.Core.List.{List, [], _∷_}
 use mathlib.Core.Path.{_≡_, refl}
 use lib.Dec.{eqb}
 use lib.ListN.{length}
-use Rattle.source.specs.Refusals.{unexpectedEndOfFile, invalidDocIndentation, strayIndentation}
-use Rattle.source.specs.Words.{if_then_else_, run, bytes}
-use Rattle.source.specs.Bytes.{isBlank, isIdentifier}
+use Rattle.byte.specs.Refusals.{unexpectedEndOfFile, invalidDocIndentation, strayIndentation}
+use Rattle.byte.specs.Words.{if_then_else_, run, bytes}
+use Rattle.byte.specs.Bytes.{isBlank, isIdentifier}
 use Rattle.unit.specs.declared.Indentation.{Indentation}
 use Rattle.unit.specs.declared.Match.{Match}
 use Rattle.unit.specs.Closers.{indented}

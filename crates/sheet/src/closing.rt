@@ -11,7 +11,7 @@ ghost use lib.ListN.{length, drop};
 ghost use Rattle.unit.specs.declared.Indentation.{Indentation};
 ghost use Rattle.sheet.specs.Bodies.{lines};
 ghost use Rattle.sheet.specs.Sheets.{closingLabel, judgedLine, lineKind, block};
-ghost use Rattle.sheet.specs.Scans.{LineEnd, found};
+ghost use Rattle.sheet.specs.Code.{LineEnd, found};
 
 // Where the line at `at` ends, behind its break.
 pub fn line_end(src: &[u8], at: usize) -> usize
@@ -31,7 +31,7 @@ fn behind_label(line: &[u8], at: usize, end: bool) -> Match
     ensures { λ r. ⌜ r ≡ closingLabel [] end (drop at (now (line .entry))) ⌝ }
 {
     if at < line.len() {
-        if source::is_identifier(line[at]) {
+        if byte::is_identifier(line[at]) {
             return Match::Other;
         }
         return Match::Whole;
@@ -83,7 +83,7 @@ fn line_kind(line: &[u8], label: &[u8], end: bool) -> Line
     let mut ind = Indentation::None;
     while i < line.len() {
         let b = line[i];
-        if !source::is_blank(b) {
+        if !byte::is_blank(b) {
             return judged_as(closing_label(line, i, label, end), end, ind, i);
         }
         ind = closer::indented_by(ind, b);

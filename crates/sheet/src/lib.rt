@@ -7,12 +7,12 @@ ghost use mathlib.Core.Bool.{true, false};
 ghost use Prim.Native.Nat.{_≤_};
 ghost use lib.Dec.{eqb};
 ghost use lib.ListN.{length, take, drop};
-ghost use Rattle.source.specs.Words.{run};
-ghost use Rattle.source.specs.Bytes.{isBlank};
+ghost use Rattle.byte.specs.Words.{run};
+ghost use Rattle.byte.specs.Bytes.{isBlank};
 ghost use Rattle.sheet.specs.Bodies.{lines, isOver, bodyText};
 ghost use Rattle.sheet.specs.Sheets.{filled, stripped, sheetAt};
-ghost use Rattle.sheet.specs.Scans.{offsetOf, isStray, sizeOf, breakOf, Body, measured, leftOf, valueOf, Lesser, Left, Closing, Measured};
-ghost use Rattle.source.specs.Laid.{laid};
+ghost use Rattle.sheet.specs.Code.{offsetOf, isStray, sizeOf, breakOf, Body, measured, leftOf, valueOf, Lesser, Left, Closing, Measured};
+ghost use Rattle.byte.specs.Laid.{laid};
 
 mod closing;
 
@@ -188,7 +188,7 @@ fn filled(
             after,
         },
         Size::Stray(place) => Scanned::Refused {
-            number: source::STRAY_INDENTATION,
+            number: byte::STRAY_INDENTATION,
             place,
         },
     }
@@ -221,7 +221,7 @@ fn closed_sheet(
         ),
         Indentation::Tab => filled(body, at, b'\t', amount, Indentation::Tab, amount, place, to),
         Indentation::Mixed => Scanned::Refused {
-            number: source::INVALID_DOC_INDENTATION,
+            number: byte::INVALID_DOC_INDENTATION,
             place,
         },
     }
@@ -247,7 +247,7 @@ pub fn scan_sheet(src: &[u8], label: &[u8], at: usize, end: bool) -> Scanned
             place,
         ),
         Found::Missing => Scanned::Refused {
-            number: source::UNEXPECTED_END_OF_FILE,
+            number: byte::UNEXPECTED_END_OF_FILE,
             place: src.len(),
         },
         Found::Open => Scanned::Wait,

@@ -8,11 +8,11 @@ use lib.Dec.{eqb}
 use lib.ListN.{length, getD, take, drop, length-drop}
 use lib.Seq.{take-add, drop-drop}
 use borrow.Author.Tests.{not-false}
-use Rattle.source.specs.Words.{run, every}
-use Rattle.source.specs.Bytes.{isNoBreak, isNoneOf}
-use Rattle.source.specs.Identifiers.{Passing}
-use Rattle.source.proofs.Tests.{&&-left, &&-right}
-use Rattle.source.proofs.Words.{drop-one, every-append}
+use Rattle.byte.specs.Words.{run, every}
+use Rattle.byte.specs.Bytes.{isNoBreak, isNoneOf}
+use Rattle.source.specs.Code.{Passing}
+use Rattle.byte.proofs.Tests.{&&-left, &&-right}
+use Rattle.byte.proofs.Words.{drop-one, every-append}
 
 -- j of a block's n bytes are looked at: whether one of them fails the test
 pub record Meeting (test : ℕ → Bool) (src : List ℕ) (at n j : ℕ) (hit : Bool) : Type 0 where

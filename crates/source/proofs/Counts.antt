@@ -11,12 +11,13 @@ use lib.Dec.{eqb, ltb}
 use lib.ListN.{length, getD, take, drop, length-drop, take-append-drop, length-append, drop-of-length-le}
 use lib.Seq.{take-add, drop-drop, take-all, take-suc, length-take-le, getD-drop}
 use borrow.Author.Tests.{eq-eqb, ne-eqb, not-true, not-false, eqb-false, ltb-true, ltb-false}
-use Rattle.source.specs.Words.{if_then_else_, every}
-use Rattle.source.specs.Bytes.{isNoBreak}
-use Rattle.source.specs.Cursor.{passedByte, passed, Reaches, breaks, Unbroken, LineStart}
+use Rattle.byte.specs.Words.{if_then_else_, every}
+use Rattle.byte.specs.Bytes.{isNoBreak}
+use Rattle.source.specs.Cursor.{passedByte, passed}
+use Rattle.source.specs.Code.{Reaches, breaks, Unbroken, LineStart}
 use Rattle.source.specs.declared.Span.{Span}
-use Rattle.source.proofs.Tests.{&&-left, &&-right}
-use Rattle.source.proofs.Words.{drop-one, every-append, every-getD}
+use Rattle.byte.proofs.Tests.{&&-left, &&-right}
+use Rattle.byte.proofs.Words.{drop-one, every-append, every-getD}
 use Rattle.source.proofs.Cursor.{passed-append, passed-position, passedByte-other}
 
 breaks-append : (xs ys : List ℕ) → breaks (xs ++ ys) ≡ breaks xs + breaks ys

@@ -9,7 +9,7 @@ use lib.Dec.{eqb}
 use lib.ListN.{length, take, drop}
 use lib.Seq.{take-add, drop-drop}
 use borrow.Author.Tests.{eq-eqb, ne-eqb}
-use Rattle.source.specs.Words.{if_then_else_}
+use Rattle.byte.specs.Words.{if_then_else_}
 use Rattle.source.specs.Cursor.{passedByte, passed}
 use Rattle.source.specs.declared.Span.{Span}
 

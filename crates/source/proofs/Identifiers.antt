@@ -6,9 +6,10 @@ use Prim.Native.Nat.{ℕ, _+_, _-_, _<_, _≤_}
 use native.Mathlib.Omega.{arith}
 use lib.ListN.{length, getD, take, drop, drop-of-length-le}
 use borrow.Author.Tests.{not-true, not-false}
-use Rattle.source.specs.Bytes.{isStart, isIdentifier}
-use Rattle.source.specs.Identifiers.{RunEnd, IdentifierEnd, identifierLength, identifierAt}
-use Rattle.source.proofs.Words.{drop-one}
+use Rattle.byte.specs.Bytes.{isStart, isIdentifier}
+use Rattle.source.specs.Identifiers.{identifierLength, identifierAt}
+use Rattle.source.specs.Code.{RunEnd, IdentifierEnd}
+use Rattle.byte.proofs.Words.{drop-one}
 
 module _ (src : List ℕ) (at : ℕ) where
   pub identifierEnd-past : at ≤ length src → length src ≤ at → IdentifierEnd src at at

@@ -1,8 +1,5 @@
-pub mod Tests
-pub mod Words
+pub mod Runs
 pub mod Blocks
-pub mod Laid
 pub mod Cursor
 pub mod Counts
 pub mod Identifiers
-pub mod Demand

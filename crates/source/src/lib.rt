@@ -1,113 +1,20 @@
-// The source: the classes of its bytes, the first break or stop from a place on, the cursor, the identifier at a place; and the
-// refusal numbers by name.
+// The source: the first break or stop from a place on, the cursor, the identifier at a place.
 // Of the Rust: state/source.rs, and `peek_identifier` of mod.rs. A cursor is a value beside the lent bytes.
 ghost use mathlib.Core.Path.{_≡_};
 ghost use mathlib.Core.Bool.{not};
 ghost use Prim.Native.Nat.{_+_, _<_, _≤_};
 ghost use lib.ListN.{length, take, drop};
-ghost use Rattle.source.specs.Words.{every};
-ghost use Rattle.source.specs.Bytes.{isDigit, isOctal, isHex, isLetter, isStart, isIdentifier, isBlank, isNoBreak, isNoneOf};
-ghost use Rattle.source.specs.Cursor.{Reaches, passedByte, passed, breaks, Unbroken, LineStart};
-ghost use Rattle.source.specs.Identifiers.{RunEnd, Passing, IdentifierEnd, identifierAt};
-
-// Why a call refuses (document 01, "Refusal numbers").
-pub const UNEXPECTED_END_OF_FILE: u32 = 1;
-
-pub const INVALID_UNICODE_ESCAPE: u32 = 2;
-
-pub const INVALID_OCTAL_ESCAPE: u32 = 3;
-
-pub const INVALID_DOC_INDENTATION: u32 = 4;
-// Neither arrow nor identifier where a property should stand.
-pub const NO_PROPERTY: u32 = 5;
-// More must come before this can be told.
-pub const WAIT: u32 = 6;
-
-pub const LIST_FULL: u32 = 7;
-
-pub const POOL_FULL: u32 = 8;
-// A frame would be the 65th.
-pub const STACK_FULL: u32 = 9;
-// The call does not fit: a skip past the end, a pop of the last frame, a pushed label that is none, a reading without Scripting on top.
-pub const OUT_OF_PLACE: u32 = 10;
-
-pub const TOO_LARGE: u32 = 11;
-
-pub const BAD_SESSION: u32 = 12;
-// Sheet reading: another byte inside the indentation.
-pub const STRAY_INDENTATION: u32 = 13;
+ghost use Rattle.byte.specs.Words.{every};
+ghost use Rattle.byte.specs.Bytes.{isIdentifier, isNoBreak, isNoneOf};
+ghost use Rattle.source.specs.Cursor.{passedByte, passed};
+ghost use Rattle.source.specs.Code.{Reaches, breaks, Unbroken, LineStart, RunEnd, Passing, IdentifierEnd};
+ghost use Rattle.source.specs.Identifiers.{identifierAt};
 
 // A place in a script. Lines and columns count from 1, columns in bytes; the position counts from 0.
 pub struct Span {
     pub line: u32,
     pub column: u32,
     pub position: u32,
-}
-
-// A decimal digit.
-pub fn is_digit(b: u8) -> bool
-    ensures { λ r. ⌜ r ≡ isDigit b ⌝ }
-{
-    (b'0' <= b) & (b <= b'9')
-}
-
-// A digit of an octal escape.
-pub fn is_octal(b: u8) -> bool
-    ensures { λ r. ⌜ r ≡ isOctal b ⌝ }
-{
-    (b'0' <= b) & (b <= b'7')
-}
-
-// A hex digit, in either letter case.
-pub fn is_hex(b: u8) -> bool
-    ensures { λ r. ⌜ r ≡ isHex b ⌝ }
-{
-    ((b'0' <= b) & (b <= b'9')) | ((b'A' <= b) & (b <= b'F')) | ((b'a' <= b) & (b <= b'f'))
-}
-
-// A letter of ASCII.
-pub fn is_letter(b: u8) -> bool
-    ensures { λ r. ⌜ r ≡ isLetter b ⌝ }
-{
-    ((b'A' <= b) & (b <= b'Z')) | ((b'a' <= b) & (b <= b'z'))
-}
-
-// What an identifier may start with.
-pub fn is_start(b: u8) -> bool
-    ensures { λ r. ⌜ r ≡ isStart b ⌝ }
-{
-    let letter = is_letter(b);
-    letter | (b == b'_') | (0x80 <= b)
-}
-
-// What may stand in an identifier behind its start.
-pub fn is_identifier(b: u8) -> bool
-    ensures { λ r. ⌜ r ≡ isIdentifier b ⌝ }
-{
-    let digit = is_digit(b);
-    let start = is_start(b);
-    digit | start
-}
-
-// A space or a tab.
-pub fn is_blank(b: u8) -> bool
-    ensures { λ r. ⌜ r ≡ isBlank b ⌝ }
-{
-    (b == b' ') | (b == b'\t')
-}
-
-// No LF.
-fn is_no_break(b: u8) -> bool
-    ensures { λ r. ⌜ r ≡ isNoBreak b ⌝ }
-{
-    b != b'\n'
-}
-
-// None of four bytes.
-fn is_none_of(w: u8, x: u8, y: u8, z: u8, b: u8) -> bool
-    ensures { λ r. ⌜ r ≡ isNoneOf w x y z b ⌝ }
-{
-    (b != w) & (b != x) & (b != y) & (b != z)
 }
 
 // Whether an LF stands among 8 bytes.
@@ -146,7 +53,7 @@ pub fn break_end(src: &[u8], at: usize) -> usize
 {
     let mut i = break_blocks(src, at);
     while i < src.len() {
-        if !is_no_break(src[i]) {
+        if !byte::is_no_break(src[i]) {
             return i;
         }
         i += 1;
@@ -191,7 +98,7 @@ pub fn stop_end(src: &[u8], at: usize, w: u8, x: u8, y: u8, z: u8) -> usize
 {
     let mut i = stop_blocks(src, at, w, x, y, z);
     while i < src.len() {
-        if !is_none_of(w, x, y, z, src[i]) {
+        if !byte::is_none_of(w, x, y, z, src[i]) {
             return i;
         }
         i += 1;
@@ -310,7 +217,7 @@ pub fn run_end(src: &[u8], at: usize) -> usize
 {
     let mut i = at;
     while i < src.len() {
-        if !is_identifier(src[i]) {
+        if !byte::is_identifier(src[i]) {
             return i;
         }
         i += 1;
@@ -326,7 +233,7 @@ pub fn identifier_end(src: &[u8], at: usize) -> usize
     if src.len() <= at {
         return at;
     }
-    if !is_start(src[at]) {
+    if !byte::is_start(src[at]) {
         return at;
     }
     run_end(src, at + 1)

@@ -7,11 +7,11 @@ use native.Mathlib.Omega.{arith}
 use lib.Dec.{eqb, leb}
 use lib.ListN.{length, getD, take, drop}
 use borrow.Author.Tests.{leb-true, le-leb, lt-leb, not-true, not-false}
-use Rattle.source.specs.Words.{run}
-use Rattle.source.specs.Bytes.{isIdentifier}
-use Rattle.source.specs.Identifiers.{RunEnd}
-use Rattle.source.proofs.Tests.{&&-left, &&-right}
-use Rattle.source.proofs.Words.{every-run, Holding, holding-first, holding-end, holding-stop, holding-on}
+use Rattle.byte.specs.Words.{run}
+use Rattle.byte.specs.Bytes.{isIdentifier}
+use Rattle.source.specs.Code.{RunEnd}
+use Rattle.byte.proofs.Tests.{&&-left, &&-right}
+use Rattle.byte.proofs.Words.{every-run, Holding, holding-first, holding-end, holding-stop, holding-on}
 use Rattle.state.specs.declared.Label.{Label}
 use Rattle.state.specs.declared.Frame.{Frame}
 use Rattle.state.specs.declared.Session.{Session}

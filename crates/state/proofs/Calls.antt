@@ -6,7 +6,8 @@ use mathlib.Core.List.{List}
 use native.Mathlib.Omega.{arith}
 use lib.ListN.{length, take, drop, length-take, length-drop}
 use borrow.Author.Tests.{lt-ltb, le-ltb, lt-leb, le-leb, eq-eqb, ne-eqb, not-true, not-false}
-use Rattle.source.specs.Cursor.{origin, passed, Reaches}
+use Rattle.source.specs.Cursor.{origin, passed}
+use Rattle.source.specs.Code.{Reaches}
 use Rattle.source.specs.declared.Span.{Span}
 use Rattle.state.specs.declared.Frame.{Frame}
 use Rattle.state.specs.declared.Session.{Session}

@@ -6,8 +6,8 @@ use mathlib.Core.List.{List}
 use native.Mathlib.Omega.{arith}
 use lib.ListN.{length}
 use borrow.Author.Tests.{leb-true, le-leb, lt-leb, not-true, not-false}
-use Rattle.source.specs.Words.{if_then_else_}
-use Rattle.source.proofs.Tests.{&&-left, &&-right, unrefused}
+use Rattle.byte.specs.Words.{if_then_else_}
+use Rattle.byte.proofs.Tests.{&&-left, &&-right, unrefused}
 use Rattle.state.specs.declared.Session.{Session}
 use Rattle.state.specs.Bounds.{isWithin, isStack, isGood, fitsTables}
 use Rattle.state.proofs.Bounds.{Within, isWithin-facts, within-depth}

@@ -6,18 +6,18 @@
 --   fresh-good                                      a fresh session is good, for every source
 use Prim.Native.Nat.{ℕ, _+_, _-_, _≤_, _<_}
 use mathlib.Core.Path.{_≡_, refl}
-use mathlib.Core.Bool.{true, _&&_}
+use mathlib.Core.Bool.{true}
 use mathlib.Core.List.{List}
 use native.Mathlib.Omega.{arith}
 use lib.Dec.{leb, ltb, eqb}
 use lib.ListN.{length, getD, set, take, drop, length-take, length-drop}
 use lib.Seq.{getD-set-other}
 use borrow.Author.Tests.{leb-true, ltb-true, le-leb}
-use Rattle.source.specs.Words.{every}
+use Rattle.byte.specs.Words.{every}
 use Rattle.source.specs.Cursor.{origin, passed}
 use Rattle.source.specs.declared.Span.{Span}
-use Rattle.source.proofs.Tests.{&&-left, &&-right, &&-both, choice}
-use Rattle.source.proofs.Words.{every-take, every-set}
+use Rattle.byte.proofs.Tests.{&&-left, &&-right, &&-both, choice}
+use Rattle.byte.proofs.Words.{every-take, every-set}
 use Rattle.source.proofs.Cursor.{passed-position, passed-placed}
 use Rattle.state.specs.declared.Frame.{Frame}
 use Rattle.state.specs.declared.Reading.{Reading}

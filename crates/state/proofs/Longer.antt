@@ -11,9 +11,9 @@ use lib.Dec.{leb}
 use lib.ListN.{length, getD, take, drop, length-drop, length-append}
 use lib.Seq.{take-append-le, drop-append-le}
 use borrow.Author.Tests.{leb-true, le-leb}
-use Rattle.source.specs.Words.{every}
-use Rattle.source.specs.Bytes.{isIdentifier}
-use Rattle.source.proofs.Tests.{&&-left, &&-right, &&-both}
+use Rattle.byte.specs.Words.{every}
+use Rattle.byte.specs.Bytes.{isIdentifier}
+use Rattle.byte.proofs.Tests.{&&-left, &&-right, &&-both}
 use Rattle.state.specs.declared.Label.{Label}
 use Rattle.state.specs.declared.Frame.{Frame}
 use Rattle.state.specs.declared.Slot.{Slot}

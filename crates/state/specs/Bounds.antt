@@ -11,8 +11,8 @@ use mathlib.Core.Bool.{Bool, true, false, _&&_}
 use mathlib.Core.List.{List}
 use lib.Dec.{leb}
 use lib.ListN.{length, getD, take, drop}
-use Rattle.source.specs.Words.{every}
-use Rattle.source.specs.Bytes.{isIdentifier}
+use Rattle.byte.specs.Words.{every}
+use Rattle.byte.specs.Bytes.{isIdentifier}
 use Rattle.state.specs.declared.Label.{Label}
 use Rattle.state.specs.declared.Frame.{Frame}
 use Rattle.state.specs.declared.Slot.{Slot}

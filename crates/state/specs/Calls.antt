@@ -7,7 +7,7 @@ use Prim.Native.Nat.{ℕ, _+_, _-_}
 use mathlib.Core.List.{List}
 use lib.Dec.{leb, ltb, eqb}
 use lib.ListN.{length, set, take, drop, replicate}
-use Rattle.source.specs.Words.{if_then_else_}
+use Rattle.byte.specs.Words.{if_then_else_}
 use Rattle.source.specs.Cursor.{origin, passed}
 use Rattle.source.specs.declared.Span.{Span}
 use Rattle.state.specs.declared.Frame.{Frame}
@@ -15,7 +15,7 @@ use Rattle.state.specs.declared.Reading.{Reading}
 use Rattle.state.specs.declared.Session.{Session}
 use Rattle.state.specs.declared.Answer.{Answer}
 use Rattle.state.specs.declared.Turn.{Turn}
-use Rattle.source.specs.Refusals.{stackFull, outOfPlace}
+use Rattle.byte.specs.Refusals.{stackFull, outOfPlace}
 use Rattle.state.specs.Bounds.{isFrame, noSlot}
 use Rattle.state.specs.Gates.{gateRefusal}
 

@@ -6,9 +6,9 @@ use mathlib.Core.Bool.{Bool, _&&_}
 use mathlib.Core.List.{List}
 use lib.Dec.{leb}
 use lib.ListN.{length}
-use Rattle.source.specs.Words.{if_then_else_}
+use Rattle.byte.specs.Words.{if_then_else_}
 use Rattle.state.specs.declared.Session.{Session}
-use Rattle.source.specs.Refusals.{tooLarge, badSession}
+use Rattle.byte.specs.Refusals.{tooLarge, badSession}
 use Rattle.state.specs.Bounds.{isGood, fitsTables}
 
 abbrev pub checked : Bool → Bool → ℕ

@@ -201,13 +201,13 @@ pub fn gate(src: &[u8], s: Session) -> u32
     ensures { λ r. ⌜ r ≡ gateRefusal (now (src .entry)) s ⌝ }
 {
     if 65536 < src.len() {
-        return source::TOO_LARGE;
+        return byte::TOO_LARGE;
     }
     if !is_within(src.len(), s) {
-        return source::BAD_SESSION;
+        return byte::BAD_SESSION;
     }
     if !is_stack(src, s) {
-        return source::BAD_SESSION;
+        return byte::BAD_SESSION;
     }
     0
 }
@@ -217,10 +217,10 @@ pub fn gate_with_tables(src: &[u8], list: usize, pool: usize, s: Session) -> u32
     ensures { λ r. ⌜ r ≡ lentRefusal (now (src .entry)) list pool s ⌝ }
 {
     if 65536 < pool {
-        return source::TOO_LARGE;
+        return byte::TOO_LARGE;
     }
     if 65537 < list / 8 {
-        return source::TOO_LARGE;
+        return byte::TOO_LARGE;
     }
     let alone = gate(src, s);
     if alone != 0 {
@@ -229,10 +229,10 @@ pub fn gate_with_tables(src: &[u8], list: usize, pool: usize, s: Session) -> u32
     let tokens = s.tokens as usize;
     let bytes = s.bytes as usize;
     if list / 8 < tokens {
-        return source::BAD_SESSION;
+        return byte::BAD_SESSION;
     }
     if pool < bytes {
-        return source::BAD_SESSION;
+        return byte::BAD_SESSION;
     }
     0
 }
@@ -265,7 +265,7 @@ pub fn skip(src: &[u8], s: Session, count: usize) -> Turn
     }
     let at = s.position as usize;
     if src.len() - at < count {
-        return refuse(source::OUT_OF_PLACE, span_of(s), s);
+        return refuse(byte::OUT_OF_PLACE, span_of(s), s);
     }
     let end = at + count;
     let p = source::past(&src[at..end], span_of(s));
@@ -288,11 +288,11 @@ pub fn push(src: &[u8], s: Session, f: Frame) -> Turn
         return refuse_at_gate(shut, s);
     }
     if !is_frame(src, f) {
-        return refuse(source::OUT_OF_PLACE, span_of(s), s);
+        return refuse(byte::OUT_OF_PLACE, span_of(s), s);
     }
     let depth = s.depth;
     if 64 <= depth {
-        return refuse(source::STACK_FULL, span_of(s), s);
+        return refuse(byte::STACK_FULL, span_of(s), s);
     }
     let mut t = s;
     let top = depth as usize;
@@ -314,7 +314,7 @@ pub fn pop(src: &[u8], s: Session) -> Turn
     }
     let depth = s.depth;
     if depth <= 1 {
-        return refuse(source::OUT_OF_PLACE, span_of(s), s);
+        return refuse(byte::OUT_OF_PLACE, span_of(s), s);
     }
     let mut t = s;
     t.depth = depth - 1;

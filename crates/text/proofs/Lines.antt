@@ -7,9 +7,9 @@ use native.Mathlib.Omega.{arith}
 use lib.Dec.{eqb}
 use lib.ListN.{length, getD, drop}
 use borrow.Author.Tests.{eqb-true, not-false}
-use Rattle.source.specs.Bytes.{isBlank, isNoBreak}
-use Rattle.source.specs.Identifiers.{RunEnd}
-use Rattle.source.proofs.Tests.{choice}
+use Rattle.byte.specs.Bytes.{isBlank, isNoBreak}
+use Rattle.source.specs.Code.{RunEnd}
+use Rattle.byte.proofs.Tests.{choice}
 use Rattle.unit.specs.declared.Indentation.{Indentation}
 use Rattle.unit.specs.declared.Match.{Match}
 use Rattle.unit.specs.declared.Mode.{Mode}
@@ -20,7 +20,7 @@ use Rattle.unit.specs.Closers.{indented, closer, judged, line}
 use Rattle.unit.specs.Units.{unitAt}
 use Rattle.unit.specs.Readings.{Reading, Text, Refused, Wait, afterOf, losesBreak, textAt}
 use Rattle.text.specs.declared.Scanned.{Scanned}
-use Rattle.text.specs.Scans.{isPlain, bytesOf, valueLength, ended, unclosed, measured}
+use Rattle.text.specs.Code.{isPlain, bytesOf, valueLength, ended, unclosed, measured}
 use Rattle.text.proofs.Modes.{nowdoc-line}
 use Rattle.text.proofs.Runs.{run-after, runEnd-stop}
 use Rattle.text.proofs.Scans.{behind, Scanning, scanning-first, scanning-end, unit-stop, unit-on, run-on}

@@ -7,7 +7,7 @@ use Rattle.unit.specs.declared.Mode.{Mode}
 use Rattle.unit.specs.declared.TextUnit.{TextUnit}
 use Rattle.unit.specs.Units.{unitAt}
 use Rattle.unit.proofs.Stands.{isLiteral, Stands, unit-stands}
-use Rattle.text.specs.Scans.{isWritable}
+use Rattle.text.specs.Code.{isWritable}
 
 pub unit-writable : (m : Mode) (label : List ℕ) (end : Bool) (n b : ℕ) (rest : List ℕ) → isWritable (unitAt m label end n b rest)
 unfolding isWritable

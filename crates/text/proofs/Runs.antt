@@ -8,16 +8,16 @@ use native.Mathlib.Nat.{add-zero}
 use lib.ListN.{length, getD, take, drop, length-drop}
 use lib.Seq.{length-take-le, getD-drop, drop-drop}
 use borrow.Author.Tests.{ne-eqb, not-true}
-use Rattle.source.specs.Words.{_is_, run}
-use Rattle.source.specs.Bytes.{isNoBreak, isNoneOf}
-use Rattle.source.specs.Identifiers.{RunEnd}
-use Rattle.source.proofs.Tests.{choice, none-of}
+use Rattle.byte.specs.Words.{_is_, run}
+use Rattle.byte.specs.Bytes.{isNoBreak, isNoneOf}
+use Rattle.source.specs.Code.{RunEnd}
+use Rattle.byte.proofs.Tests.{choice, none-of}
 use Rattle.unit.specs.declared.Mode.{Mode}
 use Rattle.unit.specs.declared.Stop.{Stop}
 use Rattle.unit.specs.Interpolations.{plain}
 use Rattle.unit.specs.Units.{unitAt}
 use Rattle.unit.specs.Readings.{Reading, Text, Refused, Wait, onto, taken, afterOf, collected, losesBreak}
-use Rattle.text.specs.Scans.{isPlain, lastBreak}
+use Rattle.text.specs.Code.{isPlain, lastBreak}
 
 -- one mode's run is that of its arm
 pub plain-arm : (m arm : Mode) (src : List ℕ) (at r : ℕ) → m ≡ arm → RunEnd (isPlain arm) src at r → RunEnd (isPlain m) src at r

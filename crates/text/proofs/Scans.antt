@@ -8,10 +8,10 @@ use lib.Dec.{ltb, eqb}
 use lib.ListN.{length, getD, take, drop, length-append, length-drop, drop-of-length-le}
 use lib.Seq.{take-suc, getD-drop, drop-drop}
 use borrow.Author.Tests.{ne-eqb, ltb-false, not-true, not-false}
-use Rattle.source.specs.Words.{if_then_else_, _is_}
-use Rattle.source.specs.Identifiers.{RunEnd}
-use Rattle.source.proofs.Tests.{choice}
-use Rattle.source.proofs.Words.{drop-one}
+use Rattle.byte.specs.Words.{if_then_else_, _is_}
+use Rattle.source.specs.Code.{RunEnd}
+use Rattle.byte.proofs.Tests.{choice}
+use Rattle.byte.proofs.Words.{drop-one}
 use Rattle.unit.specs.declared.Mode.{Mode}
 use Rattle.unit.specs.declared.Stop.{Stop}
 use Rattle.unit.specs.declared.TextUnit.{TextUnit}
@@ -20,7 +20,7 @@ use Rattle.unit.specs.Units.{unitAt}
 use Rattle.unit.specs.Readings.{Reading, Text, Refused, Wait, onto, taken, afterOf, collected, trimmed, losesBreak, finished, textAt}
 use Rattle.unit.proofs.Inside.{TextInside, Inside, utf8-length, unit-inside, collected-turn}
 use Rattle.text.specs.declared.Scanned.{Scanned}
-use Rattle.text.specs.Scans.{Here, isPlain, bytesOf, isBreak, lastBreak, valueLength, ended, unclosed, measured}
+use Rattle.text.specs.Code.{Here, isPlain, bytesOf, isBreak, lastBreak, valueLength, ended, unclosed, measured}
 use Rattle.text.proofs.Runs.{run-after, run-turn, run-length}
 
 pub positive : (n : ℕ) → (n ≡ 0 → ⊥) → 0 < n

@@ -9,12 +9,12 @@ use lib.ListN.{length, getD, set, take, drop, length-append, length-drop, take-a
 use lib.Seq.{length-take-le, take-length, take-append-seam, drop-append-seam, take-add, drop-drop}
 use lib.Dec.{ltb, eqb}
 use borrow.Author.Tests.{eqb-true, eqb-false, ltb-true, ltb-false}
-use Rattle.source.specs.Words.{if_then_else_, _is_}
-use Rattle.source.specs.Identifiers.{RunEnd}
-use Rattle.source.specs.Laid.{laid}
-use Rattle.source.proofs.Tests.{choice}
-use Rattle.source.proofs.Words.{drop-one}
-use Rattle.source.proofs.Laid.{laid-nil, laid-append, set-laid, length-laid}
+use Rattle.byte.specs.Words.{if_then_else_, _is_}
+use Rattle.source.specs.Code.{RunEnd}
+use Rattle.byte.specs.Laid.{laid}
+use Rattle.byte.proofs.Tests.{choice}
+use Rattle.byte.proofs.Words.{drop-one}
+use Rattle.byte.proofs.Laid.{laid-nil, laid-append, set-laid, length-laid}
 use Rattle.unit.specs.declared.Mode.{Mode}
 use Rattle.unit.specs.declared.Stop.{Stop}
 use Rattle.unit.specs.declared.TextUnit.{TextUnit}
@@ -22,7 +22,7 @@ use Rattle.unit.specs.Digits.{utf8}
 use Rattle.unit.specs.Units.{unitAt}
 use Rattle.unit.specs.Readings.{Reading, Text, Refused, Wait, onto, taken, afterOf, collected, trimmed, losesBreak, finished, textAt}
 use Rattle.unit.proofs.Inside.{InsideReading, collected-turn, text-inside}
-use Rattle.text.specs.Scans.{Here, isPlain, bytesOf, isBreak, lastBreak, valueOf, isWritable, Writable, Measured}
+use Rattle.text.specs.Code.{Here, isPlain, bytesOf, isBreak, lastBreak, valueOf, isWritable, Writable, Measured}
 use Rattle.text.proofs.Points.{unit-writable}
 use Rattle.text.proofs.Runs.{run-after, run-turn, run-length, part-break, loses-plain}
 use Rattle.text.proofs.Scans.{positive, utf8-some, lastBreak-append, lastBreak-any, trimmed-length, text-taken, text-break, unit-turn, unit-text}

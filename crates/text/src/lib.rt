@@ -7,11 +7,11 @@ use unit::TextUnit;
 ghost use mathlib.Core.Path.{_≡_};
 ghost use Prim.Native.Nat.{_-_, _≤_};
 ghost use lib.ListN.{length, take, drop};
-ghost use Rattle.source.specs.Laid.{laid};
+ghost use Rattle.byte.specs.Laid.{laid};
 ghost use Rattle.unit.specs.declared.Mode.{Mode};
 ghost use Rattle.unit.specs.declared.TextUnit.{TextUnit};
 ghost use Rattle.unit.specs.Readings.{afterOf, losesBreak, textAt};
-ghost use Rattle.text.specs.Scans.{bytesOf, isBreak, lastBreak, valueLength, ended, unclosed, measured, valueOf, Writable, Measured};
+ghost use Rattle.text.specs.Code.{bytesOf, isBreak, lastBreak, valueLength, ended, unclosed, measured, valueOf, Writable, Measured};
 
 mod units;
 
@@ -167,7 +167,7 @@ fn unclosed(end: bool, place: usize) -> Scanned
 {
     if end {
         return Scanned::Refused {
-            number: source::UNEXPECTED_END_OF_FILE,
+            number: byte::UNEXPECTED_END_OF_FILE,
             place,
         };
     }

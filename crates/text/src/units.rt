@@ -6,12 +6,12 @@ ghost use mathlib.Core.Path.{_≡_};
 ghost use mathlib.Core.List.{[]};
 ghost use Prim.Native.Nat.{_+_, _≤_};
 ghost use lib.ListN.{length, getD, drop};
-ghost use Rattle.source.specs.Identifiers.{RunEnd};
+ghost use Rattle.source.specs.Code.{RunEnd};
 ghost use Rattle.unit.specs.declared.Mode.{Mode};
 ghost use Rattle.unit.specs.declared.TextUnit.{TextUnit};
 ghost use Rattle.unit.specs.Interpolations.{plain};
 ghost use Rattle.unit.specs.Units.{quote, unitAt};
-ghost use Rattle.text.specs.Scans.{Here, isPlain};
+ghost use Rattle.text.specs.Code.{Here, isPlain};
 
 // The byte at n stands for itself.
 fn plain_at(b: u8, n: usize) -> TextUnit

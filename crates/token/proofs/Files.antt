@@ -1,5 +1,5 @@
 -- The record file: its two loops, its refusals, and that reading and writing undo each other. Assumes nothing.
-use Prim.Native.Nat.{ℕ, zero, suc, _+_, _*_, _-_, _/_, _%_, _≤_, _<_}
+use Prim.Native.Nat.{ℕ, zero, suc, _+_, _*_, _/_, _%_, _≤_, _<_}
 use mathlib.Core.Path.{_≡_, refl, sym, ap, _∙_}
 use mathlib.Core.Bool.{Bool, true, false, _&&_}
 use mathlib.Core.List.{List, [], _∷_, _++_, append-assoc, append-nil}
@@ -9,10 +9,10 @@ use lib.Dec.{leb, eqb}
 use lib.ListN.{length, take, drop, set, getD}
 use lib.Seq.{take-length, take-suc, getD-drop, length-take-le}
 use borrow.Author.Tests.{le-leb, lt-leb, eq-eqb, ne-eqb, leb-true, eqb-true}
-use Rattle.source.specs.Words.{if_then_else_}
-use Rattle.source.specs.Laid.{laid}
-use Rattle.source.proofs.Tests.{unrefused}
-use Rattle.source.proofs.Laid.{set-laid, Writing, writing-first, writing-on, writing-end}
+use Rattle.byte.specs.Words.{if_then_else_}
+use Rattle.byte.specs.Laid.{laid}
+use Rattle.byte.proofs.Tests.{unrefused}
+use Rattle.byte.proofs.Laid.{set-laid, Writing, writing-first, writing-on, writing-end}
 use Rattle.source.specs.Cursor.{origin}
 use Rattle.state.specs.declared.Answer.{Answer}
 use Rattle.token.specs.Files.{littleEndian, fileOf, numberAt, listOf, toFileRefusal, toListRefusal, fileAnswer, Written}

@@ -1,16 +1,15 @@
 -- Writing records and values, and asking for room first. Assumes nothing.
-use Prim.Native.Nat.{ℕ, suc, _+_, _*_, _-_, _/_, _≤_, _<_}
+use Prim.Native.Nat.{ℕ, suc, _+_, _/_, _≤_, _<_}
 use mathlib.Core.Path.{_≡_, refl, sym, _∙_}
-use mathlib.Core.List.{List, [], _∷_, _++_}
+use mathlib.Core.List.{List, [], _∷_}
 use native.Mathlib.Omega.{arith}
 use native.Mathlib.Numerals.{add-one}
 use lib.ListN.{length, take, set, getD}
 use lib.Seq.{sets-eq, take-length, take-suc, length-take-le}
 use borrow.Author.Tests.{le-leb, lt-leb}
-use Rattle.source.specs.Laid.{laid}
-use Rattle.source.proofs.Laid.{laid-append, set-laid, Writing, writing-first, writing-on, writing-end}
-use Rattle.token.specs.declared.Token.{Token}
-use Rattle.token.specs.Records.{recordOf, roomRefusal}
+use Rattle.byte.specs.Laid.{laid}
+use Rattle.byte.proofs.Laid.{set-laid, Writing, writing-first, writing-on, writing-end}
+use Rattle.token.specs.Records.{roomRefusal}
 
 -- stores in one place after another are one write
 module _ (l : List ℕ) (at v0 v1 v2 v3 : ℕ) where
@@ -33,11 +32,6 @@ module _ (l : List ℕ) (at v0 v1 v2 v3 : ℕ) where
       let e6 : at + 6 ≡ suc (suc (suc (suc (suc (suc at))))) = omega arith in
       let e7 : at + 7 ≡ suc (suc (suc (suc (suc (suc (suc at)))))) = omega arith in
       rw (e1, e2, e3, e4, e5, e6, e7) (sets-eq (v0 ∷ v1 ∷ v2 ∷ v3 ∷ v4 ∷ v5 ∷ v6 ∷ v7 ∷ []) l at h)
-
--- a record and the next behind it
-pub two-laid : (l m n : List ℕ) (place : ℕ) (t u : Token) → place * 8 + 16 ≤ length l → m ≡ laid l (place * 8) (recordOf t) → n ≡ laid m ((place + 1) * 8) (recordOf u) → n ≡ laid l (place * 8) (recordOf t ++ recordOf u)
-two-laid l m n place t u h first second =
-    second ∙ rw first (laid-append l (place * 8) ((place + 1) * 8) (recordOf t) (recordOf u) (omega arith) (omega arith))
 
 -- the loop of `copy`: i bytes of the part are written
 abbrev pub Copying : List ℕ → List ℕ → List ℕ → ℕ → Type 0

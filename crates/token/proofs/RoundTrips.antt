@@ -2,20 +2,20 @@
 --   list-file-list, file-list-file    the two round trips, of the definitions
 --   toFile-toList, toList-toFile      the same, of two accepted calls
 -- A list holds numbers of 32 bits, a file bytes, as every lent list and file does. Assumes nothing.
-use Prim.Native.Nat.{ℕ, zero, suc, _+_, _*_, _-_, _/_, _%_, _<_}
+use Prim.Native.Nat.{ℕ, zero, suc, _+_, _*_, _/_, _%_, _<_}
 use mathlib.Core.Path.{_≡_, refl, sym, ap, _∙_}
-use mathlib.Core.Bool.{Bool, true, _&&_}
+use mathlib.Core.Bool.{Bool, true}
 use mathlib.Core.List.{List, [], _∷_}
 use native.Mathlib.Omega.{arith}
 use native.Mathlib.Nat.{div-div-eq-div-mul}
 use lib.Dec.{ltb}
 use lib.ListN.{length, take}
 use borrow.Author.Tests.{ltb-true}
-use Rattle.source.specs.Words.{every}
-use Rattle.source.specs.Laid.{laid}
-use Rattle.source.specs.Demand.{isByte}
-use Rattle.source.proofs.Tests.{&&-left, &&-right}
-use Rattle.source.proofs.Laid.{take-laid}
+use Rattle.byte.specs.Words.{every}
+use Rattle.byte.specs.Laid.{laid}
+use Rattle.byte.specs.Demand.{isByte}
+use Rattle.byte.proofs.Tests.{&&-left, &&-right}
+use Rattle.byte.proofs.Laid.{take-laid}
 use Rattle.state.specs.declared.Answer.{Answer}
 use Rattle.token.specs.Files.{littleEndian, fileOf, numberAt, listOf, ToFile, ToList}
 use Rattle.token.proofs.Files.{length-fileOf, length-listOf, fileAnswer-done, written-values, toList-whole}

@@ -13,10 +13,10 @@ use mathlib.Core.List.{List, [], _∷_, _++_}
 use mathlib.Core.Path.{_≡_, refl}
 use lib.Dec.{leb, eqb}
 use lib.ListN.{length, getD, drop}
-use Rattle.source.specs.Words.{if_then_else_}
-use Rattle.source.specs.Laid.{laid}
+use Rattle.byte.specs.Words.{if_then_else_}
+use Rattle.byte.specs.Laid.{laid}
 use Rattle.source.specs.Cursor.{origin}
-use Rattle.source.specs.Refusals.{listFull, poolFull, outOfPlace, tooLarge}
+use Rattle.byte.specs.Refusals.{listFull, poolFull, outOfPlace, tooLarge}
 use Rattle.state.specs.declared.Answer.{Answer}
 
 unfoldable pub littleEndian : ℕ → List ℕ

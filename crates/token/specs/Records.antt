@@ -5,8 +5,8 @@
 use Prim.Native.Nat.{ℕ, _+_, _/_}
 use mathlib.Core.List.{List, [], _∷_}
 use lib.Dec.{leb}
-use Rattle.source.specs.Words.{if_then_else_}
-use Rattle.source.specs.Refusals.{listFull, poolFull}
+use Rattle.byte.specs.Words.{if_then_else_}
+use Rattle.byte.specs.Refusals.{listFull, poolFull}
 use Rattle.token.specs.declared.Token.{Token}
 
 abbrev pub recordOf : Token → List ℕ

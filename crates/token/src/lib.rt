@@ -3,11 +3,10 @@
 use source::Span;
 use state::Answer;
 ghost use mathlib.Core.Path.{_≡_};
-ghost use mathlib.Core.List.{_++_};
 ghost use Prim.Native.Nat.{_+_, _*_, _≤_};
 ghost use lib.ListN.{length};
 ghost use Rattle.source.specs.Cursor.{origin};
-ghost use Rattle.source.specs.Laid.{laid};
+ghost use Rattle.byte.specs.Laid.{laid};
 ghost use Rattle.token.specs.Records.{recordOf, roomRefusal};
 ghost use Rattle.token.specs.Files.{littleEndian, numberAt, fileOf, listOf, toFileRefusal, toListRefusal, ToFile, ToList};
 
@@ -70,10 +69,10 @@ pub fn room(list: usize, pool: usize, tokens: u32, bytes: u32, count: u32, len: 
     ensures { λ r. ⌜ r ≡ roomRefusal list pool tokens bytes count len ⌝ }
 {
     if list / 8 < tokens as usize + count as usize {
-        return source::LIST_FULL;
+        return byte::LIST_FULL;
     }
     if pool < bytes as usize + len as usize {
-        return source::POOL_FULL;
+        return byte::POOL_FULL;
     }
     0
 }
@@ -92,15 +91,6 @@ pub fn put_token(list: &mut [u32], place: usize, t: Token)
     list[at + 5] = t.start;
     list[at + 6] = t.len;
     list[at + 7] = 0;
-}
-
-// Two records, one after the other.
-pub fn put_two(list: &mut [u32], place: usize, t: Token, u: Token)
-    requires { ⌜ place * 8 + 16 ≤ length (now list) ⌝ }
-    ensures { λ r. ⌜ now (list .exit) ≡ laid (now (list .entry)) (place * 8) (recordOf t ++ recordOf u) ⌝ }
-{
-    put_token(list, place, t);
-    put_token(list, place + 1, u);
 }
 
 // The bytes of a part, copied to the start of another.
@@ -158,13 +148,13 @@ fn to_file_refusal(list: usize, file: usize) -> u32
     ensures { λ r. ⌜ r ≡ toFileRefusal list file ⌝ }
 {
     if 65537 < list / 8 {
-        return source::TOO_LARGE;
+        return byte::TOO_LARGE;
     }
     if list % 8 != 0 {
-        return source::OUT_OF_PLACE;
+        return byte::OUT_OF_PLACE;
     }
     if file / 32 < list / 8 {
-        return source::POOL_FULL;
+        return byte::POOL_FULL;
     }
     0
 }
@@ -174,16 +164,16 @@ fn to_list_refusal(file: usize, list: usize) -> u32
     ensures { λ r. ⌜ r ≡ toListRefusal file list ⌝ }
 {
     if 65537 < file / 32 {
-        return source::TOO_LARGE;
+        return byte::TOO_LARGE;
     }
     if 65537 < list / 8 {
-        return source::TOO_LARGE;
+        return byte::TOO_LARGE;
     }
     if file % 32 != 0 {
-        return source::OUT_OF_PLACE;
+        return byte::OUT_OF_PLACE;
     }
     if list / 8 < file / 32 {
-        return source::LIST_FULL;
+        return byte::LIST_FULL;
     }
     0
 }

@@ -10,10 +10,10 @@ use mathlib.Core.List.{List, [], _∷_, _++_, append-nil}
 use Prim.Native.Nat.{ℕ, zero, suc, _+_, _-_}
 use native.Mathlib.Omega.{arith}
 use lib.ListN.{length, length-append}
-use Rattle.source.specs.Words.{if_then_else_, every}
-use Rattle.source.specs.Demand.{Apart, Waits}
-use Rattle.source.specs.Refusals.{stackFull}
-use Rattle.source.proofs.Demand.{apart-by, waits}
+use Rattle.byte.specs.Words.{if_then_else_, every}
+use Rattle.byte.specs.Demand.{Apart, Waits}
+use Rattle.byte.specs.Refusals.{stackFull}
+use Rattle.byte.proofs.Demand.{apart-by, waits}
 use Rattle.unit.specs.declared.Follow.{Follow}
 use Rattle.unit.specs.declared.Mode.{Mode}
 use Rattle.unit.specs.declared.Stop.{Stop}

@@ -4,8 +4,8 @@
 use mathlib.Core.Path.{_≡_, refl}
 use mathlib.Core.Bool.{true}
 use mathlib.Core.List.{[], _∷_}
-use Rattle.source.specs.Words.{bytes}
-use Rattle.source.specs.Bytes.{isBlank, isStart, isIdentifier, isLetter, isDigit}
+use Rattle.byte.specs.Words.{bytes}
+use Rattle.byte.specs.Bytes.{isBlank, isStart, isIdentifier, isLetter, isDigit}
 use Rattle.unit.specs.declared.Follow.{Follow}
 use Rattle.unit.specs.declared.Indentation.{Indentation}
 use Rattle.unit.specs.declared.Mode.{Mode}

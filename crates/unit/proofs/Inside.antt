@@ -2,14 +2,14 @@
 --   unit-inside   Inside n (n + 1 + length rest) (unitAt m label end n b rest)
 --   text-inside   InsideReading n (n + length xs) (textAt m label end n xs)
 -- Assumes nothing.
-use mathlib.Core.Path.{_≡_, refl}
+use mathlib.Core.Path.{_≡_}
 use mathlib.Core.Bool.{Bool, false}
 use mathlib.Core.List.{List}
 use Prim.Native.Nat.{ℕ, _+_, _≤_, _<_}
 use native.Mathlib.Omega.{arith}
 use lib.Dec.{eqb}
 use lib.ListN.{length}
-use Rattle.source.specs.Refusals.{wait}
+use Rattle.byte.specs.Refusals.{wait}
 use Rattle.unit.specs.declared.Mode.{Mode}
 use Rattle.unit.specs.declared.Stop.{Stop}
 use Rattle.unit.specs.declared.TextUnit.{TextUnit}

@@ -14,8 +14,8 @@ use native.Mathlib.Nat.{mod-eq-of-lt}
 use lib.Dec.{ltb}
 use lib.ListN.{length, drop}
 use borrow.Author.Tests.{eqb-true, ltb-true, lt-ltb, le-ltb, not-true}
-use Rattle.source.specs.Words.{if_then_else_, _is_, every}
-use Rattle.source.proofs.Tests.{choice, &&-left, &&-right}
+use Rattle.byte.specs.Words.{if_then_else_, _is_, every}
+use Rattle.byte.proofs.Tests.{choice, &&-left, &&-right}
 use Rattle.unit.specs.declared.TextUnit.{TextUnit}
 use Rattle.unit.specs.Digits.{digitValue, isScalar, utf8}
 use Rattle.unit.specs.Escapes.{letters, letterIn, letterValue, fitted, digits, hex, codePoint, braced, escape}

@@ -13,10 +13,10 @@ use native.Mathlib.Omega.{arith}
 use lib.Dec.{ltb, eqb}
 use lib.ListN.{length}
 use borrow.Author.Tests.{eqb-true, eq-eqb}
-use Rattle.source.specs.Words.{if_then_else_, _is_, every}
-use Rattle.source.specs.Bytes.{isStart, isIdentifier, isBlank, isLetter, isDigit}
-use Rattle.source.specs.Demand.{isByte}
-use Rattle.source.proofs.Tests.{choice, &&-left, &&-right}
+use Rattle.byte.specs.Words.{if_then_else_, _is_, every}
+use Rattle.byte.specs.Bytes.{isStart, isIdentifier, isBlank, isLetter, isDigit}
+use Rattle.byte.specs.Demand.{isByte}
+use Rattle.byte.proofs.Tests.{choice, &&-left, &&-right}
 use Rattle.unit.specs.declared.Follow.{Follow}
 use Rattle.unit.specs.declared.Indentation.{Indentation}
 use Rattle.unit.specs.declared.Look.{Look}

@@ -14,10 +14,10 @@ use native.Mathlib.Omega.{arith}
 use lib.Dec.{ltb, leb, eqb}
 use lib.ListN.{length, take, drop, length-append}
 use borrow.Author.Tests.{eqb-true, ltb-true}
-use Rattle.source.specs.Refusals.{wait}
-use Rattle.source.specs.Words.{if_then_else_, _is_}
-use Rattle.source.specs.Bytes.{isStart, isIdentifier, isBlank}
-use Rattle.source.proofs.Tests.{choice, &&-left, &&-right}
+use Rattle.byte.specs.Refusals.{wait}
+use Rattle.byte.specs.Words.{if_then_else_, _is_}
+use Rattle.byte.specs.Bytes.{isStart, isIdentifier, isBlank}
+use Rattle.byte.proofs.Tests.{choice, &&-left, &&-right}
 use Rattle.unit.specs.declared.Follow.{Follow}
 use Rattle.unit.specs.declared.Indentation.{Indentation}
 use Rattle.unit.specs.declared.Look.{Look}
@@ -31,7 +31,7 @@ use Rattle.unit.specs.Interpolations.{follow, variable, name, dollar, br
 use Rattle.unit.specs.Closers.{matched, indented, closer, judged, line}
 use Rattle.unit.specs.Units.{unitAt}
 use Rattle.unit.specs.Readings.{Reading, Text, Refused, Wait, onto, taken, afterOf, collected, trimmed}
-use Rattle.unit.specs.Readings.{losesBreak, finished, textAt, gap, textEnd}
+use Rattle.unit.specs.Readings.{losesBreak, finished, textAt, gap}
 use Rattle.unit.proofs.Stays.{clash}
 
 -- a literal leaves its interpolations to `double_quote`: it enters no frame, and only it may end where it starts

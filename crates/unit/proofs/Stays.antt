@@ -8,8 +8,8 @@ use Prim.Native.Nat.{ℕ, zero, suc, _+_, _*_, _<_}
 use native.Mathlib.Omega.{arith}
 use lib.Dec.{ltb, eqb}
 use lib.ListN.{length}
-use Rattle.source.specs.Words.{if_then_else_, _is_}
-use Rattle.source.specs.Bytes.{isStart, isIdentifier, isBlank}
+use Rattle.byte.specs.Words.{if_then_else_, _is_}
+use Rattle.byte.specs.Bytes.{isStart, isIdentifier, isBlank}
 use Rattle.unit.specs.declared.Indentation.{Indentation}
 use Rattle.unit.specs.declared.Look.{Look}
 use Rattle.unit.specs.declared.Match.{Match}

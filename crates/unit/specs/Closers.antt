@@ -10,9 +10,9 @@ use mathlib.Core.Bool.{Bool}
 use mathlib.Core.List.{List, [], _∷_}
 use lib.Dec.{eqb}
 use lib.ListN.{length}
-use Rattle.source.specs.Refusals.{invalidDocIndentation}
-use Rattle.source.specs.Words.{if_then_else_, _is_}
-use Rattle.source.specs.Bytes.{isBlank}
+use Rattle.byte.specs.Refusals.{invalidDocIndentation}
+use Rattle.byte.specs.Words.{if_then_else_, _is_}
+use Rattle.byte.specs.Bytes.{isBlank}
 use Rattle.unit.specs.declared.Indentation.{Indentation}
 use Rattle.unit.specs.declared.Match.{Match}
 use Rattle.unit.specs.declared.Stop.{Stop}

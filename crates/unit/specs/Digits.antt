@@ -8,7 +8,7 @@ use mathlib.Core.Bool.{Bool, _&&_, _||_}
 use mathlib.Core.List.{List, [], _∷_}
 use mathlib.Core.Path.{_≡_, refl}
 use lib.Dec.{leb, ltb}
-use Rattle.source.specs.Words.{if_then_else_, _from_to_}
+use Rattle.byte.specs.Words.{if_then_else_, _from_to_}
 
 unfoldable pub digitValue : ℕ → ℕ
 digitValue b =

@@ -12,8 +12,8 @@ use mathlib.Core.Bool.{Bool, true, false, _&&_, _||_}
 use mathlib.Core.List.{List, [], _∷_}
 use mathlib.Core.Path.{_≡_, refl}
 use lib.Dec.{ltb}
-use Rattle.source.specs.Refusals.{invalidUnicodeEscape, invalidOctalEscape}
-use Rattle.source.specs.Words.{if_then_else_, _is_, bytes}
+use Rattle.byte.specs.Refusals.{invalidUnicodeEscape, invalidOctalEscape}
+use Rattle.byte.specs.Words.{if_then_else_, _is_, bytes}
 use Rattle.unit.specs.declared.TextUnit.{TextUnit}
 use Rattle.unit.specs.Digits.{digitValue, isScalar}
 

@@ -8,8 +8,8 @@ use Prim.Native.Nat.{ℕ, suc}
 use Prim.Native.Char.{code}
 use mathlib.Core.Bool.{Bool, _||_}
 use mathlib.Core.List.{List, [], _∷_}
-use Rattle.source.specs.Words.{if_then_else_, _is_}
-use Rattle.source.specs.Bytes.{isStart, isIdentifier}
+use Rattle.byte.specs.Words.{if_then_else_, _is_}
+use Rattle.byte.specs.Bytes.{isStart, isIdentifier}
 use Rattle.unit.specs.declared.Follow.{Follow}
 use Rattle.unit.specs.declared.Look.{Look}
 use Rattle.unit.specs.declared.Stop.{Stop}

@@ -8,9 +8,9 @@ use mathlib.Core.List.{List}
 use mathlib.Core.Path.{_≡_, refl}
 use lib.Dec.{lit<}
 use lib.ListN.{length}
-use Rattle.source.specs.Words.{every, bytes}
-use Rattle.source.specs.Bytes.{isIdentifier, isStart, isLetter, isDigit}
-use Rattle.source.specs.Demand.{isByte}
+use Rattle.byte.specs.Words.{every, bytes}
+use Rattle.byte.specs.Bytes.{isIdentifier, isStart, isLetter, isDigit}
+use Rattle.byte.specs.Demand.{isByte}
 use Rattle.unit.specs.declared.Mode.{Mode}
 
 pub record Label (label : List ℕ) : Type 0 where

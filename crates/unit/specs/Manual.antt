@@ -21,7 +21,7 @@ use mathlib.Core.List.{List, [], _∷_, _++_}
 use mathlib.Core.Path.{_≡_, refl}
 use lib.Dec.{ltb}
 use lib.ListN.{length, drop}
-use Rattle.source.specs.Words.{if_then_else_, _is_, bytes}
+use Rattle.byte.specs.Words.{if_then_else_, _is_, bytes}
 use Rattle.unit.specs.declared.TextUnit.{TextUnit}
 use Rattle.unit.specs.Digits.{digitValue, isScalar, utf8}
 

@@ -8,9 +8,9 @@ use Prim.Native.Nat.{ℕ, zero, suc, _-_}
 use mathlib.Core.Bool.{Bool, true, false}
 use mathlib.Core.List.{List, [], _∷_, _++_}
 use mathlib.Core.Path.{_≡_, refl}
-use Rattle.source.specs.Refusals.{unexpectedEndOfFile}
-use Rattle.source.specs.Words.{if_then_else_, _is_, bytes}
-use Rattle.source.specs.Bytes.{isBlank, isStart, isIdentifier, isLetter, isDigit}
+use Rattle.byte.specs.Refusals.{unexpectedEndOfFile}
+use Rattle.byte.specs.Words.{if_then_else_, _is_, bytes}
+use Rattle.byte.specs.Bytes.{isBlank, isStart, isIdentifier, isLetter, isDigit}
 use Rattle.unit.specs.declared.Follow.{Follow}
 use Rattle.unit.specs.declared.Indentation.{Indentation}
 use Rattle.unit.specs.declared.Mode.{Mode}

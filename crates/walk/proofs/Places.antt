@@ -4,23 +4,21 @@
 --   place-free, place-gives   what it makes is the step's turn
 --   place-next       the gate is open at the place behind it
 use Prim.Native.Nat.{ℕ, _+_, _*_, _/_, _≤_}
-use mathlib.Core.Path.{_≡_, refl, sym, ap, _∙_}
-use mathlib.Core.Bool.{Bool, true, false}
+use mathlib.Core.Path.{_≡_, sym, ap, _∙_}
+use mathlib.Core.Bool.{Bool, false}
 use mathlib.Core.List.{List}
 use native.Mathlib.Omega.{arith}
-use lib.Dec.{eqb}
 use lib.ListN.{length, drop, length-drop}
 use borrow.Author.Tests.{le-leb}
-use Rattle.source.specs.Cursor.{Reaches}
+use Rattle.source.specs.Code.{Reaches}
 use Rattle.source.specs.declared.Span.{Span}
-use Rattle.source.proofs.Tests.{&&-both}
-use Rattle.source.proofs.Laid.{laid-nil}
+use Rattle.byte.proofs.Tests.{&&-both}
+use Rattle.byte.proofs.Laid.{laid-nil}
 use Rattle.state.specs.declared.Frame.{Frame}
 use Rattle.state.specs.declared.Reading.{Reading}
 use Rattle.state.specs.declared.Slot.{Slot}
 use Rattle.state.specs.declared.Session.{Session}
 use Rattle.state.specs.declared.Turn.{Turn}
-use Rattle.state.specs.Bounds.{isFrame}
 use Rattle.state.specs.Gates.{lentRefusal, tablesFit}
 use Rattle.state.proofs.Longer.{top-good}
 use Rattle.token.specs.Records.{roomRefusal}
@@ -28,20 +26,20 @@ use Rattle.outcome.specs.Outcomes.{values, limited}
 use Rattle.outcome.specs.Steps.{topFrame, framed, stepOutcome}
 use Rattle.outcome.proofs.Insides.{framed-inside}
 use Rattle.plan.specs.declared.Plan.{Plan}
-use Rattle.plan.specs.Plans.{outcomeOf, Plans, Here}
-use Rattle.modes.specs.Passes.{Passes}
+use Rattle.plan.specs.Code.{outcomeOf, Plans, Here}
+use Rattle.modes.specs.Code.{Passes}
 use Rattle.commit.specs.declared.Mark.{Mark}
 use Rattle.commit.specs.declared.Next.{Next}
-use Rattle.commit.specs.Records.{records, Cursor, Marked}
-use Rattle.commit.specs.Nexts.{isFull, nextOf, listAfter, poolAfter, Commits, Committed}
+use Rattle.commit.specs.Records.{records}
+use Rattle.commit.specs.Code.{isFull, nextOf, listAfter, poolAfter, Commits, Committed}
 use Rattle.lexer.specs.Turns.{Gives, depthAfter, framesAfter}
 use Rattle.lexer.specs.Calls.{stepped}
-use Rattle.lexer.specs.Nexts.{turnOf, Stacked, Turning}
+use Rattle.lexer.specs.Code.{turnOf, Stacked, Turning}
 use Rattle.lexer.proofs.Calls.{Lent, lent-opened}
 use Rattle.lexer.proofs.Nexts.{limited-free, settled-next, settled-list, settled-pool}
-use Rattle.demands.proofs.Good.{Sound, StaysSound, step-sound}
+use Rattle.demands.proofs.Good.{StaysSound, step-sound}
 use Rattle.demands.proofs.Longer.{gate-open}
-use Rattle.walk.specs.Places.{sessionAt, outcomeAt, movedTo, Standing}
+use Rattle.walk.specs.Code.{sessionAt, outcomeAt, movedTo, Standing}
 
 -- ---- the step
 

@@ -21,13 +21,13 @@ use Rattle.outcome.specs.declared.Change.{Change}
 use Rattle.outcome.specs.Steps.{topFrame}
 use Rattle.commit.specs.declared.Mark.{Mark}
 use Rattle.commit.specs.declared.Next.{Next}
-use Rattle.commit.specs.Nexts.{isFull, Committed}
+use Rattle.commit.specs.Code.{isFull, Committed}
 use Rattle.lexer.specs.Turns.{After, Gives, depthAfter, framesAfter}
 use Rattle.lexer.specs.Calls.{stepped}
-use Rattle.lexer.specs.Nexts.{turnOf}
+use Rattle.lexer.specs.Code.{turnOf}
 use Rattle.lexer.proofs.Calls.{step-shut}
 use Rattle.demands.specs.Walks.{goOn, walked}
-use Rattle.walk.specs.Places.{sessionAt, outcomeAt, Standing}
+use Rattle.walk.specs.Code.{sessionAt, outcomeAt, Standing}
 use Rattle.walk.proofs.Places.{place-stacked, place-standing, place-free, place-gives, list-kept, pool-kept, place-next}
 
 pub record Walking (most : ℕ) (src : List ℕ) (end : Bool) (s₀ : Session) (l₀ q₀ : List ℕ) (left : ℕ) (m : Mark) (depth : ℕ)

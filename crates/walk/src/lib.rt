@@ -14,11 +14,11 @@ ghost use mathlib.Core.Bool.{false};
 ghost use Prim.Native.Nat.{_≤_};
 ghost use lib.ListN.{length};
 ghost use Rattle.state.specs.Gates.{lentRefusal};
-ghost use Rattle.commit.specs.Nexts.{isFull, Committed};
+ghost use Rattle.commit.specs.Code.{isFull, Committed};
 ghost use Rattle.lexer.specs.Turns.{Gives};
-ghost use Rattle.lexer.specs.Nexts.{turnOf};
+ghost use Rattle.lexer.specs.Code.{turnOf};
 ghost use Rattle.demands.specs.Walks.{walked};
-ghost use Rattle.walk.specs.Places.{sessionAt, outcomeAt, movedTo, Standing};
+ghost use Rattle.walk.specs.Code.{sessionAt, outcomeAt, movedTo, Standing};
 
 // The session that a walk stands at.
 fn session_at(m: Mark, depth: u32, frames: [Slot; 64], nowdocs: Reading) -> Session

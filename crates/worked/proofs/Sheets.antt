@@ -1,9 +1,9 @@
 -- The worked sheets hold: each row of the table finds what it says, by computing the definitions. Assumes nothing.
 use mathlib.Core.Path.{refl}
-use Rattle.source.specs.Words.{bytes, every, run}
-use Rattle.source.specs.Bytes.{isDigit, isOctal, isHex, isLetter, isStart, isIdentifier, isBlank}
+use Rattle.byte.specs.Words.{bytes, every, run}
+use Rattle.byte.specs.Bytes.{isDigit, isOctal, isHex, isLetter, isStart, isIdentifier, isBlank}
 use Rattle.source.specs.Cursor.{passedByte, passed}
-use Rattle.source.specs.Laid.{laid}
+use Rattle.byte.specs.Laid.{laid}
 use Rattle.state.specs.Bounds.{isLabel, isFrame, isBottom, isStack, isWithin, isGood, fitsTables}
 use Rattle.state.specs.Gates.{sourceFits, tablesFit, gateRefusal, lentRefusal}
 use Rattle.token.specs.Records.{roomRefusal}

@@ -8,17 +8,17 @@
 --   table      the sheets
 --   comments   the sheets of comments
 -- `sheets-hold` and `comments-hold` (proofs/Sheets.antt) are the statements: every row finds what it says.
-use Prim.Native.Nat.{ℕ, zero, suc, _+_}
+use Prim.Native.Nat.{ℕ, zero, suc}
 use Prim.Native.Char.{Char}
 use Prim.Native.String.{String}
 use mathlib.Core.Bool.{Bool, true, false}
 use mathlib.Core.List.{List, [], _∷_}
 use mathlib.Core.Path.{_≡_}
 use lib.ListN.{length, getD, take, drop, replicate}
-use Rattle.source.specs.Words.{bytes}
+use Rattle.byte.specs.Words.{bytes}
 use Rattle.source.specs.Cursor.{origin}
-use Rattle.source.specs.Refusals.{unexpectedEndOfFile, invalidUnicodeEscape, invalidOctalEscape, invalidDocIndentation}
-use Rattle.source.specs.Refusals.{strayIndentation, wait}
+use Rattle.byte.specs.Refusals.{unexpectedEndOfFile, invalidUnicodeEscape, invalidOctalEscape, invalidDocIndentation}
+use Rattle.byte.specs.Refusals.{strayIndentation, wait}
 use Rattle.source.specs.declared.Span.{Span}
 use Rattle.state.specs.declared.Answer.{Answer}
 use Rattle.state.specs.declared.Frame.{Frame}

@@ -1,4 +1,4 @@
-//! The functions of libembed.a, as include/puretakoi.h declares them, and a safe call of each. A slice is its pointer and its length.
+//! The functions of libpuretakoi.a, as include/puretakoi.h declares them, and a safe call of each. A slice is its pointer and its length.
 //!
 //! Each call lends slices that Rust holds to be whole and apart, and keeps none; the library asks for nothing else. This is the one
 //! place with unsafe code.

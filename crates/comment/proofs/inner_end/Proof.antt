@@ -1,6 +1,6 @@
 -- `comment::inner_end` meets its contract: each arm of the match is the definition's clause. Assumes nothing.
 use borrow.Author.Needs.{needs}
-use Rattle.comment.specs.Ends.{isInner}
+use Rattle.comment.specs.Code.{isInner}
 use Rattle.comment.proofs.Ends.{inner-arm}
 use Rattle.comment.proofs.inner_end.Statement.{statement}
 use Rattle.comment.proofs.inner_end.Tie as tie

@@ -1,6 +1,6 @@
 -- `commit::count` meets its contract: each arm counts its drafts. Assumes nothing.
 use borrow.Author.Needs.{needs}
-use Rattle.commit.specs.Records.{countOf}
+use Rattle.commit.specs.Code.{countOf}
 use Rattle.commit.proofs.Records.{counts}
 use Rattle.commit.proofs.count.Statement.{statement}
 use Rattle.commit.proofs.count.Tie as tie

@@ -1,6 +1,6 @@
 -- `commit::is_full` meets its contract: each arm of the match is one change. Assumes nothing.
 use borrow.Author.Needs.{needs}
-use Rattle.commit.specs.Nexts.{isFull}
+use Rattle.commit.specs.Code.{isFull}
 use Rattle.commit.proofs.Nexts.{isFull-arm}
 use Rattle.commit.proofs.is_full.Statement.{statement}
 use Rattle.commit.proofs.is_full.Tie as tie

@@ -1,6 +1,6 @@
 -- `commit::total` meets its contract: each arm adds up its drafts. Assumes nothing.
 use borrow.Author.Needs.{needs}
-use Rattle.commit.specs.Records.{totalOf}
+use Rattle.commit.specs.Code.{totalOf}
 use Rattle.commit.proofs.Records.{counts}
 use Rattle.commit.proofs.total.Statement.{statement}
 use Rattle.commit.proofs.total.Tie as tie

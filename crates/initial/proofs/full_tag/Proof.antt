@@ -1,6 +1,6 @@
 -- `initial::full_tag` meets its contract: each return is one law of `Tags`. Assumes nothing.
 use borrow.Author.Needs.{needs}
-use Rattle.source.specs.Words.{bytes}
+use Rattle.byte.specs.Words.{bytes}
 use Rattle.initial.proofs.Tags.{fullTags}
 use Rattle.initial.proofs.full_tag.Statement.{statement}
 use Rattle.initial.proofs.full_tag.Tie as tie

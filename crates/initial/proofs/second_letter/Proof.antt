@@ -1,6 +1,6 @@
 -- `initial::second_letter` meets its contract: each return is one law of `Tags`. Assumes nothing.
 use borrow.Author.Needs.{needs}
-use Rattle.source.specs.Words.{bytes}
+use Rattle.byte.specs.Words.{bytes}
 use Rattle.initial.proofs.Tags.{fullTags}
 use Rattle.initial.proofs.second_letter.Statement.{statement}
 use Rattle.initial.proofs.second_letter.Tie as tie

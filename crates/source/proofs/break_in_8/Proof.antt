@@ -1,7 +1,7 @@
 -- `source::break_in_8` meets its contract: the loop keeps `Meeting`. Assumes nothing.
 use Prim.Native.Nat.{_-_}
 use borrow.Author.Needs.{needs}
-use Rattle.source.specs.Bytes.{isNoBreak}
+use Rattle.byte.specs.Bytes.{isNoBreak}
 use Rattle.source.proofs.Blocks.{Meeting, meeting}
 use Rattle.source.proofs.break_in_8.Statement.{statement}
 use Rattle.source.proofs.break_in_8.Tie as tie

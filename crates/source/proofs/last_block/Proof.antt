@@ -1,6 +1,6 @@
 -- `source::last_block` meets its contract: the loop keeps `Unbroken`. Assumes nothing.
 use borrow.Author.Needs.{needs}
-use Rattle.source.specs.Cursor.{Unbroken}
+use Rattle.source.specs.Code.{Unbroken}
 use Rattle.source.proofs.Counts.{walkingBack}
 use Rattle.source.proofs.last_block.Statement.{statement}
 use Rattle.source.proofs.last_block.Tie as tie

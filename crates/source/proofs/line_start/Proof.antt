@@ -1,6 +1,6 @@
 -- `source::line_start` meets its contract: blocks and bytes keep `Unbroken`. Assumes nothing.
 use borrow.Author.Needs.{needs}
-use Rattle.source.specs.Cursor.{Unbroken}
+use Rattle.source.specs.Code.{Unbroken}
 use Rattle.source.proofs.Counts.{walkingBack}
 use Rattle.source.proofs.line_start.Statement.{statement}
 use Rattle.source.proofs.line_start.Tie as tie

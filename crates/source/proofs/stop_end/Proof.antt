@@ -2,9 +2,9 @@
 use Prim.Native.Nat.{_-_}
 use lib.ListN.{length}
 use borrow.Author.Needs.{needs}
-use Rattle.source.specs.Bytes.{isNoneOf}
-use Rattle.source.specs.Identifiers.{Passing}
-use Rattle.source.proofs.Words.{passing}
+use Rattle.byte.specs.Bytes.{isNoneOf}
+use Rattle.source.specs.Code.{Passing}
+use Rattle.source.proofs.Runs.{passing}
 use Rattle.source.proofs.stop_end.Statement.{statement}
 use Rattle.source.proofs.stop_end.Tie as tie
 

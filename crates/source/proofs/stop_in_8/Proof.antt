@@ -1,7 +1,7 @@
 -- `source::stop_in_8` meets its contract: the loop keeps `Meeting`. Assumes nothing.
 use Prim.Native.Nat.{_-_}
 use borrow.Author.Needs.{needs}
-use Rattle.source.specs.Bytes.{isNoneOf}
+use Rattle.byte.specs.Bytes.{isNoneOf}
 use Rattle.source.proofs.Blocks.{Meeting, meeting}
 use Rattle.source.proofs.stop_in_8.Statement.{statement}
 use Rattle.source.proofs.stop_in_8.Tie as tie

@@ -1,6 +1,6 @@
 -- `text::ended_as` meets its contract: each arm of the match is the definition's clause. Assumes nothing.
 use borrow.Author.Needs.{needs}
-use Rattle.text.specs.Scans.{ended}
+use Rattle.text.specs.Code.{ended}
 use Rattle.text.proofs.Scans.{endings}
 use Rattle.text.proofs.ended_as.Statement.{statement}
 use Rattle.text.proofs.ended_as.Tie as tie

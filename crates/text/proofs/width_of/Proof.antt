@@ -1,6 +1,6 @@
 -- `text::width_of` meets its contract: each arm of the match is the definition's clause. Assumes nothing.
 use borrow.Author.Needs.{needs}
-use Rattle.text.specs.Scans.{bytesOf}
+use Rattle.text.specs.Code.{bytesOf}
 use Rattle.text.proofs.Scans.{widths}
 use Rattle.text.proofs.width_of.Statement.{statement}
 use Rattle.text.proofs.width_of.Tie as tie

@@ -1,6 +1,6 @@
 -- `token::put_value` meets its contract: what is copied to the free rest is written behind the mark. Assumes nothing.
 use borrow.Author.Needs.{needs}
-use Rattle.source.proofs.Laid.{laid-rest}
+use Rattle.byte.proofs.Laid.{laid-rest}
 use Rattle.token.proofs.put_value.Statement.{statement}
 use Rattle.token.proofs.put_value.Tie as tie
 

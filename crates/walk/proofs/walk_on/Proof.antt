@@ -1,6 +1,6 @@
 -- `walk::walk_on` meets its contract: the loop keeps `Walking`. Assumes nothing.
 use borrow.Author.Needs.{needs}
-use Rattle.walk.specs.Places.{sessionAt}
+use Rattle.walk.specs.Code.{sessionAt}
 use Rattle.walk.proofs.Walks.{Walking, walking, walking-keep, walking-swap, walking-enter, walking-leave}
 use Rattle.walk.proofs.walk_on.Statement.{statement}
 use Rattle.walk.proofs.walk_on.Tie as tie

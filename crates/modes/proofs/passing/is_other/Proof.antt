@@ -1,7 +1,7 @@
 -- `modes::passing::is_other` meets its contract: the arms of the match are the definition's bytes. Assumes nothing.
 use borrow.Author.Needs.{needs}
-use Rattle.source.specs.Bytes.{isDigit, isNoneOf}
-use Rattle.modes.specs.Passes.{isOther}
+use Rattle.byte.specs.Bytes.{isDigit, isNoneOf}
+use Rattle.modes.specs.Code.{isOther}
 use Rattle.modes.proofs.Passes.{others}
 use Rattle.modes.proofs.passing.is_other.Statement.{statement}
 use Rattle.modes.proofs.passing.is_other.Tie as tie

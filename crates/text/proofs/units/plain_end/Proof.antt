@@ -1,6 +1,6 @@
 -- `text::units::plain_end` meets its contract: each arm of the match is the definition's clause. Assumes nothing.
 use borrow.Author.Needs.{needs}
-use Rattle.text.specs.Scans.{isPlain}
+use Rattle.text.specs.Code.{isPlain}
 use Rattle.text.proofs.Runs.{plain-arm}
 use Rattle.text.proofs.units.plain_end.Statement.{statement}
 use Rattle.text.proofs.units.plain_end.Tie as tie

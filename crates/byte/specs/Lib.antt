@@ -1,0 +1,5 @@
+pub mod Words
+pub mod Laid
+pub mod Bytes
+pub mod Demand
+pub mod Refusals

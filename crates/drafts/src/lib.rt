@@ -1,0 +1,369 @@
+// The text modes, quoted literals and numbers: a scan measures the text, and its plan says which tokens are written of it.
+// Of the Rust: what double_quote, shell_exec, docstring and nowdoc push behind their loops, and `tokenize_number`.
+use number::Literal;
+use outcome::Change;
+use plan::Draft;
+use plan::Making;
+use plan::Plan;
+use state::Frame;
+use state::Label;
+use state::Reading;
+use unit::Follow;
+use unit::Indentation;
+use unit::Mode;
+use unit::Stop;
+ghost use mathlib.Core.Path.{_≡_};
+ghost use mathlib.Core.List.{[]};
+ghost use Prim.Native.Nat.{_+_, _≤_};
+ghost use lib.ListN.{drop};
+ghost use Rattle.state.specs.Bounds.{labelBytes};
+ghost use Rattle.unit.specs.Readings.{textAt, gap, textEnd};
+ghost use Rattle.number.specs.Numbers.{numberAt};
+ghost use Rattle.outcome.specs.Texts.{docKind, quoteKind, stopKind, stopDetail, variableChange, stopChange, isLeft, numberKind};
+ghost use Rattle.outcome.specs.Texts.{literal, numbered};
+ghost use Rattle.outcome.specs.Steps.{textMode, nowdoc};
+ghost use Rattle.plan.specs.Code.{Here, Named, Plans, copiedDraft};
+ghost use Rattle.drafts.specs.Code.{madeDraft, textDraft, textPlan, sheetPlan, literalPlan};
+
+// The kind of an EndDocString by its indentation, which is never mixed.
+fn doc_kind(ind: Indentation) -> u32
+    ensures { λ r. ⌜ r ≡ docKind ind ⌝ }
+{
+    match ind {
+        Indentation::None => token::END_DOC_STRING_NONE,
+        Indentation::Space => token::END_DOC_STRING_SPACE,
+        Indentation::Tab => token::END_DOC_STRING_TAB,
+        Indentation::Mixed => token::END_DOC_STRING_NONE,
+    }
+}
+
+// The kind of a closing quote.
+fn quote_kind(mode: Mode) -> u32
+    ensures { λ r. ⌜ r ≡ quoteKind mode ⌝ }
+{
+    match mode {
+        Mode::Single => token::DOUBLE_QUOTE,
+        Mode::Double => token::DOUBLE_QUOTE,
+        Mode::DoubleQuote => token::DOUBLE_QUOTE,
+        Mode::ShellExec => token::BACKTICK,
+        Mode::Heredoc => token::DOUBLE_QUOTE,
+        Mode::Nowdoc => token::DOUBLE_QUOTE,
+    }
+}
+
+// The kind of the token that ends a text.
+fn stop_kind(mode: Mode, stop: Stop) -> u32
+    ensures { λ r. ⌜ r ≡ stopKind mode stop ⌝ }
+{
+    match stop {
+        Stop::Quote => quote_kind(mode),
+        Stop::Interpolation => token::STRING_PART,
+        Stop::DollarLeftBrace => token::DOLLAR_LEFT_BRACE,
+        Stop::LeftBrace => token::LEFT_BRACE,
+        Stop::Variable(_) => token::VARIABLE,
+        Stop::Label {
+            indentation,
+            amount: _,
+        } => doc_kind(indentation),
+    }
+}
+
+// The indentation amount for EndDocString, else 0.
+fn stop_detail(stop: Stop) -> usize
+    ensures { λ r. ⌜ r ≡ stopDetail stop ⌝ }
+{
+    match stop {
+        Stop::Quote => 0,
+        Stop::Interpolation => 0,
+        Stop::DollarLeftBrace => 0,
+        Stop::LeftBrace => 0,
+        Stop::Variable(_) => 0,
+        Stop::Label {
+            indentation: _,
+            amount,
+        } => amount,
+    }
+}
+
+// The frame that comes on top behind a variable.
+fn variable_change(f: Follow) -> Change
+    ensures { λ r. ⌜ r ≡ variableChange f ⌝ }
+{
+    match f {
+        Follow::Other => Change::Keep,
+        Follow::Offset => Change::Enter(Frame::VarOffset),
+        Follow::Property => Change::Enter(Frame::LookingForProperty),
+    }
+}
+
+// What the token that ends a text does to the mode stack.
+fn stop_change(stop: Stop) -> Change
+    ensures { λ r. ⌜ r ≡ stopChange stop ⌝ }
+{
+    match stop {
+        Stop::Quote => Change::Swap(Frame::Scripting),
+        Stop::Interpolation => Change::Swap(Frame::DoubleQuote),
+        Stop::DollarLeftBrace => Change::Enter(Frame::LookingForVarname),
+        Stop::LeftBrace => Change::Enter(Frame::Scripting),
+        Stop::Variable(f) => variable_change(f),
+        Stop::Label {
+            indentation: _,
+            amount: _,
+        } => Change::Swap(Frame::Scripting),
+    }
+}
+
+// The bytes that a label names.
+fn label_bytes(src: &[u8], label: Label) -> &[u8]
+    requires { ⌜ Named (now src) label ⌝ }
+    ensures { λ r. ⌜ now r ≡ labelBytes (now (src .entry)) label ⌝ }
+{
+    let start = label.start as usize;
+    let len = label.len as usize;
+    &src[start..start + len]
+}
+
+// A token whose value is made: `len` bytes.
+fn made_draft(kind: u32, place: usize, making: Making, from: usize, to: usize, len: usize) -> Draft
+    ensures { λ r. ⌜ r ≡ madeDraft kind place making from to len ⌝ }
+{
+    Draft {
+        kind,
+        detail: 0,
+        place,
+        making,
+        from,
+        to,
+        len,
+    }
+}
+
+// A token whose value is the source's own bytes, with a detail.
+fn copied_draft(kind: u32, detail: usize, place: usize, from: usize, to: usize) -> Draft
+    requires { ⌜ from ≤ to ⌝ }
+    ensures { λ r. ⌜ r ≡ copiedDraft kind detail place from to ⌝ }
+{
+    Draft {
+        kind,
+        detail,
+        place,
+        making: Making::Copied,
+        from,
+        to,
+        len: to - from,
+    }
+}
+
+// Where a text ends that has this stop: before the break and the blanks of a closing line.
+fn text_end(stop: Stop, from: usize) -> usize
+    requires { ⌜ gap stop ≤ from ⌝ }
+    ensures { λ r. ⌜ r ≡ textEnd stop from ⌝ }
+{
+    match stop {
+        Stop::Quote => from,
+        Stop::Interpolation => from,
+        Stop::DollarLeftBrace => from,
+        Stop::LeftBrace => from,
+        Stop::Variable(_) => from,
+        Stop::Label {
+            indentation: _,
+            amount,
+        } => from - amount - 1,
+    }
+}
+
+// A text's value of `len` bytes: where nothing was escaped it is the source's own bytes.
+fn text_draft(
+    kind: u32,
+    place: usize,
+    mode: Mode,
+    label: Label,
+    at: usize,
+    len: usize,
+    stop: Stop,
+    from: usize,
+) -> Draft
+    requires { ⌜ at + len + gap stop ≤ from ⌝ }
+    ensures { λ r. ⌜ r ≡ textDraft kind place mode label at len stop from ⌝ }
+{
+    if at + len == text_end(stop, from) {
+        return plan::copied(kind, place, at, at + len);
+    }
+    made_draft(kind, place, Making::Text { mode, label }, at, from, len)
+}
+
+// A mode's text of `len` bytes from `at` on, and what ends it. Both tokens bear the span where the call began.
+fn text_plan(
+    mode: Mode,
+    label: Label,
+    at: usize,
+    len: usize,
+    stop: Stop,
+    from: usize,
+    after: usize,
+) -> Plan
+    requires { ⌜ (at + len + gap stop ≤ from) × (from ≤ after) ⌝ }
+    ensures { λ r. ⌜ r ≡ textPlan mode label at len stop from after ⌝ }
+{
+    let part = text_draft(token::STRING_PART, at, mode, label, at, len, stop, from);
+    let kind = stop_kind(mode, stop);
+    let closing = copied_draft(kind, stop_detail(stop), at, from, after);
+    plan::parted(part, closing, after, stop_change(stop))
+}
+
+// A text mode: its text from `at` on, up to what ends it.
+pub fn text_mode(mode: Mode, src: &[u8], label: Label, at: usize, end: bool) -> Plan
+    requires { ⌜ Here (now src) at × Named (now src) label ⌝ }
+    ensures { λ r. ⌜ Plans (now (src .entry)) end (textMode mode (labelBytes (now (src .entry)) label) end at (drop at (now (src .entry)))) r ⌝ }
+{
+    let scan = text::scan_text(mode, src, label_bytes(src, label), at, end);
+    match scan {
+        text::Scanned::Text {
+            len,
+            stop,
+            from,
+            after,
+        } => text_plan(mode, label, at, len, stop, from, after),
+        text::Scanned::Refused { number, place } => Plan::Refused { number, place },
+        text::Scanned::Wait => Plan::Wait,
+    }
+}
+
+// A sheet of `len` bytes from `at` on, and the label that closes it.
+fn sheet_plan(
+    label: Label,
+    at: usize,
+    len: usize,
+    ind: Indentation,
+    amount: usize,
+    from: usize,
+    after: usize,
+) -> Plan
+    requires { ⌜ from ≤ after ⌝ }
+    ensures { λ r. ⌜ r ≡ sheetPlan label at len ind amount from after ⌝ }
+{
+    let part = made_draft(token::STRING_PART, at, Making::Sheet(label), at, from, len);
+    let closing = copied_draft(doc_kind(ind), amount, at, from, after);
+    plan::parted(part, closing, after, Change::Swap(Frame::Scripting))
+}
+
+// A nowdoc block read as a sheet.
+fn sheet_mode(src: &[u8], label: Label, at: usize, end: bool) -> Plan
+    requires { ⌜ Here (now src) at × Named (now src) label ⌝ }
+    ensures { λ r. ⌜ Plans (now (src .entry)) end (nowdoc Reading.Sheet (labelBytes (now (src .entry)) label) end at (drop at (now (src .entry)))) r ⌝ }
+{
+    let scan = sheet::scan_sheet(src, label_bytes(src, label), at, end);
+    match scan {
+        sheet::Scanned::Sheet {
+            len,
+            indentation,
+            amount,
+            from,
+            after,
+        } => sheet_plan(label, at, len, indentation, amount, from, after),
+        sheet::Scanned::Refused { number, place } => Plan::Refused { number, place },
+        sheet::Scanned::Wait => Plan::Wait,
+    }
+}
+
+// A Nowdoc frame, as the session has it read.
+pub fn nowdoc(nowdocs: Reading, src: &[u8], label: Label, at: usize, end: bool) -> Plan
+    requires { ⌜ Here (now src) at × Named (now src) label ⌝ }
+    ensures { λ r. ⌜ Plans (now (src .entry)) end (nowdoc nowdocs (labelBytes (now (src .entry)) label) end at (drop at (now (src .entry)))) r ⌝ }
+{
+    match nowdocs {
+        Reading::Ported => text_mode(Mode::Nowdoc, src, label, at, end),
+        Reading::Sheet => sheet_mode(src, label, at, end),
+    }
+}
+
+// Whether a stop is an interpolation, which is left to `double_quote`.
+fn is_left(stop: Stop) -> bool
+    ensures { λ r. ⌜ r ≡ isLeft stop ⌝ }
+{
+    match stop {
+        Stop::Quote => false,
+        Stop::Interpolation => true,
+        Stop::DollarLeftBrace => false,
+        Stop::LeftBrace => false,
+        Stop::Variable(_) => false,
+        Stop::Label {
+            indentation: _,
+            amount: _,
+        } => false,
+    }
+}
+
+// A literal of `len` bytes: one token; before an interpolation its part.
+fn literal_plan(
+    kind: u32,
+    place: usize,
+    mode: Mode,
+    at: usize,
+    len: usize,
+    stop: Stop,
+    from: usize,
+    after: usize,
+) -> Plan
+    requires { ⌜ at + len + gap stop ≤ from ⌝ }
+    ensures { λ r. ⌜ r ≡ literalPlan kind place mode at len stop from after ⌝ }
+{
+    let label = plan::no_label();
+    if is_left(stop) {
+        let part = text_draft(token::STRING_PART, place, mode, label, at, len, stop, from);
+        return plan::one(part, after, Change::Swap(Frame::DoubleQuote));
+    }
+    plan::one(
+        text_draft(kind, place, mode, label, at, len, stop, from),
+        after,
+        Change::Keep,
+    )
+}
+
+// A quoted literal whose text starts at `at`, and which bears the span of `place`.
+pub fn literal(kind: u32, place: usize, mode: Mode, src: &[u8], at: usize, end: bool) -> Plan
+    requires { ⌜ Here (now src) at ⌝ }
+    ensures { λ r. ⌜ Plans (now (src .entry)) end (literal kind place (textAt mode [] end at (drop at (now (src .entry))))) r ⌝ }
+{
+    let scan = text::scan_text(mode, src, &src[0..0], at, end);
+    match scan {
+        text::Scanned::Text {
+            len,
+            stop,
+            from,
+            after,
+        } => literal_plan(kind, place, mode, at, len, stop, from, after),
+        text::Scanned::Refused { number, place } => Plan::Refused { number, place },
+        text::Scanned::Wait => Plan::Wait,
+    }
+}
+
+// The kind of a number's token.
+fn number_kind(literal: Literal) -> u32
+    ensures { λ r. ⌜ r ≡ numberKind literal ⌝ }
+{
+    match literal {
+        Literal::Integer => token::LITERAL_INTEGER,
+        Literal::Float => token::LITERAL_FLOAT,
+    }
+}
+
+// The number at a place, as one token that bears the span of `place`.
+pub fn number(place: usize, src: &[u8], at: usize, end: bool) -> Plan
+    requires { ⌜ Here (now src) at ⌝ }
+    ensures { λ r. ⌜ Plans (now (src .entry)) end (numbered place (numberAt end at (drop at (now (src .entry))))) r ⌝ }
+{
+    let scan = number::scan_number(src, at, end);
+    match scan {
+        number::Scanned::Number {
+            literal,
+            after,
+            len,
+        } => plan::one(
+            made_draft(number_kind(literal), place, Making::Number, at, after, len),
+            after,
+            Change::Keep,
+        ),
+        number::Scanned::Wait => Plan::Wait,
+    }
+}

@@ -1,0 +1,112 @@
+-- What a plan stands for: the outcome that it makes of a source.
+--   madeBy, made      the value of a draft
+--   pieceOf, piecesOf, outcomeOf   a draft, drafts and a plan in the outcome's words
+--   Able, Ready       a draft whose value can be written: its length is the value's, and its ranges lie within the source
+--   Plans             the plan makes this outcome, and can be written: what each routine's contract says
+--   Here              a place of a source that is not too long; its end is one
+--   Named             a label's range within the source
+use Prim.Native.Nat.{ℕ, _+_, _-_, _≤_}
+use mathlib.Core.Bool.{Bool, false}
+use mathlib.Core.List.{List, [], _∷_}
+use mathlib.Core.Path.{_≡_}
+use lib.Dec.{eqb}
+use lib.ListN.{length, take, drop}
+use Rattle.byte.specs.Words.{if_then_else_}
+use Rattle.state.specs.declared.Label.{Label}
+use Rattle.state.specs.Bounds.{labelBytes}
+use Rattle.unit.specs.Readings.{textAt}
+use Rattle.text.specs.Code as text
+use Rattle.number.specs.Numbers as number
+use Rattle.sheet.specs.Sheets.{sheetAt}
+use Rattle.sheet.specs.Code as sheet
+use Rattle.outcome.specs.declared.Change.{Change}
+use Rattle.outcome.specs.Outcomes.{Piece, Outcome}
+use Rattle.plan.specs.declared.Making.{Making}
+use Rattle.plan.specs.declared.Draft.{Draft}
+use Rattle.plan.specs.declared.Drafts.{Drafts}
+use Rattle.plan.specs.declared.Plan.{Plan}
+
+unfoldable pub madeBy : Making → List ℕ → Bool → ℕ → ℕ → List ℕ
+madeBy Making.Copied src end from to = take (to - from) (drop from src)
+madeBy (Making.Text mode label) src end from to = text.valueOf (textAt mode (labelBytes src label) end from (drop from src))
+madeBy Making.Number src end from to = number.valueOf src from to
+madeBy (Making.Sheet label) src end from to = sheet.valueOf (sheetAt (labelBytes src label) end from (drop from src))
+
+abbrev pub made : List ℕ → Bool → Draft → List ℕ
+made src end d = madeBy (d .making) src end (d .from) (d .to)
+
+abbrev pub pieceOf : List ℕ → Bool → Draft → Piece
+pieceOf src end d = record { kind = d .kind; detail = d .detail; place = d .place; value = made src end d }
+
+unfoldable pub piecesOf : List ℕ → Bool → Drafts → List Piece
+piecesOf src end Drafts.None = []
+piecesOf src end (Drafts.One d) = pieceOf src end d ∷ []
+piecesOf src end (Drafts.Two d e) = pieceOf src end d ∷ pieceOf src end e ∷ []
+
+unfoldable pub outcomeOf : List ℕ → Bool → Plan → Outcome
+outcomeOf src end (Plan.Told w) = Outcome.Told (piecesOf src end (w .drafts)) (w .after) (w .change) (w .finished)
+outcomeOf src end (Plan.Refused number place) = Outcome.Refused number place
+outcomeOf src end Plan.Wait = Outcome.Wait
+
+pub record Here (src : List ℕ) (at : ℕ) : Type 0 where
+  pub inside : at ≤ length src
+  pub short : length src ≤ 65536
+
+pub record Named (src : List ℕ) (label : Label) : Type 0 where
+  pub inside : label .start + label .len ≤ length src
+  pub short : label .len ≤ 64
+
+pub record Range (src : List ℕ) (from to : ℕ) : Type 0 where
+  pub order : from ≤ to
+  pub inside : to ≤ length src
+
+pub record Block (src : List ℕ) (label : Label) (from : ℕ) : Type 0 where
+  pub start : from ≤ length src
+  pub name : Named src label
+
+abbrev pub Able : Making → List ℕ → ℕ → ℕ → Type 0
+Able Making.Copied src from to = Range src from to
+Able (Making.Text mode label) src from to = Block src label from
+Able Making.Number src from to = Range src from to
+Able (Making.Sheet label) src from to = Block src label from
+
+pub record Ready (src : List ℕ) (end : Bool) (d : Draft) : Type 0 where
+  pub size : d .len ≡ length (made src end d)
+  pub able : Able (d .making) src (d .from) (d .to)
+
+abbrev pub AllReady : Drafts → List ℕ → Bool → Type 0
+AllReady Drafts.None src end = Unit {0}
+AllReady (Drafts.One d) src end = Ready src end d
+AllReady (Drafts.Two d e) src end = Ready src end d × Ready src end e
+
+abbrev pub PlanReady : Plan → List ℕ → Bool → Type 0
+PlanReady (Plan.Told w) src end = AllReady (w .drafts) src end
+PlanReady (Plan.Refused number place) src end = Unit {0}
+PlanReady Plan.Wait src end = Unit {0}
+
+pub record Plans (src : List ℕ) (end : Bool) (o : Outcome) (r : Plan) : Type 0 where
+  pub told : outcomeOf src end r ≡ o
+  pub ready : PlanReady r src end
+
+abbrev pub noLabel : Label
+noLabel = record { start = 0; len = 0 }
+
+abbrev pub copiedDraft : ℕ → ℕ → ℕ → ℕ → ℕ → Draft
+copiedDraft kind detail place from to =
+    record { kind = kind; detail = detail; place = place; making = Making.Copied; from = from; to = to; len = to - from }
+
+abbrev pub workPlan : Drafts → ℕ → Change → Plan
+workPlan drafts after change = Plan.Told (record { drafts = drafts; after = after; change = change; finished = false })
+
+abbrev pub goesPlan : ℕ → Change → Plan
+goesPlan after change = workPlan Drafts.None after change
+
+abbrev pub onePlan : Draft → ℕ → Change → Plan
+onePlan d after change = workPlan (Drafts.One d) after change
+
+abbrev pub partedPlan : Draft → Draft → ℕ → Change → Plan
+partedPlan part d after change = if eqb (part .len) 0 then onePlan d after change else workPlan (Drafts.Two part d) after change
+
+-- nothing is left of the text: this at the announced end, else wait
+abbrev pub endingPlan : Bool → Plan → Plan
+endingPlan end p = if end then p else Plan.Wait

@@ -1,0 +1,95 @@
+-- What a host's call gives (include/puretakoi.h): the numbers are read as a session, the call of crate lexer, walk or state is made,
+-- and its answer and session are written back as numbers.
+--   areLong               a session has its 199 numbers and an answer its 5; else 10, and nothing is written
+--   Crossed               the refusal or 0, and what the slices of session and answer hold, for a call with a turn
+--   Called                the same with list and pool, for the step and the readings
+--   Stepped, NumberRead, SingleRead, DoubleRead   these four: the numbers read, the call, the numbers written back
+--   WalkedOn              a walk behind a step that was done: the session is written back, refused or not
+--   walkSession, WalkCalled, Walked   the walk: where no step is taken, or the first is refused, the session stays
+--   freshRefusal, Begun   a fresh session
+--   Filed                 a record file or a list: the refusal or 0, and what the lent slice holds
+use Prim.Native.Nat.{ℕ}
+use mathlib.Core.Bool.{Bool, _&&_, not}
+use mathlib.Core.List.{List}
+use mathlib.Core.Path.{_≡_}
+use lib.Dec.{leb, eqb}
+use lib.ListN.{length}
+use Rattle.byte.specs.Words.{if_then_else_}
+use Rattle.byte.specs.Laid.{laid}
+use Rattle.byte.specs.Refusals.{outOfPlace, badSession}
+use Rattle.state.specs.declared.Turn.{Turn}
+use Rattle.state.specs.Calls.{freshSession}
+use Rattle.lexer.specs.Turns.{After}
+use Rattle.lexer.specs.Calls.{stepped, readNumber, readSingle, readDouble}
+use Rattle.demands.specs.Walks.{walked}
+use Rattle.layout.specs.Sessions.{readingIn, numbersOf, sessionIn}
+use Rattle.layout.specs.Answers.{answerNumbers, refusalIn, sessionAfter, Stored}
+
+-- whether the end is announced
+abbrev pub announced : ℕ → Bool
+announced end = not (eqb end 0)
+
+unfoldable pub areLong : ℕ → ℕ → Bool
+areLong session answer = leb 199 session && leb 5 answer
+
+pub record Crossed (t : Turn) (session answer : List ℕ) (r : ℕ) (session′ answer′ : List ℕ) : Type 0 where
+  pub number : r ≡ (if areLong (length session) (length answer) then refusalIn (t .answer) else outOfPlace)
+  pub holds : session′ ≡ (if areLong (length session) (length answer) then sessionAfter t session else session)
+  pub tells : answer′ ≡ (if areLong (length session) (length answer) then laid answer 0 (answerNumbers (t .answer)) else answer)
+
+pub record Called (a : After) (session list pool answer : List ℕ) (r : ℕ) (session′ list′ pool′ answer′ : List ℕ) : Type 0 where
+  pub turn : Crossed (a .turn) session answer r session′ answer′
+  pub records : list′ ≡ (if areLong (length session) (length answer) then a .list else list)
+  pub values : pool′ ≡ (if areLong (length session) (length answer) then a .pool else pool)
+
+abbrev pub Stepped : List ℕ → ℕ → List ℕ → List ℕ → List ℕ → List ℕ → ℕ → List ℕ → List ℕ → List ℕ → List ℕ → Type 0
+Stepped src end session list pool answer = Called (stepped src (announced end) (sessionIn session) list pool) session list pool answer
+
+abbrev pub NumberRead : List ℕ → ℕ → List ℕ → List ℕ → List ℕ → List ℕ → ℕ → List ℕ → List ℕ → List ℕ → List ℕ → Type 0
+NumberRead src end session list pool answer = Called (readNumber src (announced end) (sessionIn session) list pool) session list pool answer
+
+abbrev pub SingleRead : List ℕ → ℕ → List ℕ → List ℕ → List ℕ → List ℕ → ℕ → List ℕ → List ℕ → List ℕ → List ℕ → Type 0
+SingleRead src end session list pool answer = Called (readSingle src (announced end) (sessionIn session) list pool) session list pool answer
+
+abbrev pub DoubleRead : List ℕ → ℕ → List ℕ → List ℕ → List ℕ → List ℕ → ℕ → List ℕ → List ℕ → List ℕ → List ℕ → Type 0
+DoubleRead src end session list pool answer = Called (readDouble src (announced end) (sessionIn session) list pool) session list pool answer
+
+pub record WalkedOn (a : After) (session answer : List ℕ) (r : ℕ) (session′ list′ pool′ answer′ : List ℕ) : Type 0 where
+  pub turn : Stored (a .turn) session answer r session′ answer′
+  pub records : list′ ≡ a .list
+  pub values : pool′ ≡ a .pool
+
+-- the session's numbers after a walk: where no step is taken, or the first is refused, they stay as they were
+unfoldable pub walkSession : ℕ → Turn → Turn → List ℕ → List ℕ
+walkSession most first last session =
+    if eqb most 0 then session
+    else if eqb (refusalIn (first .answer)) 0 then laid session 0 (numbersOf (last .session))
+    else session
+
+-- of at most so many steps: what the first comes to, and what they all do
+pub record WalkCalled (most : ℕ) (first a : After) (session list pool answer : List ℕ) (r : ℕ) (session′ list′ pool′ answer′ : List ℕ) : Type 0 where
+  pub number : r ≡ (if areLong (length session) (length answer) then refusalIn (a .turn .answer) else outOfPlace)
+  pub holds : session′ ≡ (if areLong (length session) (length answer) then walkSession most (first .turn) (a .turn) session else session)
+  pub tells : answer′ ≡ (if areLong (length session) (length answer) then laid answer 0 (answerNumbers (a .turn .answer)) else answer)
+  pub records : list′ ≡ (if areLong (length session) (length answer) then a .list else list)
+  pub values : pool′ ≡ (if areLong (length session) (length answer) then a .pool else pool)
+
+abbrev pub Walked : List ℕ → ℕ → ℕ → List ℕ → List ℕ → List ℕ → List ℕ → ℕ → List ℕ → List ℕ → List ℕ → List ℕ → Type 0
+Walked src end most session list pool answer =
+    WalkCalled most (stepped src (announced end) (sessionIn session) list pool) (walked most src (announced end) (sessionIn session) list pool) session list pool answer
+
+-- 10 for a slice that is too short, 12 for a reading that is none, or 0
+unfoldable pub freshRefusal : ℕ → ℕ → ℕ
+freshRefusal session reading =
+    if leb 199 session then (if leb reading 1 then 0 else badSession) else outOfPlace
+
+pub record Begun (reading : ℕ) (session : List ℕ) (r : ℕ) (session′ : List ℕ) : Type 0 where
+  pub number : r ≡ freshRefusal (length session) reading
+  pub holds :
+      session′ ≡ (if eqb (freshRefusal (length session) reading) 0 then laid session 0 (numbersOf (freshSession (readingIn reading)))
+      else session)
+
+-- with refusal 0 the values stand at the start of what was lent, and else it is as it was
+pub record Filed (refusal : ℕ) (lent values : List ℕ) (r : ℕ) (after : List ℕ) : Type 0 where
+  pub number : r ≡ refusal
+  pub holds : after ≡ (if eqb refusal 0 then laid lent 0 values else lent)

@@ -1,0 +1,285 @@
+// Functions that a host in C or Rust calls; include/puretakoi.h tells each. A `&[u8]` crosses as a pointer and a length, a session and an
+// answer as lent numbers. Any numbers at all may come in: what can't be taken is refused by its number.
+// In order: the calls without a session; a fresh session; the step, the walk and the three readings; skip, push and pop; the record file.
+use source::Span;
+use state::Answer;
+use state::Session;
+ghost use mathlib.Core.Path.{_≡_};
+ghost use lib.ListN.{length};
+ghost use Prim.Native.Nat.{_/_, _≤_};
+ghost use Rattle.source.specs.Identifiers.{identifierAt};
+ghost use Rattle.state.specs.Calls.{skipped, pushed, popped};
+ghost use Rattle.demands.specs.Walks.{walked};
+ghost use Rattle.token.specs.Files.{fileOf, listOf, toFileRefusal, toListRefusal};
+ghost use Rattle.puretakoi.specs.Places.{isSmall, Past};
+ghost use Rattle.layout.specs.Sessions.{frameIn, sessionIn};
+ghost use Rattle.puretakoi.specs.Calls.{areLong, Crossed, Stepped, WalkedOn, Walked, NumberRead, SingleRead, DoubleRead, Begun, Filed};
+
+// How long the identifier at a place of the source is; 0 where there is none.
+#[no_mangle]
+pub extern "C" fn puretakoi_peek_identifier(src: &[u8], at: usize) -> usize
+    ensures { λ r. ⌜ r ≡ length (identifierAt (now (src .entry)) at) ⌝ }
+{
+    let part = source::peek_identifier(src, at);
+    part.len()
+}
+
+// Whether no number of a place is over 65,537.
+fn is_small(p: Span) -> bool
+    ensures { λ r. ⌜ r ≡ isSmall p ⌝ }
+{
+    (p.line <= 65537) & (p.column <= 65537) & (p.position <= 65537)
+}
+
+// The cursor past all bytes of a part: line, column and position stand in three lent numbers and are changed there.
+// Refused: a part over 65,536 bytes (11), no three numbers (10), a number over 65,537 (12). The answer is the refusal, or 0.
+#[no_mangle]
+pub extern "C" fn puretakoi_past(part: &[u8], span: &mut [u32]) -> u32
+    ensures { λ r. ⌜ Past (now (part .entry)) (now (span .entry)) r (now (span .exit)) ⌝ }
+{
+    if 65536 < part.len() {
+        return byte::TOO_LARGE;
+    }
+    if span.len() != 3 {
+        return byte::OUT_OF_PLACE;
+    }
+    let from = Span {
+        line: span[0],
+        column: span[1],
+        position: span[2],
+    };
+    if !is_small(from) {
+        return byte::BAD_SESSION;
+    }
+    let to = source::past(part, from);
+    span[0] = to.line;
+    span[1] = to.column;
+    span[2] = to.position;
+    0
+}
+
+// Whether a session and an answer have their numbers.
+fn are_long(session: usize, answer: usize) -> bool
+    ensures { λ r. ⌜ r ≡ areLong session answer ⌝ }
+{
+    (199 <= session) & (5 <= answer)
+}
+
+// A session before its script, with the reading of nowdoc blocks.
+#[no_mangle]
+pub extern "C" fn puretakoi_fresh(reading: u32, session: &mut [u32]) -> u32
+    ensures { λ r. ⌜ Begun reading (now (session .entry)) r (now (session .exit)) ⌝ }
+{
+    if session.len() < 199 {
+        return byte::OUT_OF_PLACE;
+    }
+    if 1 < reading {
+        return byte::BAD_SESSION;
+    }
+    layout::put_session(session, state::fresh(layout::reading_in(reading)));
+    0
+}
+
+// One step: the routine of the top frame reads on from the cursor.
+#[no_mangle]
+pub extern "C" fn puretakoi_step(
+    src: &[u8],
+    end: u32,
+    session: &mut [u32],
+    list: &mut [u32],
+    pool: &mut [u8],
+    answer: &mut [u32],
+) -> u32
+    ensures { λ r. ⌜ Stepped (now (src .entry)) end (now (session .entry)) (now (list .entry)) (now (pool .entry)) (now (answer .entry)) r (now (session .exit)) (now (list .exit)) (now (pool .exit)) (now (answer .exit)) ⌝ }
+{
+    if !are_long(session.len(), answer.len()) {
+        return byte::OUT_OF_PLACE;
+    }
+    let s = layout::session_in(session);
+    let t = lexer::step(src, end != 0, s, list, pool);
+    layout::put_turn(t, session, answer)
+}
+
+// A walk on from a session, behind a step that was done: what it comes to is written back, refused or not.
+fn walk_on(
+    src: &[u8],
+    end: bool,
+    most: u32,
+    s: Session,
+    session: &mut [u32],
+    list: &mut [u32],
+    pool: &mut [u8],
+    answer: &mut [u32],
+) -> u32
+    requires { ⌜ (199 ≤ length (now session)) × (5 ≤ length (now answer)) ⌝ }
+    ensures { λ r. ⌜ WalkedOn (walked most (now (src .entry)) end s (now (list .entry)) (now (pool .entry))) (now (session .entry)) (now (answer .entry)) r (now (session .exit)) (now (list .exit)) (now (pool .exit)) (now (answer .exit)) ⌝ }
+{
+    let t = walk::walk(src, end, most, s, list, pool);
+    layout::put_walk(t, session, answer)
+}
+
+// At most `most` steps, up to one that is not done. Where there is none, or the first is refused, the session stays as it was.
+#[no_mangle]
+pub extern "C" fn puretakoi_walk(
+    src: &[u8],
+    end: u32,
+    most: u32,
+    session: &mut [u32],
+    list: &mut [u32],
+    pool: &mut [u8],
+    answer: &mut [u32],
+) -> u32
+    ensures { λ r. ⌜ Walked (now (src .entry)) end most (now (session .entry)) (now (list .entry)) (now (pool .entry)) (now (answer .entry)) r (now (session .exit)) (now (list .exit)) (now (pool .exit)) (now (answer .exit)) ⌝ }
+{
+    if !are_long(session.len(), answer.len()) {
+        return byte::OUT_OF_PLACE;
+    }
+    if most == 0 {
+        layout::put_answer(answer, Answer::Done);
+        return 0;
+    }
+    let s = layout::session_in(session);
+    let first = lexer::step(src, end != 0, s, list, pool);
+    let a = first.answer;
+    match a {
+        Answer::Done => walk_on(
+            src,
+            end != 0,
+            most - 1,
+            first.session,
+            session,
+            list,
+            pool,
+            answer,
+        ),
+        Answer::Finished => layout::put_turn(first, session, answer),
+        Answer::Refused { number: _, span: _ } => layout::put_turn(first, session, answer),
+    }
+}
+
+// The number at the cursor.
+#[no_mangle]
+pub extern "C" fn puretakoi_read_number(
+    src: &[u8],
+    end: u32,
+    session: &mut [u32],
+    list: &mut [u32],
+    pool: &mut [u8],
+    answer: &mut [u32],
+) -> u32
+    ensures { λ r. ⌜ NumberRead (now (src .entry)) end (now (session .entry)) (now (list .entry)) (now (pool .entry)) (now (answer .entry)) r (now (session .exit)) (now (list .exit)) (now (pool .exit)) (now (answer .exit)) ⌝ }
+{
+    if !are_long(session.len(), answer.len()) {
+        return byte::OUT_OF_PLACE;
+    }
+    let s = layout::session_in(session);
+    let t = lexer::read_number(src, end != 0, s, list, pool);
+    layout::put_turn(t, session, answer)
+}
+
+// The single-quoted string whose text starts at the cursor.
+#[no_mangle]
+pub extern "C" fn puretakoi_read_single(
+    src: &[u8],
+    end: u32,
+    session: &mut [u32],
+    list: &mut [u32],
+    pool: &mut [u8],
+    answer: &mut [u32],
+) -> u32
+    ensures { λ r. ⌜ SingleRead (now (src .entry)) end (now (session .entry)) (now (list .entry)) (now (pool .entry)) (now (answer .entry)) r (now (session .exit)) (now (list .exit)) (now (pool .exit)) (now (answer .exit)) ⌝ }
+{
+    if !are_long(session.len(), answer.len()) {
+        return byte::OUT_OF_PLACE;
+    }
+    let s = layout::session_in(session);
+    let t = lexer::read_single(src, end != 0, s, list, pool);
+    layout::put_turn(t, session, answer)
+}
+
+// The double-quoted string whose text starts at the cursor.
+#[no_mangle]
+pub extern "C" fn puretakoi_read_double(
+    src: &[u8],
+    end: u32,
+    session: &mut [u32],
+    list: &mut [u32],
+    pool: &mut [u8],
+    answer: &mut [u32],
+) -> u32
+    ensures { λ r. ⌜ DoubleRead (now (src .entry)) end (now (session .entry)) (now (list .entry)) (now (pool .entry)) (now (answer .entry)) r (now (session .exit)) (now (list .exit)) (now (pool .exit)) (now (answer .exit)) ⌝ }
+{
+    if !are_long(session.len(), answer.len()) {
+        return byte::OUT_OF_PLACE;
+    }
+    let s = layout::session_in(session);
+    let t = lexer::read_double(src, end != 0, s, list, pool);
+    layout::put_turn(t, session, answer)
+}
+
+// The cursor goes on by `count` bytes.
+#[no_mangle]
+pub extern "C" fn puretakoi_skip(
+    src: &[u8],
+    count: usize,
+    session: &mut [u32],
+    answer: &mut [u32],
+) -> u32
+    ensures { λ r. ⌜ Crossed (skipped (now (src .entry)) (sessionIn (now (session .entry))) count) (now (session .entry)) (now (answer .entry)) r (now (session .exit)) (now (answer .exit)) ⌝ }
+{
+    if !are_long(session.len(), answer.len()) {
+        return byte::OUT_OF_PLACE;
+    }
+    let s = layout::session_in(session);
+    let t = state::skip(src, s, count);
+    layout::put_turn(t, session, answer)
+}
+
+// One frame more: its number, and its label's start and length.
+#[no_mangle]
+pub extern "C" fn puretakoi_push(
+    src: &[u8],
+    frame: u32,
+    start: u32,
+    len: u32,
+    session: &mut [u32],
+    answer: &mut [u32],
+) -> u32
+    ensures { λ r. ⌜ Crossed (pushed (now (src .entry)) (sessionIn (now (session .entry))) (frameIn frame start len)) (now (session .entry)) (now (answer .entry)) r (now (session .exit)) (now (answer .exit)) ⌝ }
+{
+    if !are_long(session.len(), answer.len()) {
+        return byte::OUT_OF_PLACE;
+    }
+    let s = layout::session_in(session);
+    let t = state::push(src, s, layout::frame_in(frame, start, len));
+    layout::put_turn(t, session, answer)
+}
+
+// One frame less.
+#[no_mangle]
+pub extern "C" fn puretakoi_pop(src: &[u8], session: &mut [u32], answer: &mut [u32]) -> u32
+    ensures { λ r. ⌜ Crossed (popped (now (src .entry)) (sessionIn (now (session .entry)))) (now (session .entry)) (now (answer .entry)) r (now (session .exit)) (now (answer .exit)) ⌝ }
+{
+    if !are_long(session.len(), answer.len()) {
+        return byte::OUT_OF_PLACE;
+    }
+    let s = layout::session_in(session);
+    let t = state::pop(src, s);
+    layout::put_turn(t, session, answer)
+}
+
+// All records of a list as a file: 32 bytes a record, little-endian, no header.
+#[no_mangle]
+pub extern "C" fn puretakoi_list_to_file(list: &[u32], file: &mut [u8]) -> u32
+    ensures { λ r. ⌜ Filed (toFileRefusal (length (now (list .entry))) (length (now (file .entry)))) (now (file .entry)) (fileOf (now (list .entry))) r (now (file .exit)) ⌝ }
+{
+    layout::refusal_in(token::list_to_file(list, file))
+}
+
+// All records of a file as a list.
+#[no_mangle]
+pub extern "C" fn puretakoi_file_to_list(file: &[u8], list: &mut [u32]) -> u32
+    ensures { λ r. ⌜ Filed (toListRefusal (length (now (file .entry))) (length (now (list .entry)))) (now (list .entry)) (listOf (length (now (file .entry)) / 4) (now (file .entry))) r (now (list .exit)) ⌝ }
+{
+    layout::refusal_in(token::file_to_list(file, list))
+}

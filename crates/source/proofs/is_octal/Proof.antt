@@ -1,9 +1,0 @@
--- `source::is_octal` meets its contract: the code is the definition. Assumes nothing.
-use mathlib.Core.Path.{refl}
-use Rattle.source.specs.Bytes.{isOctal}
-use Rattle.source.proofs.is_octal.Statement.{statement}
-use Rattle.source.proofs.is_octal.Tie as tie
-
-pub is-octal-spec : {M : Type 1} → statement M
-unfolding isOctal
-is-octal-spec = tie.close (tie.spec (λ c. refl))

@@ -1,0 +1,47 @@
+-- What the code asks and tells of places in a source.
+--   RunEnd, IdentifierEnd   where a run of bytes of one class ends, and where the identifier does
+--   Passing                 a place on the way to a run's end
+--   Reaches                 the cursor's numbers stay numbers of 32 bits over so many bytes
+--   breaks, Unbroken, LineStart   how many LFs a list has, from where on it has none, and the place after its last
+use Prim.Native.Nat.{ℕ, suc, _+_, _-_, _<_, _≤_}
+use mathlib.Core.Bool.{Bool, true}
+use mathlib.Core.List.{List, [], _∷_}
+use mathlib.Core.Path.{_≡_}
+use lib.ListN.{length, getD, drop}
+use Rattle.byte.specs.Words.{if_then_else_, _is_, run, every}
+use Rattle.byte.specs.Bytes.{isNoBreak}
+use Rattle.source.specs.declared.Span.{Span}
+use Rattle.source.specs.Identifiers.{identifierLength}
+
+-- r is where the run of bytes that pass the test, from `at` on, ends
+pub record RunEnd (test : ℕ → Bool) (src : List ℕ) (at r : ℕ) : Type 0 where
+  pub place : r ≡ at + run test (drop at src)
+  pub inside : r ≤ length src
+
+-- the run from `at` on ends where the run from i on does
+pub record Passing (test : ℕ → Bool) (src : List ℕ) (at i : ℕ) : Type 0 where
+  pub inside : i ≤ length src
+  pub same : at + run test (drop at src) ≡ i + run test (drop i src)
+
+pub record IdentifierEnd (src : List ℕ) (at r : ℕ) : Type 0 where
+  pub place : r ≡ at + identifierLength (drop at src)
+  pub inside : r ≤ length src
+
+pub record Reaches (p : Span) (n : ℕ) : Type 0 where
+  pub line : p .line + n < 4294967296
+  pub column : p .column + n < 4294967296
+  pub position : p .position + n < 4294967296
+
+unfoldable pub breaks : List ℕ → ℕ
+breaks [] = 0
+breaks (b ∷ rest) = if b is "\n" then suc (breaks rest) else breaks rest
+
+-- from i on stands no LF
+pub record Unbroken (part : List ℕ) (i : ℕ) : Type 0 where
+  pub inside : i ≤ length part
+  pub clear : every isNoBreak (drop i part) ≡ true
+
+-- r is where a part's last line starts: behind its last LF, or at 0 where it has none
+pub record LineStart (part : List ℕ) (r : ℕ) : Type 0 where
+  pub last : Unbroken part r
+  pub behind : 0 < r → getD part (r - 1) 0 ≡ 10

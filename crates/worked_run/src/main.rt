@@ -1,0 +1,320 @@
+// Runs every worked sheet of document 01, starred or not, and of requests P1 and P2 through step or a reading, and prints what came
+// of it: a line a text. A line is the letter, then each token (kind, line, column, position, detail, length, and the value's bytes in
+// hexadecimal), then `end` or `finished` and the position, or `refused`, the number and its line, column and position.
+// A line of sheets x and y has marks in place of that, for 32 bytes from the one named on, as each follows a label: c where the block
+// closes, r where the label begins a row, w where the step waits.
+use libc::STDOUT_FILENO;
+use source::Span;
+use state::Answer;
+use state::Frame;
+use state::Label;
+use state::Reading;
+use state::Session;
+use state::Slot;
+use state::Turn;
+
+// A space and a number.
+fn print_number(n: u32) {
+    io::write_all(STDOUT_FILENO, b" ");
+    io::print_decimal(STDOUT_FILENO, n as u64);
+}
+
+// One byte, as two digits.
+fn print_byte(b: u8) {
+    io::print_hex(STDOUT_FILENO, b as u64, 2);
+}
+
+// The bytes of a value.
+fn print_bytes(value: &[u8]) {
+    let mut i = 0;
+    while i < value.len() {
+        print_byte(value[i]);
+        i += 1;
+    }
+}
+
+// A value in brackets: `len` bytes of the pool from `start` on.
+fn print_value(pool: &[u8], start: u32, len: u32) {
+    let start = start as usize;
+    let len = len as usize;
+    if pool.len() < start {
+        return;
+    }
+    if pool.len() - start < len {
+        return;
+    }
+    let to = start + len;
+    io::write_all(STDOUT_FILENO, b" (");
+    print_bytes(&pool[start..to]);
+    io::write_all(STDOUT_FILENO, b");");
+}
+
+// The token at a place of the list.
+fn print_token(list: &[u32], place: u32, pool: &[u8]) {
+    let at = place as usize * 8;
+    if list.len() < at + 8 {
+        return;
+    }
+    print_number(list[at]);
+    print_number(list[at + 2]);
+    print_number(list[at + 3]);
+    print_number(list[at + 4]);
+    print_number(list[at + 1]);
+    print_number(list[at + 6]);
+    print_value(pool, list[at + 5], list[at + 6]);
+}
+
+// The first `count` tokens of the list.
+fn print_tokens(list: &[u32], count: u32, pool: &[u8]) {
+    let mut place = 0;
+    while place < count {
+        print_token(list, place, pool);
+        place += 1;
+    }
+}
+
+// A refusal's number and its span.
+fn print_refusal(number: u32, span: Span) {
+    io::write_all(STDOUT_FILENO, b" refused");
+    print_number(number);
+    print_number(span.line);
+    print_number(span.column);
+    print_number(span.position);
+}
+
+// The answer, and the position after it where the call was done.
+fn print_answer(answer: Answer, position: u32) {
+    match answer {
+        Answer::Done => {
+            io::write_all(STDOUT_FILENO, b" end");
+            print_number(position);
+        }
+        Answer::Finished => {
+            io::write_all(STDOUT_FILENO, b" finished");
+            print_number(position);
+        }
+        Answer::Refused { number, span } => print_refusal(number, span),
+    }
+}
+
+// The line of a text: its sheet's letter, the tokens written, and the answer.
+fn print_turn(letter: u8, t: Turn, list: &[u32], pool: &[u8]) {
+    let answer = t.answer;
+    let s = t.session;
+    let name = [letter, b':'];
+    io::write_all(STDOUT_FILENO, &name);
+    print_tokens(list, s.tokens, pool);
+    print_answer(answer, s.position);
+    io::write_all(STDOUT_FILENO, b"\n");
+}
+
+// A session at the beginning with this frame.
+fn standing(f: Frame, nowdocs: Reading) -> Session {
+    let mut s = state::fresh(nowdocs);
+    s.frames[0] = Slot { frame: f };
+    s
+}
+
+// A step over a text, with room for three tokens and thirty-two value bytes.
+fn step(letter: u8, f: Frame, nowdocs: Reading, src: &[u8], end: bool) {
+    let mut list = [0u32; 24];
+    let mut pool = [0u8; 32];
+    let t = lexer::step(src, end, standing(f, nowdocs), &mut list, &mut pool);
+    print_turn(letter, t, &list, &pool);
+}
+
+// The number at a text's beginning.
+fn number(letter: u8, src: &[u8], end: bool) {
+    let mut list = [0u32; 24];
+    let mut pool = [0u8; 32];
+    let s = standing(Frame::Scripting, Reading::Ported);
+    let t = lexer::read_number(src, end, s, &mut list, &mut pool);
+    print_turn(letter, t, &list, &pool);
+}
+
+// The single-quoted string that a text is the rest of.
+fn single(letter: u8, src: &[u8]) {
+    let mut list = [0u32; 24];
+    let mut pool = [0u8; 32];
+    let s = standing(Frame::Scripting, Reading::Ported);
+    let t = lexer::read_single(src, true, s, &mut list, &mut pool);
+    print_turn(letter, t, &list, &pool);
+}
+
+// The double-quoted string that a text is the rest of.
+fn double(letter: u8, src: &[u8]) {
+    let mut list = [0u32; 24];
+    let mut pool = [0u8; 32];
+    let s = standing(Frame::Scripting, Reading::Ported);
+    let t = lexer::read_double(src, true, s, &mut list, &mut pool);
+    print_turn(letter, t, &list, &pool);
+}
+
+// Sheets a to c: the mode Initial.
+fn initial_sheets() {
+    step(b'a', Frame::Initial, Reading::Ported, b"", true);
+    step(b'b', Frame::Initial, Reading::Ported, b"a<?PHPx", true);
+    step(b'c', Frame::Initial, Reading::Ported, b"<?p", false);
+    step(b'c', Frame::Initial, Reading::Ported, b"<?px", false);
+}
+
+// Sheets d to h: quoted strings.
+fn quoted_sheets() {
+    single(b'd', b"a\\'b\\n'");
+    double(b'e', b"\\377\"");
+    double(b'f', b"\\400\"");
+    double(b'g', b"\\u{20AC}\"");
+    double(b'h', b"\\u{}\"");
+    double(b'h', b"\\u{110000}\"");
+}
+
+// Sheets i to k: numbers.
+fn number_sheets() {
+    number(b'i', b"1__0", true);
+    number(b'i', b"0x", true);
+    number(b'j', b"1E5", true);
+    number(b'j', b"1.5e+x", true);
+    number(b'k', b"1e", false);
+    number(b'k', b"1e+x", false);
+}
+
+// A nowdoc block whose label EOT starts at this place of the text.
+fn nowdoc(start: u16) -> Frame {
+    Frame::Nowdoc(Label { start, len: 3 })
+}
+
+// Sheets l to p: text blocks, the last two as sheets.
+fn block_sheets() {
+    let x = Label { start: 3, len: 1 };
+    step(b'l', nowdoc(4), Reading::Ported, b"a\n  EOTX", true);
+    step(b'm', nowdoc(4), Reading::Ported, b"a\n \tEOT", true);
+    step(b'n', Frame::Heredoc(x), Reading::Ported, b"a\n$x;", true);
+    step(
+        b'o',
+        nowdoc(13),
+        Reading::Sheet,
+        b"  ab\n   c\n\n  EOT",
+        true,
+    );
+    step(b'p', nowdoc(5), Reading::Sheet, b" a\n  EOT", true);
+}
+
+// Sheets q to w: a street whose name begins with the label, and the label at the end of a script and of a part. The last is ported.
+fn caption_sheets() {
+    let street = b"ab\nEOTstrasse\nc\nEOT;";
+    step(b'q', nowdoc(16), Reading::Sheet, street, true);
+    step(b'r', nowdoc(11), Reading::Sheet, b"EOTstrasse\nEOT", true);
+    step(b's', nowdoc(2), Reading::Sheet, b"a\nEOT", true);
+    step(b't', nowdoc(2), Reading::Sheet, b"a\nEOT", false);
+    step(b't', nowdoc(2), Reading::Sheet, b"a\nEOT;", false);
+    step(b't', nowdoc(2), Reading::Sheet, b"a\nEOTs", false);
+    step(b'u', nowdoc(13), Reading::Sheet, b"EOTstrasse\n  EOT", true);
+    step(
+        b'v',
+        nowdoc(13),
+        Reading::Sheet,
+        b" \tEOTstrasse\nEOT",
+        true,
+    );
+    step(b'w', nowdoc(16), Reading::Ported, street, true);
+}
+
+// The mark of an answer to a text that ends behind the label and one byte.
+fn mark_of(answer: Answer) -> u8 {
+    match answer {
+        Answer::Done => b'c',
+        Answer::Finished => b'?',
+        Answer::Refused { number, span } => {
+            if number == byte::WAIT {
+                return b'w';
+            }
+            if number == byte::UNEXPECTED_END_OF_FILE {
+                return b'r';
+            }
+            b'?'
+        }
+    }
+}
+
+// The mark of a byte behind the label.
+fn print_mark(b: u8, end: bool) {
+    let src = [b'a', b'\n', b'E', b'O', b'T', b];
+    let mut list = [0u32; 24];
+    let mut pool = [0u8; 32];
+    let s = standing(nowdoc(2), Reading::Sheet);
+    let t = lexer::step(&src, end, s, &mut list, &mut pool);
+    let answer = t.answer;
+    let mark = [mark_of(answer)];
+    io::write_all(STDOUT_FILENO, &mark);
+}
+
+// The beginning of a line of marks: the letter, and the first byte.
+fn print_first(letter: u8, b: u8) {
+    let name = [letter, b':', b' '];
+    io::write_all(STDOUT_FILENO, &name);
+    print_byte(b);
+    io::write_all(STDOUT_FILENO, b" ");
+}
+
+// Sheet x with the end announced, y with more: a row, and the label with each byte behind it.
+fn behind_label(letter: u8, end: bool) {
+    let mut n: u32 = 0;
+    while n < 256 {
+        if n & 31 == 0 {
+            print_first(letter, n as u8);
+        }
+        print_mark(n as u8, end);
+        if n & 31 == 31 {
+            io::write_all(STDOUT_FILENO, b"\n");
+        }
+        n += 1;
+    }
+}
+
+// A step over a script's text.
+fn script(letter: u8, src: &[u8], end: bool) {
+    step(letter, Frame::Scripting, Reading::Ported, src, end);
+}
+
+// Sheets z and A to D: how comments begin and end.
+fn comment_sheets() {
+    script(b'z', b"#\n", true);
+    script(b'z', b"//a\nb", true);
+    script(b'z', b"#a?>", true);
+    script(b'A', b"#[a", true);
+    script(b'B', b"/*", true);
+    script(b'B', b"/*/", true);
+    script(b'B', b"/*/*/", true);
+    script(b'C', b"/*it's\n*/'", true);
+    script(b'D', b"#\r", true);
+    script(b'D', b"//a\r\n", true);
+}
+
+// Sheets E to G: what waits where more is announced, what is settled, and a script that ends in a comment.
+fn part_sheets() {
+    script(b'E', b"/", false);
+    script(b'E', b"#", false);
+    script(b'E', b"//a", false);
+    script(b'E', b"//a?", false);
+    script(b'E', b"/*a*", false);
+    script(b'F', b"/x", false);
+    script(b'F', b"#[", false);
+    script(b'F', b"//a\n", false);
+    script(b'F', b"#?>", false);
+    script(b'F', b"/*?>*/", false);
+    script(b'G', b"//a", true);
+    script(b'G', b"#", true);
+}
+
+// Every sheet, in the order of document 01, then those of the requests.
+fn main() {
+    initial_sheets();
+    quoted_sheets();
+    number_sheets();
+    block_sheets();
+    caption_sheets();
+    behind_label(b'x', true);
+    behind_label(b'y', false);
+    comment_sheets();
+    part_sheets();
+}
