@@ -46,13 +46,18 @@ extern "C" {
 #define PURETAKOI_DEPTH 3     /* frames on the mode stack, 1 to 64 */
 #define PURETAKOI_TOKENS 4    /* the list's fill mark: records that are in it */
 #define PURETAKOI_BYTES 5     /* the pool's fill mark: bytes that are in it */
-#define PURETAKOI_READING 6   /* how nowdoc blocks are read: a choice below */
+#define PURETAKOI_CHOICES 6   /* what its owner chose: flags below, added up; another bit is no session's */
 #define PURETAKOI_SLOTS 7     /* the first of 64 slots, the bottom frame's */
 #define PURETAKOI_SLOT 3      /* numbers of a slot: frame, label start, label length (0, 0 for a frame without a label) */
 
-#define PURETAKOI_READING_PORTED 0 /* as the lexer that was carried over reads them */
-#define PURETAKOI_READING_SHEET 1  /* as a sheet: the closing line's indentation comes off each row, and no letter, digit, _ or byte */
-                                   /* from 0x80 on stands behind a closing label; with more announced a part that ends in one waits */
+#define PURETAKOI_CHOICE_SHEETS 1 /* nowdoc blocks are read as sheets: the closing line's indentation comes off each row, and no */
+                                  /* letter, digit, _ or byte from 0x80 on stands behind a closing label; with more announced a */
+                                  /* part that ends in one waits. Else they are read as the lexer that was carried over does */
+
+/* Other names of these numbers, which older hosts use. */
+#define PURETAKOI_READING PURETAKOI_CHOICES
+#define PURETAKOI_READING_PORTED 0
+#define PURETAKOI_READING_SHEET PURETAKOI_CHOICE_SHEETS
 
 #define PURETAKOI_FRAME_INITIAL 0              /* inline text up to a tag */
 #define PURETAKOI_FRAME_SCRIPTING 1            /* the script */
@@ -153,8 +158,8 @@ extern "C" {
  * then alone, but for `puretakoi_walk`. A session of fewer than 199 numbers or an answer of fewer than 5 is refused first, with 10,
  * and nothing is written, the answer neither: look at the number given back. `puretakoi_fresh` has no answer. */
 
-/* A session before its script, with the reading of nowdoc blocks. Refused: fewer than 199 numbers (10), no such reading (12). */
-uint32_t puretakoi_fresh(uint32_t reading, uint32_t *session, size_t session_len);
+/* A session before its script, with its choices: 0, or flags added up. Refused: fewer than 199 numbers (10), a bit that is no flag (12). */
+uint32_t puretakoi_fresh(uint32_t choices, uint32_t *session, size_t session_len);
 
 /* One step from the cursor on. `end` is 0 where more of the script may come; any other number announces the end. New records and value
  * bytes stand behind the marks: at most two records, and no more value bytes than the step passes, so that 16 numbers and a pool as long

@@ -129,7 +129,7 @@ static enum state walk_so_far(struct host *host, bool end) {
 /* Reads a piece, walks, shows the rows, and so on; the program's status. */
 static int read_script(struct host *host, FILE *in, const struct request *request) {
     enum state state = WAITING;
-    puretakoi_fresh(PURETAKOI_READING_PORTED, host->session, PURETAKOI_SESSION);
+    puretakoi_fresh(0, host->session, PURETAKOI_SESSION);
     while (state == WAITING) {
         size_t room = sizeof host->script - host->filled;
         size_t asked = request->piece < room ? request->piece : room;

@@ -17,7 +17,7 @@ static void print_token(const uint32_t *record) {
 
 int main(void) {
     size_t length = fread(script, 1, sizeof script, stdin);
-    puretakoi_fresh(PURETAKOI_READING_SHEET, session, PURETAKOI_SESSION);
+    puretakoi_fresh(PURETAKOI_CHOICE_SHEETS, session, PURETAKOI_SESSION);
     uint32_t refusal = puretakoi_walk(script, length, 1, UINT32_MAX, session, PURETAKOI_SESSION, list,
                                       64 * PURETAKOI_RECORD, pool, sizeof pool, answer, PURETAKOI_ANSWER);
     for (uint32_t at = 0; at < session[PURETAKOI_TOKENS]; at++)

@@ -14,6 +14,7 @@ const MANY: u64 = 3;
 /// What is measured, by the words that `bench run` takes.
 pub const WALK: &str = "walk";
 pub const STEPS: &str = "steps";
+pub const SHEET: &str = "sheet";
 pub const RUST: &str = "rust";
 
 /// Whether valgrind can be called here.

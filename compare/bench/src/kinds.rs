@@ -17,13 +17,17 @@ pub const KINDS: [Kind; 9] = [
     Kind { name: "single quotes", opening: PHP, put: single_quotes },
     Kind { name: "double quotes with escapes", opening: PHP, put: double_quotes },
     Kind { name: "heredoc with variables", opening: PHP, put: heredoc },
-    Kind { name: "nowdoc", opening: PHP, put: nowdoc },
+    Kind { name: NOWDOC, opening: PHP, put: nowdoc },
     Kind { name: "numbers", opening: PHP, put: numbers },
     Kind { name: "identifiers and punctuation", opening: PHP, put: identifiers },
     Kind { name: "comments", opening: PHP, put: comments },
 ];
 
 const PHP: &str = "<?php\n";
+
+/// The kind whose blocks are read as sheets too, and the blanks before each of its rows and its closing lines.
+pub const NOWDOC: &str = "nowdoc";
+pub const INDENTATION: usize = 4;
 
 /// A text and a comment that are as long as their script.
 pub const ONE_BLOCK: &str = "one nowdoc block";
@@ -154,12 +158,14 @@ fn heredoc(random: &mut Random, out: &mut String) {
 }
 
 fn nowdoc(random: &mut Random, out: &mut String) {
+    let blanks = " ".repeat(INDENTATION);
     out.push_str("<<<'RELIEF'\n");
     for _ in 0..4 + random.below(8) {
-        out.push_str("    ");
+        out.push_str(&blanks);
         row(random, out);
     }
-    out.push_str("    RELIEF,\n");
+    out.push_str(&blanks);
+    out.push_str("RELIEF,\n");
 }
 
 /// A row of relief.

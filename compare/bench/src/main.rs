@@ -1,5 +1,5 @@
 //! The proved library beside the Rust, in time and instructions: `bench`, `bench short`, `bench stack`,
-//! `bench run walk|steps|rust NAME TIMES`.
+//! `bench run walk|steps|sheet|rust NAME TIMES`.
 
 mod instructions;
 mod kinds;
@@ -10,9 +10,9 @@ mod times;
 
 use std::process::exit;
 
-use instructions::{RUST, STEPS, WALK};
-use kinds::{script, script_named, KINDS, ONE_BLOCK, ONE_COMMENT};
-use sides::{hold, Reader, Way, MOST_BYTES};
+use instructions::{RUST, SHEET, STEPS, WALK};
+use kinds::{script, script_named, INDENTATION, KINDS, NOWDOC, ONE_BLOCK, ONE_COMMENT};
+use sides::{hold, hold_sheets, Reader, Way, MOST_BYTES};
 
 /// What a streamed script grows by.
 const PIECE: usize = 4_096;
@@ -34,22 +34,29 @@ fn main() {
 }
 
 fn usage() -> ! {
-    eprintln!("bench | bench short | bench stack | bench run walk|steps|rust NAME TIMES");
+    eprintln!("bench | bench short | bench stack | bench run walk|steps|sheet|rust NAME TIMES");
     exit(2)
 }
 
-/// Sees to it that both sides read the same in every script that is measured.
+/// The sheet reading of nowdoc blocks may take so many times the instructions of the ported one.
+const MOST_OF_A_SHEET: f64 = 2.0;
+
+/// Sees to it that both sides read the same in every script that is measured, and our two readings of nowdoc blocks the same rows.
 fn hold_all() -> Result<(), String> {
     let mut reader = Reader::new();
     for kind in &KINDS {
         let told = |wrong| format!("{}: {}", kind.name, wrong);
         hold(&mut reader, &script(kind, MOST_BYTES), PIECE).map_err(told)?;
+        if kind.name == NOWDOC {
+            hold_sheets(&script(kind, MOST_BYTES), INDENTATION)?;
+        }
     }
     hold(&mut reader, &kinds::one_block(MOST_BYTES), PIECE)?;
     hold(&mut reader, &kinds::one_comment(MOST_BYTES), PIECE)
 }
 
-/// A test for each kind: the walk takes no more instructions a byte than the Rust. And one for a long comment, beside nowdoc text.
+/// A test for each kind: the walk takes no more instructions a byte than the Rust. One for a long comment, beside nowdoc text; and one
+/// for sheets, which the Rust does not read, beside the ported reading of the same blocks.
 fn short() -> Result<(), String> {
     for kind in &KINDS {
         let (ours, rust) = (instructions::a_byte(WALK, kind.name)?, instructions::a_byte(RUST, kind.name)?);
@@ -64,6 +71,16 @@ fn short() -> Result<(), String> {
         return Err(said);
     }
     println!("ok bench: {}", said);
+    short_sheet()
+}
+
+fn short_sheet() -> Result<(), String> {
+    let (sheet, ported) = (instructions::a_byte(SHEET, NOWDOC)?, instructions::a_byte(WALK, NOWDOC)?);
+    let said = format!("{} ({:.1} instructions a byte, {} as ported {:.1})", SHEET, sheet, NOWDOC, ported);
+    if sheet > MOST_OF_A_SHEET * ported {
+        return Err(said);
+    }
+    println!("ok bench: {}", said);
     Ok(())
 }
 
@@ -73,10 +90,10 @@ fn run(side: &str, name: &str, times: &str) -> Result<(), String> {
         (Some(script), Ok(times)) => (script, times),
         _ => usage(),
     };
-    let mut reader = Reader::new();
+    let mut reader = if side == SHEET { Reader::of_sheets() } else { Reader::new() };
     for _ in 0..times {
         match side {
-            WALK => drop(reader.read(Way::Walk, &script, script.len())?),
+            WALK | SHEET => drop(reader.read(Way::Walk, &script, script.len())?),
             STEPS => drop(reader.read(Way::Steps, &script, script.len())?),
             RUST => std::mem::forget(oracle::tokenize(&script)),
             _ => usage(),

@@ -10,12 +10,16 @@ const PLACES: usize = 4_096;
 /// Bytes of the pool, and of the longest script: values have no more bytes than the steps pass, so the pool is never too small.
 pub const MOST_BYTES: usize = 65_536;
 
-/// The ported reading, a finished answer, and the refusals that ask for more of the script and for an empty list
-/// (include/puretakoi.h).
+/// The two readings of nowdoc blocks, a finished answer, and the refusals that ask for more of the script and for an
+/// empty list (include/puretakoi.h).
 const PORTED: u32 = 0;
+const SHEET: u32 = 1;
 const FINISHED: u32 = 1;
 const WAIT: u32 = 6;
 const LIST_FULL: u32 = 7;
+
+/// The kind of a text's part.
+const STRING_PART: u32 = 5;
 
 /// How a script is read: in as few calls as there can be, or a call for each step.
 #[derive(Clone, Copy)]
@@ -26,6 +30,7 @@ pub enum Way {
 
 /// Our side: a session and tables, which are used for every script and never cleared.
 pub struct Reader {
+    reading: u32,
     session: Vec<u32>,
     list: Vec<u32>,
     pool: Vec<u8>,
@@ -42,7 +47,12 @@ pub struct Count {
 impl Reader {
     pub fn new() -> Reader {
         let (list, pool) = (vec![0; PLACES * RECORD], vec![0; MOST_BYTES]);
-        Reader { session: vec![0; SESSION], list, pool, answer: vec![0; ANSWER] }
+        Reader { reading: PORTED, session: vec![0; SESSION], list, pool, answer: vec![0; ANSWER] }
+    }
+
+    /// One that reads nowdoc blocks as sheets.
+    pub fn of_sheets() -> Reader {
+        Reader { reading: SHEET, ..Reader::new() }
     }
 
     /// Reads a script to its end; after a wait it is lent with `piece` bytes more. Stops at a refusal, with its number.
@@ -60,7 +70,7 @@ impl Reader {
     ) -> Result<Count, String> {
         let mut count = Count::default();
         let mut lent = piece.min(script.len());
-        host::fresh(PORTED, &mut self.session);
+        host::fresh(self.reading, &mut self.session);
         loop {
             count.calls += 1;
             match self.call(way, &script[..lent], lent == script.len()) {
@@ -84,7 +94,7 @@ impl Reader {
     }
 
     fn call(&mut self, way: Way, source: &[u8], end: bool) -> u32 {
-        let Reader { session, list, pool, answer } = self;
+        let Reader { session, list, pool, answer, .. } = self;
         let lent = Slices { source, session, list, pool, answer };
         match way {
             Way::Walk => host::walk(end, u32::MAX, lent),
@@ -131,6 +141,27 @@ pub fn hold(reader: &mut Reader, script: &[u8], piece: usize) -> Result<(), Stri
         }
         if ours.len() != theirs.len() {
             return Err(format!("{} tokens, the Rust {}", ours.len(), theirs.len()));
+        }
+    }
+    Ok(())
+}
+
+/// Whether the sheet reading gives the tokens of the ported one, but that each row of a text has lost its indentation: in a
+/// script of nowdoc blocks whose rows and closing lines have `width` blanks.
+pub fn hold_sheets(script: &[u8], width: usize) -> Result<(), String> {
+    let bare = |row: &[u8]| row[width.min(row.len())..].to_vec();
+    let ported = Reader::new().tokens_of(Way::Walk, script, script.len())?;
+    let sheets = Reader::of_sheets().tokens_of(Way::Walk, script, script.len())?;
+    if ported.len() != sheets.len() {
+        return Err(format!("{} tokens of sheets, {} as ported", sheets.len(), ported.len()));
+    }
+    for (mut token, sheet) in ported.into_iter().zip(sheets) {
+        if token.kind == STRING_PART {
+            let rows: Vec<Vec<u8>> = token.value.split(|byte| *byte == b'\n').map(bare).collect();
+            token.value = rows.join(&b'\n');
+        }
+        if token != sheet {
+            return Err(format!("a sheet's {:?}\nas ported, without its indentation {:?}", sheet, token));
         }
     }
     Ok(())

@@ -1,6 +1,5 @@
 //! The stack that a call takes: a thread's stack is filled with a pattern below the call, and what the call changed is counted.
 
-use std::hint::black_box;
 use std::thread;
 
 use crate::kinds::{script, KINDS};
@@ -38,7 +37,7 @@ fn deepest(kind: &'static str, way: Way) -> Result<usize, String> {
 /// Fills what lies below this call, and gives its lowest address.
 #[inline(never)]
 fn fill() -> usize {
-    let here = black_box(0u8);
+    let here = 0u8;
     let lowest = (&here as *const u8 as usize) - APART - FILLED;
     for address in lowest..lowest + FILLED {
         // Below this frame lies nothing but the rest of the thread's stack, which is larger than what is filled.

@@ -1,7 +1,9 @@
 //! The tables of docs/SPEED.md, as Markdown.
 
-use crate::instructions::{self, RUST, STEPS, WALK};
-use crate::kinds::{one_block, one_byte_steps, one_comment, script, Kind, KINDS, ONE_BLOCK, ONE_COMMENT};
+use crate::instructions::{self, RUST, SHEET, STEPS, WALK};
+use crate::kinds::{
+    one_block, one_byte_steps, one_comment, script, script_named, Kind, KINDS, NOWDOC, ONE_BLOCK, ONE_COMMENT,
+};
 use crate::sides::{Reader, Way, MOST_BYTES};
 use crate::times::{by_turns, Work};
 use crate::{stack, PIECE};
@@ -23,6 +25,8 @@ pub fn all() -> Result<(), String> {
     pieces()?;
     println!();
     stack::table()?;
+    println!();
+    sheets()?;
     println!();
     let ratios = counts()?;
     if !ratios.is_empty() {
@@ -60,6 +64,22 @@ fn times() -> Result<(), String> {
         let ratio = turns.ratio(0, 1);
         print!("| {} | {:.2} | {:.1} ", kind.name, turns.of(0) / bytes, turns.of(1) / bytes);
         println!("| {:.3} | {:.1} |", ratio, 1.0 / ratio);
+    }
+    Ok(())
+}
+
+/// The sheet reading of nowdoc blocks beside the ported one; the Rust has no other than that.
+fn sheets() -> Result<(), String> {
+    let script = script_named(NOWDOC, MOST_BYTES).ok_or("there is no such kind")?;
+    let works =
+        [Reader::of_sheets(), Reader::new()].map(|reader| reading_by(reader, Way::Walk, &script, script.len(), 1));
+    let turns = by_turns(&mut works.into_iter().collect::<Result<Vec<_>, String>>()?);
+    let a_byte = |work: usize| turns.of(work) / script.len() as f64;
+    println!("| 64 KB of nowdoc blocks | as sheets | as ported | ratio |\n|---|---|---|---|");
+    println!("| ns a byte | {:.2} | {:.2} | {:.2} |", a_byte(0), a_byte(1), turns.ratio(0, 1));
+    if instructions::are_there() {
+        let (sheet, ported) = (instructions::a_byte(SHEET, NOWDOC)?, instructions::a_byte(WALK, NOWDOC)?);
+        println!("| instructions a byte | {:.1} | {:.1} | {:.2} |", sheet, ported, sheet / ported);
     }
     Ok(())
 }
@@ -105,7 +125,10 @@ fn sizes_of(name: &str, script_of: impl Fn(usize) -> Vec<u8>) -> Result<(), Stri
 
 /// A work: the script read to its end in pieces, so many times, with tables of its own. One that is refused is none.
 fn reading(way: Way, script: &[u8], piece: usize, often: usize) -> Result<Work<'_>, String> {
-    let mut reader = Reader::new();
+    reading_by(Reader::new(), way, script, piece, often)
+}
+
+fn reading_by(mut reader: Reader, way: Way, script: &[u8], piece: usize, often: usize) -> Result<Work<'_>, String> {
     reader.read(way, script, piece)?;
     Ok(Box::new(move || {
         for _ in 0..often {

@@ -24,13 +24,13 @@ pub fn cut_scripts(held: &mut Held, count: usize, random: &mut Random) -> Result
 }
 
 /// Walks a script uncut, then cut behind each byte and at random places.
-pub fn cut_script(held: &mut Held, script: &[u8], reading: usize, random: &mut Random) -> Result<(), String> {
-    let walked = walk(held, script, reading)?;
+pub fn cut_script(held: &mut Held, script: &[u8], choices: usize, random: &mut Random) -> Result<(), String> {
+    let walked = walk(held, script, choices)?;
     for way in 0..WAYS {
         let everywhere = way == 0 && script.len() <= MOST_CUT_EVERYWHERE;
         let cuts = if everywhere { (0..script.len()).collect() } else { random_cuts(script, random) };
-        if compare(held, script, &cuts, reading, &walked)?.is_some() {
-            return Err(smallest(held, script.to_vec(), cuts, reading));
+        if compare(held, script, &cuts, choices, &walked)?.is_some() {
+            return Err(smallest(held, script.to_vec(), cuts, choices));
         }
     }
     Ok(())
@@ -47,10 +47,10 @@ fn compare(
     held: &mut Held,
     script: &[u8],
     cuts: &[usize],
-    reading: usize,
+    choices: usize,
     walked: &Walked,
 ) -> Result<Option<(String, String)>, String> {
-    let mut call = begin(held, script, reading)?;
+    let mut call = begin(held, script, choices)?;
     call.list = walked.records.len() * RECORD;
     call.pool = walked.values.len();
     let expected = given_by(&call, walked);
@@ -107,11 +107,11 @@ fn fed(held: &mut Held, call: &Call, cuts: &[usize]) -> Given {
 }
 
 /// Both answers to a smaller script and to fewer cuts, where these fail too.
-fn smallest(held: &mut Held, script: Vec<u8>, cuts: Vec<usize>, reading: usize) -> String {
+fn smallest(held: &mut Held, script: Vec<u8>, cuts: Vec<usize>, choices: usize) -> String {
     let mut best = (script, cuts);
     let mut apart = |(script, cuts): &(Vec<u8>, Vec<usize>)| {
-        let walked = walk(held, script, reading).ok()?;
-        compare(held, script, cuts, reading, &walked).ok()?
+        let walked = walk(held, script, choices).ok()?;
+        compare(held, script, cuts, choices, &walked).ok()?
     };
     let without_cut = |(script, cuts): &(Vec<u8>, Vec<usize>), start: usize, width: usize| {
         let behind = (start + width).min(cuts.len());
@@ -121,7 +121,7 @@ fn smallest(held: &mut Held, script: Vec<u8>, cuts: Vec<usize>, reading: usize) 
     drop_parts(&mut best, |(script, _)| script.len(), without, |tried| apart(tried).is_some());
     let (uncut, cut) = apart(&best).unwrap_or_default();
     let (script, cuts) = best;
-    format!("  script {} cut at {:?}, reading {}\n  uncut {}\n  cut   {}", shown(&script), cuts, reading, uncut, cut)
+    format!("  script {} cut at {:?}, choices {}\n  uncut {}\n  cut   {}", shown(&script), cuts, choices, uncut, cut)
 }
 
 /// The script without some bytes; each cut stays beside its bytes.

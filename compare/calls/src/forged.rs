@@ -1,6 +1,6 @@
 //! Random calls on forged sessions: any session within its bounds, and such a call with something broken.
 
-use cases::call::{ANSWER, BYTES, COLUMN, DEPTH, LINE, POSITION, READING, RECORD, SESSION, SLOT, SLOTS, TOKENS};
+use cases::call::{ANSWER, BYTES, CHOICES, COLUMN, DEPTH, LINE, POSITION, RECORD, SESSION, SLOT, SLOTS, TOKENS};
 use cases::random::Random;
 use cases::{Call, Function};
 use telling::bytes::{identifier_run, is_identifier, past, START};
@@ -57,8 +57,8 @@ pub fn fresh_sessions(held: &mut Held, count: usize, random: &mut Random) -> Res
     for _ in 0..count {
         let length = [0, 1, 198, 199, 199, 199, 200, 260][random.below(8)];
         let session = (0..length).map(|_| random.number() as u32).collect();
-        let reading = [0, 1, 0, 1, 2, wild(random) as usize][random.below(6)];
-        held.hold(&Call { session, ..new_call(Function::Fresh, vec![reading]) })?;
+        let choices = [0, 1, 0, 1, 2, wild(random) as usize][random.below(6)];
+        held.hold(&Call { session, ..new_call(Function::Fresh, vec![choices]) })?;
     }
     Ok(())
 }
@@ -134,7 +134,7 @@ fn session(source: &mut Vec<u8>, random: &mut Random) -> Vec<u32> {
     numbers[DEPTH] = depth as u32;
     numbers[TOKENS] = random.below(4) as u32;
     numbers[BYTES] = random.below(6) as u32;
-    numbers[READING] = random.below(2) as u32;
+    numbers[CHOICES] = random.below(2) as u32;
     numbers
 }
 

@@ -52,8 +52,8 @@ fn every_byte(held: &mut Held) -> Result<(), String> {
 }
 
 /// Steps a script to its end, then walks it in each way.
-pub fn leap(held: &mut Held, script: &[u8], reading: usize, random: &mut Random) -> Result<(), String> {
-    let stepped = walk(held, script, reading)?;
+pub fn leap(held: &mut Held, script: &[u8], choices: usize, random: &mut Random) -> Result<(), String> {
+    let stepped = walk(held, script, choices)?;
     let ways = [
         Way { has_any_most: false, has_any_tables: false, cuts: Vec::new() },
         Way { has_any_most: true, has_any_tables: false, cuts: Vec::new() },
@@ -62,14 +62,14 @@ pub fn leap(held: &mut Held, script: &[u8], reading: usize, random: &mut Random)
         Way { has_any_most: true, has_any_tables: true, cuts: random_cuts(script, random) },
     ];
     ways.iter().try_for_each(|way| {
-        let walked = walked_so(held, script, reading, way, random)?;
+        let walked = walked_so(held, script, choices, way, random)?;
         same(script, &stepped, &walked)
     })
 }
 
 /// Walks a script to its end in one way; what was taken out of the tables on the way is put together again.
-fn walked_so(held: &mut Held, script: &[u8], reading: usize, way: &Way, random: &mut Random) -> Result<Walked, String> {
-    let mut call = begin(held, script, reading)?;
+fn walked_so(held: &mut Held, script: &[u8], choices: usize, way: &Way, random: &mut Random) -> Result<Walked, String> {
+    let mut call = begin(held, script, choices)?;
     call.function = Function::Walk;
     let mut cuts = way.cuts.iter();
     let mut is_stuck = false;

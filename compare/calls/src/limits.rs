@@ -1,6 +1,6 @@
 //! Calls at document 01's limits: bytes of source and pool, places of a list, frames, bytes of a label.
 
-use cases::call::{ANSWER, BYTES, COLUMN, DEPTH, LINE, POSITION, READING, RECORD, SESSION, SLOT, SLOTS, TOKENS};
+use cases::call::{ANSWER, BYTES, CHOICES, COLUMN, DEPTH, LINE, POSITION, RECORD, SESSION, SLOT, SLOTS, TOKENS};
 use cases::random::Random;
 use cases::{Call, Function};
 use telling::bytes::{past, START};
@@ -68,7 +68,7 @@ pub fn lengths(held: &mut Held, count: usize, random: &mut Random) -> Result<(),
             call.end = random.below(4).min(1) as u32;
             call.list = 2 * RECORD;
             call.pool = MOST_BYTES - 1 + random.below(3);
-            call.session[READING] = random.below(2) as u32;
+            call.session[CHOICES] = random.below(2) as u32;
             held.hold(&call)?;
             call.pool = length - position + random.below(2);
             held.hold(&call)?;
@@ -242,7 +242,7 @@ fn blocks(held: &mut Held, label: &[u8]) -> Result<(), String> {
             call.pool = source.len();
             for choice in 0..4 {
                 call.end = choice & 1;
-                call.session[READING] = choice >> 1;
+                call.session[CHOICES] = choice >> 1;
                 if has_length(label) {
                     held.hold(&call)?;
                 } else {

@@ -1,6 +1,6 @@
 //! Every short text over pieces at which the routine decides something, as a whole and as a part, in every frame and reading.
 
-use cases::call::{READING, RECORD};
+use cases::call::{CHOICES, RECORD};
 use cases::pieces::{every_text, Pieces};
 use cases::random::Random;
 use cases::Function;
@@ -14,7 +14,7 @@ const BYTES: &[u8] = b"<?phP=a1E_$[]{}->'\"`\\\n\r \t.e+x0u/*#\x80";
 /// The text stands behind this, which has the label of text blocks.
 const BEFORE: &[u8] = b"E\n";
 
-/// A function with a frame on top and a choice of reading, and the pieces of longer texts.
+/// A function with a frame on top and choices, and the pieces of longer texts.
 const ROUTINES: [(Function, u32, u32, Pieces); 14] = [
     (Function::Step, 0, 0, &[b"<", b"?", b"p", b"H", b"php", b"=", b"a", b"\n"]),
     (Function::Step, 1, 0, &[b"<", b"<<<", b"'", b"E", b"7", b"\n", b"\r", b"\""]),
@@ -34,11 +34,11 @@ const ROUTINES: [(Function, u32, u32, Pieces); 14] = [
 
 /// Texts of up to `most` bytes, and of two pieces more.
 pub fn short_texts(held: &mut Held, most: usize, _random: &mut Random) -> Result<(), String> {
-    for (function, frame, reading, pieces) in ROUTINES {
+    for (function, frame, choices, pieces) in ROUTINES {
         let mut hold = |text: &[u8]| {
             let source = [BEFORE, text].concat();
             let mut call = standing(function, &source, BEFORE.len(), 2, top(frame, 1));
-            call.session[READING] = reading;
+            call.session[CHOICES] = choices;
             call.list = 2 * RECORD;
             call.pool = source.len();
             held.hold(&call)?;

@@ -90,8 +90,9 @@ fn without(call: &Call, start: usize, width: usize) -> Call {
 }
 
 /// What makes a call plainer.
-const CHANGES: [fn(&mut Call); 14] = [
+const CHANGES: [fn(&mut Call); 15] = [
     |call| call.session.truncate(SESSION),
+    |call| call.session.fill(0),
     |call| call.answer = call.answer.min(ANSWER),
     |call| call.list /= 2,
     |call| call.list = call.list.saturating_sub(1),
@@ -119,10 +120,10 @@ fn set(call: &mut Call, place: usize, number: u32) {
     }
 }
 
-/// One frame less.
+/// One frame less, where there are as many as the depth says.
 fn drop_frame(call: &mut Call, slot: usize) {
     let depth = call.number(DEPTH);
-    if call.session.len() >= SESSION && slot < depth && depth > 1 {
+    if call.session.len() >= SESSION && slot < depth && depth > 1 && depth <= MOST_FRAMES {
         call.session[DEPTH] -= 1;
         call.session[SLOTS + slot * SLOT..SESSION].rotate_left(SLOT);
         call.session[SESSION - SLOT..SESSION].fill(0);

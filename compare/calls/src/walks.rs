@@ -24,8 +24,8 @@ pub fn whole_scripts(held: &mut Held, count: usize, random: &mut Random) -> Resu
 }
 
 /// Walks a script to its end, with the end announced.
-pub fn walk(held: &mut Held, script: &[u8], reading: usize) -> Result<Walked, String> {
-    let mut call = begin(held, script, reading)?;
+pub fn walk(held: &mut Held, script: &[u8], choices: usize) -> Result<Walked, String> {
+    let mut call = begin(held, script, choices)?;
     let (mut records, mut values) = (Vec::new(), Vec::new());
     for _ in 0..most_steps(script) {
         lend_ample(&mut call);
@@ -44,8 +44,8 @@ pub fn walk(held: &mut Held, script: &[u8], reading: usize) -> Result<Walked, St
 }
 
 /// A step with the end announced, on a fresh session.
-pub fn begin(held: &mut Held, script: &[u8], reading: usize) -> Result<Call, String> {
-    let mut call = Call { session: vec![9; 199], ..new_call(Function::Fresh, vec![reading]) };
+pub fn begin(held: &mut Held, script: &[u8], choices: usize) -> Result<Call, String> {
+    let mut call = Call { session: vec![9; 199], ..new_call(Function::Fresh, vec![choices]) };
     if let Told::Done { session, .. } = held.hold_to(&call, 0)? {
         call =
             Call { session, answer: ANSWER, end: 1, source: script.to_vec(), ..new_call(Function::Step, Vec::new()) };

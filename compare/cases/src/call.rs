@@ -18,7 +18,10 @@ pub const COLUMN: usize = 2;
 pub const DEPTH: usize = 3;
 pub const TOKENS: usize = 4;
 pub const BYTES: usize = 5;
-pub const READING: usize = 6;
+pub const CHOICES: usize = 6;
+
+/// The flag in a session's choices that nowdoc blocks are read as sheets.
+pub const SHEETS: usize = 1;
 
 /// The functions that take a session, by the names they have in call lines.
 #[derive(Clone, Copy, Debug, PartialEq, Eq)]
@@ -72,7 +75,7 @@ impl Function {
 #[derive(Clone, Debug, PartialEq, Eq)]
 pub struct Call {
     pub function: Function,
-    /// The reading of `fresh`, the most steps of `walk`, the count of `skip`, the frame, label start and label length of `push`.
+    /// The choices of `fresh`, the most steps of `walk`, the count of `skip`, the frame, label start and label length of `push`.
     pub arguments: Vec<usize>,
     /// The end is announced where this is not 0.
     pub end: u32,

@@ -55,7 +55,7 @@ extern "C" {
         answer: *mut u32,
         answer_len: usize,
     ) -> u32;
-    fn puretakoi_fresh(reading: u32, session: *mut u32, session_len: usize) -> u32;
+    fn puretakoi_fresh(choices: u32, session: *mut u32, session_len: usize) -> u32;
     fn puretakoi_skip(
         src: *const u8,
         src_len: usize,
@@ -101,8 +101,8 @@ pub struct Slices<'a> {
 
 /// A fresh session, with no guards; the refusal or 0.
 #[inline]
-pub fn fresh(reading: u32, session: &mut [u32]) -> u32 {
-    unsafe { puretakoi_fresh(reading, session.as_mut_ptr(), session.len()) }
+pub fn fresh(choices: u32, session: &mut [u32]) -> u32 {
+    unsafe { puretakoi_fresh(choices, session.as_mut_ptr(), session.len()) }
 }
 
 /// One step, with no guards; the refusal or 0.

@@ -14,7 +14,7 @@ use cases::{Call, Change, Frame, Function, Span, Token, Told};
 
 use bytes::{counted_on, past, START};
 use outcome::{Outcome, Text};
-use session::{frame_of, is_label, Session, MOST_BYTES, MOST_FRAMES, MOST_TOKENS};
+use session::{frame_of, is_label, sheet_in, Session, MOST_BYTES, MOST_FRAMES, MOST_TOKENS};
 
 /// Tells calls, with tables that are used again from call to call.
 #[derive(Default)]
@@ -122,9 +122,9 @@ fn fresh(call: &Call) -> Told {
     if call.session.len() < SESSION {
         return Told::Short;
     }
-    match call.arguments[0] {
-        reading @ (0 | 1) => done(call, Session::fresh(reading == 1)),
-        _ => refused(12, START),
+    match sheet_in(call.arguments[0]) {
+        Some(sheet) => done(call, Session::fresh(sheet)),
+        None => refused(12, START),
     }
 }
 

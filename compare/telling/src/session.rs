@@ -1,6 +1,6 @@
 //! A session, from any numbers at all and back (document 01, "Session"; include/puretakoi.h has the layout).
 
-use cases::call::{BYTES, COLUMN, DEPTH, LINE, POSITION, READING, SLOT, SLOTS, TOKENS};
+use cases::call::{BYTES, CHOICES, COLUMN, DEPTH, LINE, POSITION, SHEETS, SLOT, SLOTS, TOKENS};
 use cases::{Change, Frame, Span};
 
 use crate::bytes::{is_identifier, START};
@@ -25,7 +25,12 @@ const FRAMES: [Frame; 9] = [
     Frame::VarOffset,
 ];
 
-/// A session whose depth, reading and frames are such; all else may be out of bounds.
+/// Whether choices have nowdoc blocks read as sheets; none where a bit is no flag.
+pub fn sheet_in(choices: usize) -> Option<bool> {
+    (choices & !SHEETS == 0).then(|| choices & SHEETS != 0)
+}
+
+/// A session whose depth, choices and frames are such; all else may be out of bounds.
 #[derive(Clone, Debug, PartialEq, Eq)]
 pub struct Session {
     pub span: Span,
@@ -43,20 +48,21 @@ impl Session {
         Session { span: START, depth: 1, tokens: 0, bytes: 0, sheet, slots }
     }
 
-    /// The session in 199 numbers; none where depth, reading or a slot below the depth is no such thing.
+    /// The session in 199 numbers; none where depth, choices or a slot below the depth is no such thing.
     pub fn read(numbers: &[u32]) -> Option<Session> {
         let number = |place: usize| numbers[place] as usize;
         let depth = number(DEPTH);
         let is_frame = |slot: usize| number(SLOTS + slot * SLOT) < FRAMES.len();
-        if depth == 0 || depth > MOST_FRAMES || number(READING) > 1 || !(0..depth).all(is_frame) {
+        if depth == 0 || depth > MOST_FRAMES || !(0..depth).all(is_frame) {
             return None;
         }
+        let sheet = sheet_in(number(CHOICES))?;
         let mut slots = [[0; SLOT]; MOST_FRAMES];
         for (slot, lent) in slots.iter_mut().zip(numbers[SLOTS..].chunks_exact(SLOT)) {
             *slot = written_back(lent);
         }
         let span = Span { line: number(LINE), column: number(COLUMN), position: number(POSITION) };
-        Some(Session { span, depth, tokens: number(TOKENS), bytes: number(BYTES), sheet: number(READING) == 1, slots })
+        Some(Session { span, depth, tokens: number(TOKENS), bytes: number(BYTES), sheet, slots })
     }
 
     /// Puts the session's 199 numbers at the start of a slice.
@@ -67,7 +73,7 @@ impl Session {
         numbers[DEPTH] = self.depth as u32;
         numbers[TOKENS] = self.tokens as u32;
         numbers[BYTES] = self.bytes as u32;
-        numbers[READING] = u32::from(self.sheet);
+        numbers[CHOICES] = if self.sheet { SHEETS as u32 } else { 0 };
         for (slot, lent) in self.slots.iter().zip(numbers[SLOTS..].chunks_exact_mut(SLOT)) {
             lent.copy_from_slice(slot);
         }

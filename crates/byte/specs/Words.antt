@@ -4,10 +4,11 @@
 --   bytes           the bytes of a text in quotes
 --   every           whether all that a list holds passes a test
 --   run             how many bytes from the first on pass a test
+--   announced       whether a host's number says that the end is announced: any but 0
 use Prim.Native.Nat.{ℕ, suc}
 use Prim.Native.Char.{Char, code}
 use Prim.Native.String.{String}
-use mathlib.Core.Bool.{Bool, true, false, _&&_}
+use mathlib.Core.Bool.{Bool, true, false, not, _&&_}
 use mathlib.Core.List.{List, [], _∷_}
 use lib.Dec.{leb, eqb}
 
@@ -35,3 +36,6 @@ every test (a ∷ rest) = test a && every test rest
 unfoldable pub run : (ℕ → Bool) → List ℕ → ℕ
 run test [] = 0
 run test (b ∷ rest) = if test b then suc (run test rest) else 0
+
+abbrev pub announced : ℕ → Bool
+announced end = not (eqb end 0)

@@ -146,7 +146,7 @@ fn closing_line_at(src: &[u8], label: &[u8], n: usize, end: bool) -> TextUnit
 }
 
 // Where the blanks from `at` on end.
-fn blank_end(src: &[u8], at: usize) -> usize
+pub fn blank_end(src: &[u8], at: usize) -> usize
     requires { ⌜ at ≤ length (now src) ⌝ }
     ensures { λ r. ⌜ RunEnd isBlank (now (src .entry)) at r ⌝ }
 {

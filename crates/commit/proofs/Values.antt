@@ -5,6 +5,7 @@ use mathlib.Core.Bool.{Bool}
 use mathlib.Core.List.{List, _++_}
 use native.Mathlib.Omega.{arith}
 use lib.ListN.{length, take, drop, length-take, length-drop}
+use lib.Seq.{length-take-le}
 use Rattle.byte.specs.Laid.{laid}
 use Rattle.byte.proofs.Laid.{laid-rest}
 use Rattle.state.specs.declared.Label.{Label}
@@ -13,22 +14,14 @@ use Rattle.unit.specs.declared.Mode.{Mode}
 use Rattle.unit.specs.Readings.{textAt}
 use Rattle.text.specs.Code as text
 use Rattle.number.specs.Numbers as number
-use Rattle.sheet.specs.Sheets.{sheetAt}
-use Rattle.sheet.specs.Code as sheet
+use Rattle.sheet.specs.Bodies.{Indent}
+use Rattle.sheet.specs.Code.{sheetOf, Left}
+use Rattle.sheet.proofs.Parts.{drop-take}
 use Rattle.plan.specs.declared.Making.{Making}
 use Rattle.plan.specs.declared.Draft.{Draft}
 use Rattle.plan.specs.Code.{Named, Range, Block, madeBy, made}
+use Rattle.plan.proofs.Plans.{named-short}
 use Rattle.commit.specs.Code.{Writes}
-
--- the bytes that a label names, as a part of the source
-pub labelBytes-part : (src : List ℕ) (label : Label)
-    → take (label .start + label .len - label .start) (drop (label .start) src) ≡ labelBytes src label
-labelBytes-part src label =
-    let k : label .start + label .len - label .start ≡ label .len = omega arith in
-    rw k
-
-length-labelBytes : (src : List ℕ) (label : Label) → Named src label → length (labelBytes src label) ≤ 64
-length-labelBytes src label n = simp (length-take, length-drop) (omega (arith, n .short))
 
 -- a pool's free rest
 length-free : (q : List ℕ) (mark : ℕ) → length (take (length q - mark) (drop mark q)) ≡ length q - mark
@@ -75,7 +68,7 @@ module _ (src : List ℕ) (end : Bool) (d : Draft) (q : List ℕ) (mark : ℕ) (
     text-measured name h = record {
       start = text-block .start;
       short = w .short;
-      name = rw h (length-labelBytes src label text-named);
+      name = named-short src label name text-named h;
       size = rw h text-size;
       fits = rw (length-free q mark) (omega (arith, w .fits));
     }
@@ -112,33 +105,38 @@ module _ (src : List ℕ) (end : Bool) (d : Draft) (q : List ℕ) (mark : ℕ) (
     number-written rest f = rw e (laid-rest q rest mark _ (rw (← number-size) (w .fits)) f)
 
   -- a sheet
-  module _ (label : Label) (e : d .making ≡ Making.Sheet label) where
-    sheet-block : Block src label (d .from)
-    sheet-block = rw e at w .ready .able
+  module _ (blank width : ℕ) (e : d .making ≡ Making.Sheet blank width) where
+    abbrev ind : Indent
+    ind = record { blank = blank; width = width }
 
-    sheet-size : d .len ≡ length (sheet.valueOf (sheetAt (labelBytes src label) end (d .from) (drop (d .from) src)))
+    sheet-range : Range src (d .from) (d .to)
+    sheet-range = rw e at w .ready .able
+
+    pub sheet-inside : d .to ≤ length src
+    sheet-inside = sheet-range .inside
+
+    pub sheet-count : length (take (d .to) src) ≡ d .to
+    sheet-count = length-take-le (d .to) src sheet-inside
+
+    sheet-value : sheetOf ind (d .from) (drop (d .from) (take (d .to) src)) ≡ made src end d
     unfolding madeBy
-    sheet-size = rw e at w .ready .size
+    sheet-value = rw (e, drop-take (d .from) (d .to) src)
 
-    pub sheet-named : Named src label
-    sheet-named = sheet-block .name
+    pub sheet-left : Left (record { blank = blank; width = width }) (take (d .to) src) (d .from) (d .len)
+        (length (take (length q - mark) (drop mark q)))
+    sheet-left =
+        record {
+          start = omega (arith, sheet-count, sheet-range .order);
+          short = omega (arith, sheet-count, sheet-inside, w .short);
+          size = w .ready .size ∙ rw sheet-value;
+          fits = rw (length-free q mark) (omega (arith, w .fits));
+        }
 
-    pub sheet-measured : (name : List ℕ) → name ≡ labelBytes src label
-        → sheet.Measured src name (d .from) end (d .len) (length (take (length q - mark) (drop mark q)))
-    sheet-measured name h = record {
-      start = sheet-block .start;
-      short = w .short;
-      name = rw h (length-labelBytes src label sheet-named);
-      size = rw h sheet-size;
-      fits = rw (length-free q mark) (omega (arith, w .fits));
-    }
-
-    pub sheet-written : (name rest : List ℕ) → name ≡ labelBytes src label
-        → rest ≡ laid (take (length q - mark) (drop mark q)) 0 (sheet.valueOf (sheetAt name end (d .from) (drop (d .from) src)))
+    pub sheet-written : (rest : List ℕ)
+        → rest ≡ laid (take (length q - mark) (drop mark q)) 0
+        (sheetOf (record { blank = blank; width = width }) (d .from) (drop (d .from) (take (d .to) src)))
         → take mark q ++ (rest ++ drop (length q - mark) (drop mark q)) ≡ laid q mark (made src end d)
-    unfolding madeBy
-    sheet-written name rest h f =
-        rw e (laid-rest q rest mark _ (rw (← sheet-size) (w .fits)) (f ∙ rw h))
+    sheet-written rest f = laid-rest q rest mark _ (rw (← w .ready .size) (w .fits)) (f ∙ rw sheet-value)
 
 pub ruleset copies = (copied-order, copied-inside, copied-fits, copied-written)
 
@@ -146,4 +144,4 @@ pub ruleset texts = (text-named, text-measured, text-written)
 
 pub ruleset numbers = (number-order, number-inside, number-fits, number-written)
 
-pub ruleset sheets = (sheet-named, sheet-measured, sheet-written)
+pub ruleset sheets = (sheet-inside, sheet-count, sheet-left, sheet-written)

@@ -15,12 +15,11 @@ ghost use mathlib.Core.Path.{_≡_};
 ghost use Prim.Native.Nat.{_+_, _≤_};
 ghost use lib.ListN.{length};
 ghost use Rattle.byte.specs.Laid.{laid};
-ghost use Rattle.state.specs.Bounds.{labelBytes};
 ghost use Rattle.text.specs.Code as text;
 ghost use Rattle.outcome.specs.Outcomes.{limited};
 ghost use Rattle.plan.specs.declared.Drafts.{Drafts};
 ghost use Rattle.plan.specs.declared.Plan.{Plan};
-ghost use Rattle.plan.specs.Code.{Named, made, pieceOf, piecesOf, outcomeOf};
+ghost use Rattle.plan.specs.Code.{made, pieceOf, piecesOf, outcomeOf};
 ghost use Rattle.commit.specs.Records.{spanAt, answerOf};
 ghost use Rattle.commit.specs.Code.{draftToken, countOf, totalOf, Ahead, Writes, Drawn, DraftFits, DraftPut, DraftsFit, DraftsPut};
 ghost use Rattle.commit.specs.Code.{stays, isFull, advanced, Advances, Works, Commits, Committed};
@@ -62,16 +61,6 @@ fn stay(number: u32, span: Span, m: Mark) -> Next
     }
 }
 
-// The bytes that a label names: that part of the source itself.
-fn label_bytes(src: &[u8], label: Label) -> &[u8]
-    requires { ⌜ Named (now src) label ⌝ }
-    ensures { λ r. ⌜ now r ≡ labelBytes (now (src .entry)) label ⌝ }
-{
-    let start = label.start as usize;
-    let end = start + label.len as usize;
-    &src[start..end]
-}
-
 // The value of a draft, in the pool from the mark on.
 fn write_value(src: &[u8], end: bool, d: Draft, pool: &mut [u8], mark: usize)
     requires { ⌜ Writes (now src) end d (length (now pool)) mark ⌝ }
@@ -83,13 +72,13 @@ fn write_value(src: &[u8], end: bool, d: Draft, pool: &mut [u8], mark: usize)
     match making {
         Making::Copied => token::put_value(&src[from..to], pool, mark),
         Making::Text { mode, label } => {
-            let name = label_bytes(src, label);
+            let name = plan::label_bytes(src, label);
             text::write_text(mode, src, name, from, end, d.len, &mut pool[mark..]);
         }
         Making::Number => number::write_number(src, from, to, &mut pool[mark..]),
-        Making::Sheet(label) => {
-            let name = label_bytes(src, label);
-            sheet::write_sheet(src, name, from, end, d.len, &mut pool[mark..]);
+        Making::Sheet { blank, width } => {
+            let body = &src[..to];
+            sheet::write_sheet(body, from, blank, width, d.len, &mut pool[mark..]);
         }
     }
 }

@@ -12,7 +12,7 @@ use lib.Seq.{take-append-seam}
 use Rattle.byte.specs.Words.{if_then_else_, every}
 use Rattle.byte.specs.Demand.{isByte}
 use Rattle.state.specs.declared.Answer.{Answer}
-use Rattle.state.specs.declared.Reading.{Reading}
+use Rattle.state.specs.declared.Choices.{Choices}
 use Rattle.state.specs.declared.Session.{Session}
 use Rattle.state.specs.Calls.{freshSession}
 use Rattle.state.specs.Gates.{tablesFit}
@@ -214,10 +214,10 @@ cuts n src (part ∷ more) s l q bytes short fit h e =
         ∙ sym z)
 
 -- from a fresh session
-pub cuts-fresh : (n : ℕ) (parts : List (List ℕ)) (nowdocs : Reading) (l q : List ℕ) → every isByte (joined [] parts) ≡ true
+pub cuts-fresh : (n : ℕ) (parts : List (List ℕ)) (choices : Choices) (l q : List ℕ) → every isByte (joined [] parts) ≡ true
     → length (joined [] parts) ≤ 65536 → tablesFit (length l) (length q) ≡ true
-    → Ended (walked n (joined [] parts) true (freshSession nowdocs) l q .turn .answer)
-    → fed n [] parts (freshSession nowdocs) l q ≡ walked n (joined [] parts) true (freshSession nowdocs) l q
-cuts-fresh n parts nowdocs l q bytes short fit e =
-    cuts n [] parts (freshSession nowdocs) l q bytes short fit
-    (record { good = fresh-good [] nowdocs; tokens = omega arith; bytes = omega arith }) e
+    → Ended (walked n (joined [] parts) true (freshSession choices) l q .turn .answer)
+    → fed n [] parts (freshSession choices) l q ≡ walked n (joined [] parts) true (freshSession choices) l q
+cuts-fresh n parts choices l q bytes short fit e =
+    cuts n [] parts (freshSession choices) l q bytes short fit
+    (record { good = fresh-good [] choices; tokens = omega arith; bytes = omega arith }) e

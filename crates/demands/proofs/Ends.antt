@@ -19,7 +19,7 @@ use Rattle.source.specs.declared.Span.{Span}
 use Rattle.byte.proofs.Tests.{choice}
 use Rattle.state.specs.declared.Answer.{Answer}
 use Rattle.state.specs.declared.Frame.{Frame}
-use Rattle.state.specs.declared.Reading.{Reading}
+use Rattle.state.specs.declared.Choices.{Choices}
 use Rattle.state.specs.declared.Session.{Session}
 use Rattle.state.specs.declared.Slot.{Slot}
 use Rattle.state.specs.Bounds.{noSlot}
@@ -30,14 +30,14 @@ use Rattle.outcome.specs.declared.Change.{Change}
 use Rattle.outcome.specs.Outcomes.{Outcome, values}
 use Rattle.outcome.specs.Insides.{Inside}
 use Rattle.outcome.specs.Steps.{topFrame, stepOutcome}
-use Rattle.outcome.proofs.Insides.{step-inside}
-use Rattle.outcome.proofs.Progress.{Onward, moves, looks, Progress, step-onward}
+use Rattle.outcome.proofs.Ways.{Onward, moves, looks, Progress}
+use Rattle.outcome.proofs.StepWays.{step-ways}
 use Rattle.commit.specs.Records.{spanAt}
 use Rattle.lexer.specs.Turns.{After, framesAfter, depthAfter, changed, refusing, room, settled}
 use Rattle.lexer.specs.Calls.{stepped}
 use Rattle.demands.specs.Walks.{goOn, walked, joined, fed}
 use Rattle.demands.proofs.Kept.{done-told}
-use Rattle.demands.proofs.Good.{Sound, step-sound, position-inside}
+use Rattle.demands.proofs.Good.{Sound, step-sound, position-inside, top-sound}
 use Rattle.demands.proofs.Rising.{span-place}
 use Rattle.demands.proofs.Cuts.{Ended, cuts-fresh}
 
@@ -125,7 +125,8 @@ module _ (src : List ℕ) (s : Session) (l q : List ℕ) where
     step-falls end =
         choice Falls (eqb (lentRefusal src (length l) (length q) s) 0) _ _
         (λ e.
-        settled-falls (stepOutcome src end s) (step-inside src end s (position-inside src s l q h)) (step-onward src end s (h .good)))
+        let w = step-ways src end s (position-inside src s l q h) in
+        settled-falls (stepOutcome src end s) (w .lies) (w .on (top-sound src s l q h)))
         (λ e. refusing-falls _ origin)
 
 -- ---- many steps
@@ -155,11 +156,11 @@ walk-ends n src end s l q h enough = walk-falls n src end s l q h (omega (arith,
 
 -- ---- a script in parts
 
-pub cuts-whole : (n : ℕ) (parts : List (List ℕ)) (nowdocs : Reading) (l q : List ℕ) → every isByte (joined [] parts) ≡ true
+pub cuts-whole : (n : ℕ) (parts : List (List ℕ)) (choices : Choices) (l q : List ℕ) → every isByte (joined [] parts) ≡ true
     → length (joined [] parts) ≤ 65536 → tablesFit (length l) (length q) ≡ true
     → 2 * length (joined [] parts) + 1 < n
-    → fed n [] parts (freshSession nowdocs) l q ≡ walked n (joined [] parts) true (freshSession nowdocs) l q
-cuts-whole n parts nowdocs l q bytes short fit enough =
-    cuts-fresh n parts nowdocs l q bytes short fit
-    (walk-ends n (joined [] parts) true (freshSession nowdocs) l q
-    (record { good = fresh-good (joined [] parts) nowdocs; tokens = omega arith; bytes = omega arith }) (omega arith))
+    → fed n [] parts (freshSession choices) l q ≡ walked n (joined [] parts) true (freshSession choices) l q
+cuts-whole n parts choices l q bytes short fit enough =
+    cuts-fresh n parts choices l q bytes short fit
+    (walk-ends n (joined [] parts) true (freshSession choices) l q
+    (record { good = fresh-good (joined [] parts) choices; tokens = omega arith; bytes = omega arith }) (omega arith))

@@ -19,21 +19,22 @@ use Rattle.byte.proofs.Words.{every-take, every-set}
 use Rattle.state.specs.declared.Frame.{Frame}
 use Rattle.state.specs.declared.Slot.{Slot}
 use Rattle.state.specs.declared.Session.{Session}
-use Rattle.state.specs.Bounds.{isBottom, noSlot, isSlot, isStack, isWithin, isGood}
+use Rattle.state.specs.Bounds.{isBottom, noSlot, isSlot, isStack, isWithin, isGood, isScripting}
 use Rattle.state.specs.Calls.{spanOf, moved}
 use Rattle.state.specs.Gates.{lentRefusal}
 use Rattle.state.proofs.Kept.{good-numbers, good-bottom, good-slots, moved-good, entered-good, left-good}
+use Rattle.state.proofs.Longer.{top-good}
 use Rattle.token.specs.Records.{roomRefusal}
 use Rattle.outcome.specs.declared.Change.{Change}
 use Rattle.outcome.specs.Outcomes.{Piece, Outcome, values}
 use Rattle.outcome.specs.Insides.{Inside}
 use Rattle.outcome.specs.Steps.{topFrame, stepOutcome, numberOutcome, singleOutcome, doubleOutcome}
-use Rattle.outcome.proofs.Insides.{step-inside, number-inside, single-inside, double-inside}
-use Rattle.outcome.proofs.Changes.{Welcome, ChangeGood, Changes, Room, Limited, framed-change, limited-changes, limited-room}
-use Rattle.outcome.proofs.Changes.{literal-changes, literal-room, numbered-changes, numbered-room}
+use Rattle.outcome.proofs.Ways.{Welcome, ChangeGood, Changes}
+use Rattle.outcome.proofs.StepWays.{TopGood, Room, Limited, limited-room, step-ways}
+use Rattle.outcome.proofs.StepWays.{Readable, number-readable, single-readable, double-readable}
 use Rattle.commit.specs.Records.{spanAt, records}
 use Rattle.lexer.specs.Turns.{After, framesAfter, depthAfter, changed, refusing, room, settled, written}
-use Rattle.lexer.specs.Calls.{gated, isScripting, stepped, reading, readNumber, readSingle, readDouble}
+use Rattle.lexer.specs.Calls.{gated, stepped, reading, readNumber, readSingle, readDouble}
 
 -- with a list of so many numbers and a pool of so many bytes
 pub record Sound (src : List ℕ) (list pool : ℕ) (s : Session) : Type 0 where
@@ -60,7 +61,7 @@ module _ (src : List ℕ) (s : Session) (e : isGood src s ≡ true) where
     tokens = s .tokens;
     bytes = s .bytes;
     frames = set (s .frames) (s .depth - 1) (record { frame = f });
-    nowdocs = s .nowdocs;
+    choices = s .choices;
   }
 
   bottom-set : (frames : List Slot) (i : ℕ) (f : Frame) → isBottom f ≡ true → isBottom (getD frames 0 noSlot .frame) ≡ true
@@ -151,12 +152,12 @@ module _ (src : List ℕ) (s : Session) (l q : List ℕ) (h : Sound src (length 
   position-inside = good-numbers src s (h .good) .position
 
   -- a frame that is left by its own routine is not the bottom one
-  top-deep : isBottom (topFrame s) ≡ false → 2 ≤ s .depth
-  top-deep k = go (leb 2 (s .depth)) refl
+  pub top-sound : TopGood src (topFrame s) (s .depth)
+  top-sound = record { frame = top-good src s (h .good); deep = go (leb 2 (s .depth)) refl }
     where
-      go : (t : Bool) → leb 2 (s .depth) ≡ t → 2 ≤ s .depth
-      go true e = leb-true 2 (s .depth) e
-      go false e =
+      go : (t : Bool) → leb 2 (s .depth) ≡ t → isBottom (topFrame s) ≡ false → 2 ≤ s .depth
+      go true e k = leb-true 2 (s .depth) e
+      go false e k =
           let one : s .depth - 1 ≡ 0 = omega (arith, leb-false 2 (s .depth) e) in
           let bottom = subst (λ (i : ℕ). isBottom (getD (s .frames) i noSlot .frame) ≡ false) one k in
           absurd (false≢true (sym bottom ∙ good-bottom src s (h .good)))
@@ -164,35 +165,24 @@ module _ (src : List ℕ) (s : Session) (l q : List ℕ) (h : Sound src (length 
   pub step-sound : (end : Bool) → StaysSound src l q (stepped src end s l q)
   unfolding stepped stepOutcome
   step-sound end =
+      let w = step-ways src end s position-inside in
       gated-sound _
-      (settled-sound (stepOutcome src end s) (step-inside src end s position-inside)
-      (limited-changes src (s .depth) (s .position) _ (framed-change src (s .depth) (topFrame s) (s .nowdocs) end (s .position) position-inside top-deep))
-      (limited-room (s .depth) (s .position) _))
+      (settled-sound (stepOutcome src end s) (w .lies) (w .stack top-sound) (limited-room (s .depth) (s .position) _))
 
-  reading-sound : (o : Outcome) → Inside (s .position) (length src) o → Changes src (s .depth) o → Limited (s .depth) o
-      → StaysSound src l q (reading o src s l q)
+  reading-sound : (o : Outcome) → Readable src s o → StaysSound src l q (reading o src s l q)
   unfolding reading
-  reading-sound o i c r =
+  reading-sound o w =
+      let ways = w .ways position-inside in
       gated-sound _
-      (choice (StaysSound src l q) (isScripting (topFrame s)) _ _ (λ e. settled-sound o i c r) (λ e. same-sound outOfPlace (spanOf s)))
+      (choice (StaysSound src l q) (isScripting (topFrame s)) _ _
+      (λ e. settled-sound o (ways .lies) (ways .stack tt) (rw (w .free) at (limited-room (s .depth) (s .position) o)))
+      (λ e. same-sound outOfPlace (spanOf s)))
 
   pub number-sound : (end : Bool) → StaysSound src l q (readNumber src end s l q)
-  unfolding numberOutcome
-  number-sound end =
-      reading-sound (numberOutcome src end s) (number-inside src end s position-inside)
-      (numbered-changes src (s .depth) (s .position) _)
-      (numbered-room (s .depth) (s .position) _)
+  number-sound end = reading-sound (numberOutcome src end s) (number-readable src end s)
 
   pub single-sound : (end : Bool) → StaysSound src l q (readSingle src end s l q)
-  unfolding singleOutcome
-  single-sound end =
-      reading-sound (singleOutcome src end s) (single-inside src end s position-inside)
-      (literal-changes src (s .depth) _ (s .position) _)
-      (literal-room (s .depth) _ (s .position) _)
+  single-sound end = reading-sound (singleOutcome src end s) (single-readable src end s)
 
   pub double-sound : (end : Bool) → StaysSound src l q (readDouble src end s l q)
-  unfolding doubleOutcome
-  double-sound end =
-      reading-sound (doubleOutcome src end s) (double-inside src end s position-inside)
-      (literal-changes src (s .depth) _ (s .position) _)
-      (literal-room (s .depth) _ (s .position) _)
+  double-sound end = reading-sound (doubleOutcome src end s) (double-readable src end s)

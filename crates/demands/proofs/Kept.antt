@@ -13,6 +13,7 @@ use Rattle.byte.specs.Refusals.{outOfPlace, wait}
 use Rattle.source.specs.Cursor.{origin}
 use Rattle.source.specs.declared.Span.{Span}
 use Rattle.byte.proofs.Tests.{choice}
+use Rattle.state.specs.Bounds.{isScripting}
 use Rattle.state.specs.declared.Answer.{Answer}
 use Rattle.state.specs.declared.Session.{Session}
 use Rattle.state.specs.declared.Turn.{Turn}
@@ -26,7 +27,7 @@ use Rattle.commit.specs.declared.Next.{Next}
 use Rattle.commit.specs.Records.{answerOf}
 use Rattle.commit.specs.Code.{Committed}
 use Rattle.lexer.specs.Turns.{After, Gives, refusing, room, settled, written}
-use Rattle.lexer.specs.Calls.{gated, isScripting, stepped, reading}
+use Rattle.lexer.specs.Calls.{gated, stepped, reading}
 
 pub record Kept (s : Session) (l q : List ℕ) (a : After) : Type 0 where
   pub back : (number : ℕ) (span : Span) → a .turn .answer ≡ Answer.Refused number span

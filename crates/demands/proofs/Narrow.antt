@@ -6,15 +6,16 @@ use native.Mathlib.Omega.{arith}
 use lib.Dec.{eqb}
 use lib.ListN.{length}
 use Rattle.byte.proofs.Tests.{choice}
+use Rattle.state.specs.Bounds.{isScripting}
 use Rattle.state.specs.declared.Session.{Session}
 use Rattle.state.specs.Calls.{spanOf}
 use Rattle.state.specs.Gates.{lentRefusal}
 use Rattle.outcome.specs.Outcomes.{Outcome}
 use Rattle.outcome.specs.Insides.{Inside}
 use Rattle.outcome.specs.Steps.{topFrame, stepOutcome, numberOutcome, singleOutcome, doubleOutcome}
-use Rattle.outcome.proofs.Insides.{step-inside, number-inside, single-inside, double-inside}
+use Rattle.outcome.proofs.StepWays.{step-inside, Readable, number-readable, single-readable, double-readable}
 use Rattle.lexer.specs.Turns.{After, room, settled}
-use Rattle.lexer.specs.Calls.{isScripting, stepped, reading, readNumber, readSingle, readDouble}
+use Rattle.lexer.specs.Calls.{stepped, reading, readNumber, readSingle, readDouble}
 use Rattle.demands.proofs.Rising.{span-place}
 
 -- of the session before and the one after
@@ -45,17 +46,18 @@ module _ (src : List ℕ) (s : Session) (l q : List ℕ) (h : s .position ≤ le
       choice NarrowAfter (eqb (lentRefusal src (length l) (length q) s) 0) _ _
       (λ e. settled-narrow (stepOutcome src end s) (step-inside src end s h)) (λ e. same)
 
-  reading-narrow : (o : Outcome) → Inside (s .position) (length src) o → NarrowAfter (reading o src s l q)
+  reading-narrow : (o : Outcome) → Readable src s o → NarrowAfter (reading o src s l q)
   unfolding reading
-  reading-narrow o i =
+  reading-narrow o w =
       choice NarrowAfter (eqb (lentRefusal src (length l) (length q) s) 0) _ _
-      (λ e. choice NarrowAfter (isScripting (topFrame s)) _ _ (λ f. settled-narrow o i) (λ f. same)) (λ e. same)
+      (λ e. choice NarrowAfter (isScripting (topFrame s)) _ _ (λ f. settled-narrow o (w .ways h .lies)) (λ f. same))
+      (λ e. same)
 
   pub number-narrow : (end : Bool) → NarrowAfter (readNumber src end s l q)
-  number-narrow end = reading-narrow (numberOutcome src end s) (number-inside src end s h)
+  number-narrow end = reading-narrow (numberOutcome src end s) (number-readable src end s)
 
   pub single-narrow : (end : Bool) → NarrowAfter (readSingle src end s l q)
-  single-narrow end = reading-narrow (singleOutcome src end s) (single-inside src end s h)
+  single-narrow end = reading-narrow (singleOutcome src end s) (single-readable src end s)
 
   pub double-narrow : (end : Bool) → NarrowAfter (readDouble src end s l q)
-  double-narrow end = reading-narrow (doubleOutcome src end s) (double-inside src end s h)
+  double-narrow end = reading-narrow (doubleOutcome src end s) (double-readable src end s)

@@ -23,7 +23,7 @@ use Rattle.outcome.specs.declared.Change.{Change}
 use Rattle.outcome.specs.Outcomes.{Piece, Outcome, values}
 use Rattle.outcome.specs.Insides.{AllInside, Inside}
 use Rattle.outcome.specs.Steps.{stepOutcome}
-use Rattle.outcome.proofs.Insides.{step-inside}
+use Rattle.outcome.proofs.StepWays.{step-inside}
 use Rattle.commit.specs.Records.{spanAt, records}
 use Rattle.lexer.specs.Turns.{After, room, settled, written}
 use Rattle.lexer.specs.Calls.{stepped}

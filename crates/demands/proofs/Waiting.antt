@@ -12,19 +12,20 @@ use Rattle.byte.specs.Words.{every}
 use Rattle.byte.specs.Demand.{isByte, Waits}
 use Rattle.byte.specs.Refusals.{wait}
 use Rattle.byte.proofs.Tests.{choice}
+use Rattle.state.specs.Bounds.{isScripting}
 use Rattle.state.specs.declared.Session.{Session}
 use Rattle.state.specs.Gates.{lentRefusal, tablesFit}
 use Rattle.token.specs.Records.{roomRefusal}
 use Rattle.outcome.specs.Outcomes.{Outcome, values}
 use Rattle.outcome.specs.Insides.{Inside}
 use Rattle.outcome.specs.Steps.{topFrame, stepOutcome, numberOutcome, singleOutcome, doubleOutcome}
-use Rattle.outcome.proofs.Insides.{step-inside, number-inside, single-inside, double-inside}
+use Rattle.outcome.proofs.StepWays.{step-inside, number-readable, single-readable, double-readable}
 use Rattle.outcome.proofs.Demand.{told-waits, refused-waits}
 use Rattle.outcome.proofs.StepDemand.{step-waits, step-never-waits, number-outcome-waits, number-outcome-never-waits}
 use Rattle.outcome.proofs.StepDemand.{single-outcome-waits, single-outcome-never-waits, double-outcome-waits, double-outcome-never-waits}
 use Rattle.commit.specs.Records.{answerOf}
 use Rattle.lexer.specs.Turns.{After, room, settled}
-use Rattle.lexer.specs.Calls.{isScripting, stepped, reading, readNumber, readSingle, readDouble}
+use Rattle.lexer.specs.Calls.{stepped, reading, readNumber, readSingle, readDouble}
 use Rattle.demands.specs.Walks.{isWait}
 use Rattle.demands.specs.Waits.{WaitsExactly}
 use Rattle.demands.proofs.Good.{Sound, position-inside}
@@ -132,7 +133,7 @@ module _ (part : List ℕ) (s : Session) (l q : List ℕ) (bytes : every isByte 
         calls-exactly (λ xs end. readNumber xs end s l q) (λ xs end. numberOutcome xs end s) part s l q
         (position-inside part s l q h)
         short
-        (λ src end k. number-inside src end s k)
+        (λ src end k. number-readable src end s .ways k .lies)
         (λ rest end k. reading-gives (numberOutcome (part ++ rest) end s) rest k)
         (number-outcome-waits s part (position-inside part s l q h))
         (number-outcome-never-waits s part)
@@ -142,7 +143,7 @@ module _ (part : List ℕ) (s : Session) (l q : List ℕ) (bytes : every isByte 
         calls-exactly (λ xs end. readSingle xs end s l q) (λ xs end. singleOutcome xs end s) part s l q
         (position-inside part s l q h)
         short
-        (λ src end k. single-inside src end s k)
+        (λ src end k. single-readable src end s .ways k .lies)
         (λ rest end k. reading-gives (singleOutcome (part ++ rest) end s) rest k)
         (single-outcome-waits s part (position-inside part s l q h))
         (single-outcome-never-waits s part)
@@ -152,7 +153,7 @@ module _ (part : List ℕ) (s : Session) (l q : List ℕ) (bytes : every isByte 
         calls-exactly (λ xs end. readDouble xs end s l q) (λ xs end. doubleOutcome xs end s) part s l q
         (position-inside part s l q h)
         short
-        (λ src end k. double-inside src end s k)
+        (λ src end k. double-readable src end s .ways k .lies)
         (λ rest end k. reading-gives (doubleOutcome (part ++ rest) end s) rest k)
         (double-outcome-waits s part (position-inside part s l q h))
         (double-outcome-never-waits s part)

@@ -42,12 +42,14 @@ module _ (src : List ℕ) (end : Bool) where
           → Plans src end (Outcome.Told (piece kind place value ∷ []) after change false) (onePlan d after change)
       piece-plans d x = rw (x .told) at (one-plans d (x .ready))
 
-      pub parted-plans : (part d : Draft) → Makes src end (piece kind place value) part → Ready src end d
-          → Plans src end (Outcome.Told (unlessEmpty kind place value ++ pieceOf src end d ∷ []) after change false)
-          (partedPlan part d after change)
+      -- the token after a part bears the part's span
+      pub parted-plans : (part : Draft) (d : ℕ → Draft) → Makes src end (piece kind place value) part → ((k : ℕ) → Ready src end (d k))
+          → Plans src end (Outcome.Told (unlessEmpty kind place value ++ pieceOf src end (d place) ∷ []) after change false)
+          (partedPlan part (d (part .place)) after change)
       parted-plans part d x ready =
           subst
-          (λ p. Plans src end (Outcome.Told (unlessEmpty (p .kind) (p .place) (p .value) ++ pieceOf src end d ∷ []) after change false)
-          (partedPlan part d after change))
+          (λ p. Plans src end
+          (Outcome.Told (unlessEmpty (p .kind) (p .place) (p .value) ++ pieceOf src end (d (p .place)) ∷ []) after change false)
+          (partedPlan part (d (part .place)) after change))
           (x .told)
-          (plan.parted-plans src end part d after change (ap (λ p. p .detail) (x .told)) (x .ready) ready)
+          (plan.parted-plans src end part (d (part .place)) after change (ap (λ p. p .detail) (x .told)) (x .ready) (ready (part .place)))

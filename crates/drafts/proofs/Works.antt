@@ -1,6 +1,6 @@
 -- Scans and their plans: what a scan found makes the outcome of what was read. Assumes nothing.
---   text-plans, sheet-plans, literal-plans, number-plans   the plan of a reading that was measured makes its outcome
---   .. -arm                                                the same on each arm of a match on the scan
+--   read-plans, literal-plans, number-plans   the plan of a reading that was measured makes its outcome
+--   .. -arm                                   the same on each arm of a match on the scan
 use Prim.Native.Nat.{ℕ, _+_, _-_, _≤_}
 use mathlib.Core.Path.{_≡_, refl, sym, _∙_}
 use mathlib.Core.Bool.{Bool, true, false}
@@ -8,57 +8,42 @@ use mathlib.Core.List.{List, [], _∷_}
 use native.Mathlib.Omega.{arith}
 use lib.Dec.{eqb}
 use lib.ListN.{length, take, drop, length-drop}
-use lib.Seq.{drop-drop, length-take-le}
+use lib.Seq.{drop-drop}
 use borrow.Author.Tests.{eqb-true, eq-eqb, ne-eqb}
 use Rattle.byte.proofs.Tests.{choice}
 use Rattle.state.specs.declared.Frame.{Frame}
 use Rattle.state.specs.declared.Label.{Label}
 use Rattle.state.specs.declared.Reading as session
-use Rattle.state.specs.Bounds.{labelBytes}
+use Rattle.state.specs.Bounds.{labelBytes, noLabel}
 use Rattle.token.specs.Kinds.{stringPart}
-use Rattle.unit.specs.declared.Indentation.{Indentation}
 use Rattle.unit.specs.declared.Mode.{Mode}
 use Rattle.unit.specs.declared.Stop.{Stop}
 use Rattle.unit.specs.Readings as unit
 use Rattle.unit.proofs.Inside as unit-inside
-use Rattle.unit.proofs.Copies.{OwnReading, text-own, text-copied}
-use Rattle.text.specs.declared.Scanned as text
+use Rattle.unit.proofs.Stands.{isLiteral}
+use Rattle.unit.proofs.Readings.{TextStands, StandsReading, text-stands, text-copied}
+use Rattle.text.specs.declared.Scanned.{Scanned}
 use Rattle.text.specs.Code as text-scans
 use Rattle.outcome.specs.declared.Change.{Change}
 use Rattle.number.specs.declared.Literal.{Literal}
 use Rattle.number.specs.declared.Scanned as number
 use Rattle.number.specs.Numbers as numbers
 use Rattle.number.proofs.Values.{numberAt-inside, numberAt-valueOf}
-use Rattle.sheet.specs.declared.Scanned as sheet
-use Rattle.sheet.specs.Code as sheet-scans
-use Rattle.sheet.specs.Sheets as sheets
-use Rattle.sheet.proofs.Inside as sheet-inside
+use Rattle.sheet.specs.Code.{blankOf}
+use Rattle.sheet.specs.Sheets.{sheetAt}
+use Rattle.sheet.proofs.Inside.{SheetStands, StandsSheet, sheet-stands, sheet-inside}
+use Rattle.sheet.proofs.Writes.{sheet-copied}
 use Rattle.outcome.specs.Outcomes.{Outcome, piece}
-use Rattle.outcome.specs.Texts.{slice, docKind, stopKind, stopDetail, stopChange, texted, sheeted, isLeft, literal, numberKind, numbered}
+use Rattle.outcome.specs.Texts.{slice, stopKind, stopDetail, stopChange, texted, isLeft, literal, numberKind, numbered}
 use Rattle.outcome.specs.Steps.{textMode, nowdoc}
 use Rattle.plan.specs.declared.Making.{Making}
 use Rattle.plan.specs.declared.Draft.{Draft}
 use Rattle.plan.specs.declared.Plan.{Plan}
-use Rattle.plan.specs.Code.{madeBy, outcomeOf, Here, Named, Plans, noLabel, copiedDraft, onePlan, partedPlan}
-use Rattle.drafts.specs.Code.{madeDraft, textDraft, textPlan, textWork, sheetPlan, sheetWork, literalPlan, literalWork, numberPlan, numberWork}
-use Rattle.plan.proofs.Plans.{copied-ready}
-use Rattle.plan.proofs.Plans.{either-plans}
+use Rattle.plan.specs.Code.{madeBy, outcomeOf, Here, Named, Plans, copiedDraft, onePlan, partedPlan}
+use Rattle.drafts.specs.Code.{madeDraft, textDraft, sheetDraft, textPlan, textWork}
+use Rattle.drafts.specs.Code.{literalPlan, literalWork, numberPlan, numberWork}
+use Rattle.plan.proofs.Plans.{named-short, copied-ready, either-plans}
 use Rattle.drafts.proofs.Drafts.{Makes, copied-makes, made-makes, one-plans, piece-plans, parted-plans}
-
--- the range that a label's bytes are cut from
-pub labelBytes-part : (src : List ℕ) (label : Label) → take (label .start + label .len - label .start) (drop (label .start) src) ≡ labelBytes src label
-labelBytes-part src label =
-    let n : label .start + label .len - label .start ≡ label .len = omega arith in
-    rw n
-
--- a label's bytes are as many as it says
-labelBytes-length : (src : List ℕ) (label : Label) → Named src label → length (labelBytes src label) ≤ 64
-labelBytes-length src label name =
-    let fits : label .len ≤ length (drop (label .start) src) = rw (length-drop (label .start) src) (omega (arith, name .inside)) in
-    omega (arith, length-take-le (label .len) (drop (label .start) src) fits, name .short)
-
-pub named-short : (src : List ℕ) (label : Label) (part : List ℕ) → Named src label → part ≡ labelBytes src label → length part ≤ 64
-named-short src label part name e = rw e (labelBytes-length src label name)
 
 -- a part of the text from `at` on is a part of the source
 slice-source : (src : List ℕ) (at from after : ℕ) → at ≤ from → slice at (drop at src) from after ≡ take (after - from) (drop from src)
@@ -89,48 +74,78 @@ gap-fits at len stop from h = omega arith
 
 pub ruleset textDrafts = (textDraft-copied, textDraft-made, gap-fits)
 
-pub textPlan-made : (mode : Mode) (label : Label) (at len : ℕ) (stop : Stop) (from after : ℕ) (part closing : Draft)
-    (kind detail : ℕ) (change : Change) (r : Plan)
-    → part ≡ textDraft stringPart at mode label at len stop from → kind ≡ stopKind mode stop → detail ≡ stopDetail stop
-    → closing ≡ copiedDraft kind detail at from after → change ≡ stopChange stop → r ≡ partedPlan part closing after change
-    → r ≡ textPlan mode label at len stop from after
+pub textPlan-made : (mode : Mode) (part : Draft) (stop : Stop) (from after : ℕ) (closing : Draft) (kind detail : ℕ) (change : Change)
+    (r : Plan)
+    → kind ≡ stopKind mode stop → detail ≡ stopDetail stop → closing ≡ copiedDraft kind detail (part .place) from after
+    → change ≡ stopChange stop → r ≡ partedPlan part closing after change → r ≡ textPlan mode part stop from after
 unfolding textPlan
-textPlan-made mode label at len stop from after part closing kind detail change r p k d l c e = e ∙ rw (p, l, k, d, c)
+textPlan-made mode part stop from after closing kind detail change r k d l c e = e ∙ rw (l, k, d, c)
 
--- a text that was measured lies before its stop
-module _ (mode : Mode) (label : List ℕ) (end : Bool) (at : ℕ) (xs : List ℕ) (scan : text.Scanned)
+-- the text that a scan measured
+record Measures (r : unit.Reading) (len : ℕ) (stop : Stop) (from after : ℕ) : Type 0 where
+  value : List ℕ
+  same : r ≡ unit.Text value stop from after
+  size : len ≡ length value
+
+measures : (scan : Scanned) (r : unit.Reading) (len : ℕ) (stop : Stop) (from after : ℕ) → scan ≡ text-scans.measured r
+    → scan ≡ Scanned.Text len stop from after → Measures r len stop from after
+unfolding text-scans.measured
+measures scan (unit.Text value stop′ from′ after′) len stop from after s a =
+    let z : Scanned.Text len stop from after ≡ Scanned.Text (length value) stop′ from′ after′ = sym a ∙ s in
+    let v : stop′ ≡ stop = cc in
+    let x : from′ ≡ from = cc in
+    let y : after′ ≡ after = cc in
+    let w : len ≡ length value = cc in
+    record { value = value; same = rw (v, x, y); size = w }
+measures scan (unit.Refused number place) len stop from after s a =
+    let z : Scanned.Text len stop from after ≡ Scanned.Refused number place = sym a ∙ s in
+    absurd (let y : _≡_ {A = ℕ} 0 1 = cc in omega arith)
+measures scan unit.Wait len stop from after s a =
+    let z : Scanned.Text len stop from after ≡ Scanned.Wait = sym a ∙ s in
+    absurd (let y : _≡_ {A = ℕ} 0 1 = cc in omega arith)
+
+-- it lies before its stop
+module _ (mode : Mode) (label : List ℕ) (end : Bool) (at : ℕ) (xs : List ℕ) (scan : Scanned)
     (s : scan ≡ text-scans.measured (unit.textAt mode label end at xs)) (len : ℕ) (stop : Stop) (from after : ℕ)
-    (a : scan ≡ text.Scanned.Text len stop from after) where
-  text-placed : (at + len + unit.gap stop ≤ from) × (from ≤ after)
-  unfolding text-scans.measured
-  text-placed =
-      go (unit.textAt mode label end at xs) (unit-inside.text-inside mode label end at xs) (text-own mode label end at xs) (sym a ∙ s)
-    where
-      go : (r : unit.Reading) → unit-inside.InsideReading at (at + length xs) r → OwnReading at xs r
-          → text.Scanned.Text len stop from after ≡ text-scans.measured r → (at + len + unit.gap stop ≤ from) × (from ≤ after)
-      go (unit.Text value stop′ from′ after′) i o h =
-          let z : text.Scanned.Text len stop from after ≡ text.Scanned.Text (length value) stop′ from′ after′ = h in
-          let w : len ≡ length value = cc in
-          let v : stop ≡ stop′ = cc in
-          let x : from ≡ from′ = cc in
-          let y : after ≡ after′ = cc in
-          rw (w, v, x, y) (o .fits, i .order)
-      go (unit.Refused number place) i o h =
-          let z : text.Scanned.Text len stop from after ≡ text.Scanned.Refused number place = h in
-          absurd (let y : _≡_ {A = ℕ} 0 1 = cc in omega arith)
-      go unit.Wait i o h =
-          let z : text.Scanned.Text len stop from after ≡ text.Scanned.Wait = h in
-          absurd (let y : _≡_ {A = ℕ} 0 1 = cc in omega arith)
+    (a : scan ≡ Scanned.Text len stop from after) where
+  text-found : Measures (unit.textAt mode label end at xs) len stop from after
+  text-found = measures scan (unit.textAt mode label end at xs) len stop from after s a
+
+  text-placed : TextStands (isLiteral mode) at (at + length xs) xs (text-found .value) stop from after
+  text-placed = rw (text-found .same) at (text-stands mode label end at xs)
 
   pub text-fits : at + len + unit.gap stop ≤ from
-  text-fits = text-placed .0
+  text-fits = rw (text-found .size) (text-placed .fits)
 
   pub text-order : from ≤ after
-  text-order = text-placed .1
+  text-order = text-placed .order
+
+-- a reading whose texts make such drafts makes the outcome of a text
+module _ (mode : Mode) (src : List ℕ) (end : Bool) (at : ℕ) (draft : ℕ → Stop → ℕ → Draft) (read : unit.Reading)
+    (makes : (value : List ℕ) (stop : Stop) (from after : ℕ) → read ≡ unit.Text value stop from after
+    → Makes src end (piece stringPart at value) (draft (length value) stop from)) where
+  read-plans : (r : unit.Reading) → read ≡ r → unit-inside.InsideReading at (length src) r
+      → Plans src end (texted mode at (drop at src) r) (textWork mode draft (text-scans.measured r))
+  unfolding texted textWork textPlan text-scans.measured madeBy outcomeOf
+  read-plans (unit.Text value stop from after) e i =
+      rw (slice-source src at from after (omega (arith, i .narrow)))
+      (parted-plans src end after (stopChange stop) stringPart at value _
+      (λ k. copiedDraft (stopKind mode stop) (stopDetail stop) k from after)
+      (makes value stop from after e)
+      (λ k. copied-ready src end (stopKind mode stop) (stopDetail stop) k from after (i .order) (i .inside)))
+  read-plans (unit.Refused number place) e i = record { told = refl; ready = tt }
+  read-plans unit.Wait e i = record { told = refl; ready = tt }
+
+  scan-plans : unit-inside.InsideReading at (length src) read → (scan arm : Scanned) → scan ≡ text-scans.measured read → scan ≡ arm
+      → (r : Plan) → r ≡ textWork mode draft arm → Plans src end (texted mode at (drop at src) read) r
+  scan-plans i scan arm s a r e =
+      let work : r ≡ textWork mode draft (text-scans.measured read) = e ∙ rw (← a, s) in
+      rw work (read-plans read refl i)
 
 module _ (mode : Mode) (src : List ℕ) (label : Label) (end : Bool) (at : ℕ) (here : Here src at) (name : Named src label) where
-  text-read : unit-inside.InsideReading at (length src) (unit.textAt mode (labelBytes src label) end at (drop at src))
-  text-read = rw (all-left src at (here .inside)) at (unit-inside.text-inside mode (labelBytes src label) end at (drop at src))
+  text-read : StandsReading (isLiteral mode) at (length src) (drop at src)
+      (unit.textAt mode (labelBytes src label) end at (drop at src))
+  text-read = rw (all-left src at (here .inside)) at (text-stands mode (labelBytes src label) end at (drop at src))
 
   -- copied or made, the draft of a text makes its piece
   text-makes : (kind place : ℕ) (value : List ℕ) (stop : Stop) (from after : ℕ)
@@ -138,94 +153,97 @@ module _ (mode : Mode) (src : List ℕ) (label : Label) (end : Bool) (at : ℕ) 
       → Makes src end (piece kind place value) (textDraft kind place mode label at (length value) stop from)
   unfolding textDraft madeBy text-scans.valueOf
   text-makes kind place value stop from after e =
-      let i : unit-inside.ReadInside at (length src) (unit-inside.amountOf stop) value from after = rw e at text-read in
+      let i : TextStands (isLiteral mode) at (length src) (drop at src) value stop from after = rw e at text-read in
       choice (Makes src end (piece kind place value)) (eqb (at + length value) (unit.textEnd stop from)) _ _
-      (λ t. copied-makes src end kind place value at (length value) (omega (arith, i .narrow, i .order, i .inside))
+      (λ t. copied-makes src end kind place value at (length value) (omega (arith, i .fits, i .order, i .inside))
       (text-copied mode (labelBytes src label) end at (drop at src) value stop from after e (eqb-true _ _ t)))
       (λ t. made-makes src end kind place value (Making.Text mode label) at from (record { start = here .inside; name = name }) (rw e))
 
-  text-plans : (r : unit.Reading) → unit.textAt mode (labelBytes src label) end at (drop at src) ≡ r
-      → unit-inside.InsideReading at (length src) r
-      → Plans src end (texted mode at (drop at src) r) (textWork mode label at (text-scans.measured r))
-  unfolding texted textWork textPlan text-scans.measured madeBy outcomeOf
-  text-plans (unit.Text value stop from after) e i =
-      rw (slice-source src at from after (omega (arith, i .narrow)))
-      (parted-plans src end after (stopChange stop) stringPart at value _
-      (copiedDraft (stopKind mode stop) (stopDetail stop) at from after)
-      (text-makes stringPart at value stop from after e)
-      (copied-ready src end (stopKind mode stop) (stopDetail stop) at from after (i .order) (i .inside)))
-  text-plans (unit.Refused number place) e i = record { told = refl; ready = tt }
-  text-plans unit.Wait e i = record { told = refl; ready = tt }
-
-  module _ (part : List ℕ) (p : part ≡ labelBytes src label) (scan : text.Scanned)
+  module _ (part : List ℕ) (p : part ≡ labelBytes src label) (scan : Scanned)
       (s : scan ≡ text-scans.measured (unit.textAt mode part end at (drop at src))) where
-    pub text-arm : (arm : text.Scanned) (r : Plan) → scan ≡ arm → r ≡ textWork mode label at arm
+    pub text-arm : (arm : Scanned) (r : Plan) → scan ≡ arm → r ≡ textWork mode (textDraft stringPart at mode label at) arm
         → Plans src end (textMode mode (labelBytes src label) end at (drop at src)) r
     unfolding textMode
     text-arm arm r a e =
-        let work : r ≡ textWork mode label at (text-scans.measured (unit.textAt mode (labelBytes src label) end at (drop at src))) =
-        e ∙ rw (← a, s, p) in
-        rw work (text-plans (unit.textAt mode (labelBytes src label) end at (drop at src)) refl text-read)
+        scan-plans mode src end at (textDraft stringPart at mode label at) (unit.textAt mode (labelBytes src label) end at (drop at src))
+        (text-makes stringPart at)
+        (rw (all-left src at (here .inside)) at (unit-inside.text-inside mode (labelBytes src label) end at (drop at src)))
+        scan arm (s ∙ rw p) a r e
 
-pub ruleset texts = (named-short, text-arm, text-fits, text-order)
+    pub text-parted : (len : ℕ) (stop : Stop) (from after : ℕ) (d : Draft) (r : Plan) → scan ≡ Scanned.Text len stop from after
+        → d ≡ textDraft stringPart at mode label at len stop from → r ≡ textPlan mode d stop from after
+        → Plans src end (textMode mode (labelBytes src label) end at (drop at src)) r
+    unfolding textWork
+    text-parted len stop from after d r a m e = text-arm (Scanned.Text len stop from after) r a (e ∙ rw m)
+
+pub ruleset texts = (named-short, text-arm, text-parted, text-fits, text-order)
 
 -- ---- sheets
 
-pub sheetPlan-made : (label : Label) (at len : ℕ) (ind : Indentation) (amount from after : ℕ) (part closing : Draft)
-    (kind : ℕ) (r : Plan)
-    → part ≡ madeDraft stringPart at (Making.Sheet label) at from len → kind ≡ docKind ind
-    → closing ≡ copiedDraft kind amount at from after → r ≡ partedPlan part closing after (Change.Swap Frame.Scripting)
-    → r ≡ sheetPlan label at len ind amount from after
-unfolding sheetPlan
-sheetPlan-made label at len ind amount from after part closing kind r p k l e = e ∙ rw (p, l, k)
+module _ (at len : ℕ) (stop : Stop) (from width : ℕ) (w : width ≡ stopDetail stop) (d : Draft) where
+  pub sheetDraft-copied : width ≡ 0 → d ≡ copiedDraft stringPart 0 at at (at + len) → d ≡ sheetDraft at len stop from
+  unfolding sheetDraft
+  sheetDraft-copied z e = e ∙ rw (← w, eq-eqb width 0 z)
 
-module _ (src : List ℕ) (label : Label) (end : Bool) (at : ℕ) (here : Here src at) (name : Named src label) where
-  sheet-read : sheet-inside.InsideReading at (length src) (sheets.sheetAt (labelBytes src label) end at (drop at src))
-  sheet-read = rw (all-left src at (here .inside)) at (sheet-inside.sheet-inside (labelBytes src label) end at (drop at src))
+  pub sheetDraft-made : (blank : ℕ) → (width ≡ 0 → ⊥) → blank ≡ blankOf stop
+      → d ≡ madeDraft stringPart at (Making.Sheet blank width) at (from - width) len → d ≡ sheetDraft at len stop from
+  unfolding sheetDraft
+  sheetDraft-made blank z b e = e ∙ rw (b, ← w, ne-eqb width 0 z)
 
-  sheet-plans : (r : sheets.Reading) → sheets.sheetAt (labelBytes src label) end at (drop at src) ≡ r
-      → sheet-inside.InsideReading at (length src) r
-      → Plans src end (sheeted at (drop at src) r) (sheetWork label at (sheet-scans.measured r))
-  unfolding sheeted sheetWork sheetPlan sheet-scans.measured sheet-scans.valueOf madeBy outcomeOf
-  sheet-plans (sheets.Sheet value ind amount from after) e i =
-      rw (slice-source src at from after (omega (arith, i .narrow)))
-      (parted-plans src end after (Change.Swap Frame.Scripting) stringPart at value _
-      (copiedDraft (docKind ind) amount at from after)
-      (made-makes src end stringPart at value (Making.Sheet label) at from (record { start = here .inside; name = name }) (rw e))
-      (copied-ready src end (docKind ind) amount at from after (i .order) (i .inside)))
-  sheet-plans (sheets.Refused number place) e i = record { told = refl; ready = tt }
-  sheet-plans sheets.Wait e i = record { told = refl; ready = tt }
+pub sheetDraft-fits : (at len : ℕ) (stop : Stop) (from width : ℕ) → width ≡ stopDetail stop
+    → at + len + stopDetail stop ≤ from → width ≤ from
+sheetDraft-fits at len stop from width w h = omega arith
 
-  module _ (part : List ℕ) (p : part ≡ labelBytes src label) (scan : sheet.Scanned)
-      (s : scan ≡ sheet-scans.measured (sheets.sheetAt part end at (drop at src))) where
-    pub sheet-arm : (arm : sheet.Scanned) (r : Plan) → scan ≡ arm → r ≡ sheetWork label at arm
+pub ruleset sheetDrafts = (sheetDraft-copied, sheetDraft-made, sheetDraft-fits)
+
+module _ (src : List ℕ) (label : Label) (end : Bool) (at : ℕ) (here : Here src at) where
+  sheet-read : StandsSheet (length (labelBytes src label)) at (length src) (drop at src)
+      (sheetAt (labelBytes src label) end at (drop at src))
+  sheet-read = rw (all-left src at (here .inside)) at (sheet-stands (labelBytes src label) end at (drop at src))
+
+  sheet-makes : (value : List ℕ) (stop : Stop) (from after : ℕ)
+      → sheetAt (labelBytes src label) end at (drop at src) ≡ unit.Text value stop from after
+      → Makes src end (piece stringPart at value) (sheetDraft at (length value) stop from)
+  unfolding sheetDraft stopDetail madeBy
+  sheet-makes value stop from after e =
+      let x : SheetStands (length (labelBytes src label)) at (length src) (drop at src) value stop from after = rw e at sheet-read in
+      rw (x .label)
+      (choice (Makes src end (piece stringPart at value)) (eqb (x .amount) 0) _ _
+      (λ t. copied-makes src end stringPart at value at (length value) (omega (arith, x .narrow, x .sized, x .inside))
+      (sheet-copied (length (labelBytes src label)) at (length src) (drop at src) value stop from after x (eqb-true _ _ t)))
+      (λ t. made-makes src end stringPart at value (Making.Sheet (blankOf (Stop.Label (x .ind) (x .amount))) (x .amount)) at (from - x .amount)
+      (record { order = omega (arith, x .narrow); inside = omega (arith, x .sized, x .inside) })
+      (sym (x .same))))
+
+  module _ (part : List ℕ) (p : part ≡ labelBytes src label) (scan : Scanned)
+      (s : scan ≡ text-scans.measured (sheetAt part end at (drop at src))) where
+    pub sheet-arm : (arm : Scanned) (r : Plan) → scan ≡ arm → r ≡ textWork Mode.Nowdoc (sheetDraft at) arm
         → Plans src end (nowdoc session.Reading.Sheet (labelBytes src label) end at (drop at src)) r
     unfolding nowdoc
     sheet-arm arm r a e =
-        let work : r ≡ sheetWork label at (sheet-scans.measured (sheets.sheetAt (labelBytes src label) end at (drop at src))) =
-        e ∙ rw (← a, s, p) in
-        rw work (sheet-plans (sheets.sheetAt (labelBytes src label) end at (drop at src)) refl sheet-read)
+        scan-plans Mode.Nowdoc src end at (sheetDraft at) (sheetAt (labelBytes src label) end at (drop at src)) sheet-makes
+        (rw (all-left src at (here .inside)) at (sheet-inside (labelBytes src label) end at (drop at src))) scan arm (s ∙ rw p) a r e
 
-    pub sheet-order : (len : ℕ) (ind : Indentation) (amount from after : ℕ) → scan ≡ sheet.Scanned.Sheet len ind amount from after
-        → from ≤ after
-    unfolding sheet-scans.measured
-    sheet-order len ind amount from after a = go (sheets.sheetAt (labelBytes src label) end at (drop at src)) sheet-read (sym a ∙ s ∙ rw p)
-      where
-        go : (r : sheets.Reading) → sheet-inside.InsideReading at (length src) r
-            → sheet.Scanned.Sheet len ind amount from after ≡ sheet-scans.measured r → from ≤ after
-        go (sheets.Sheet value ind′ amount′ from′ after′) i h =
-            let z : sheet.Scanned.Sheet len ind amount from after ≡ sheet.Scanned.Sheet (length value) ind′ amount′ from′ after′ = h in
-            let x : from ≡ from′ = cc in
-            let y : after ≡ after′ = cc in
-            omega (arith, i .order)
-        go (sheets.Refused number place) i h =
-            let z : sheet.Scanned.Sheet len ind amount from after ≡ sheet.Scanned.Refused number place = h in
-            absurd (let y : _≡_ {A = ℕ} 0 1 = cc in omega arith)
-        go sheets.Wait i h =
-            let z : sheet.Scanned.Sheet len ind amount from after ≡ sheet.Scanned.Wait = h in
-            absurd (let y : _≡_ {A = ℕ} 0 1 = cc in omega arith)
+    module _ (len : ℕ) (stop : Stop) (from after : ℕ) (a : scan ≡ Scanned.Text len stop from after) where
+      pub sheet-parted : (d : Draft) (r : Plan) → d ≡ sheetDraft at len stop from → r ≡ textPlan Mode.Nowdoc d stop from after
+          → Plans src end (nowdoc session.Reading.Sheet (labelBytes src label) end at (drop at src)) r
+      unfolding textWork
+      sheet-parted d r m e = sheet-arm (Scanned.Text len stop from after) r a (e ∙ rw m)
 
-pub ruleset sheeting = (named-short, sheet-arm, sheet-order)
+      sheet-found : Measures (sheetAt (labelBytes src label) end at (drop at src)) len stop from after
+      sheet-found = measures scan _ len stop from after (s ∙ rw p) a
+
+      sheet-placed : SheetStands (length (labelBytes src label)) at (length src) (drop at src) (sheet-found .value) stop from after
+      sheet-placed = rw (sheet-found .same) at sheet-read
+
+      pub sheet-fits : at + len + stopDetail stop ≤ from
+      unfolding stopDetail
+      sheet-fits = rw (sheet-placed .label) (omega (arith, sheet-found .size, sheet-placed .narrow))
+
+      pub sheet-order : from ≤ after
+      sheet-order = omega (arith, sheet-placed .sized)
+
+pub ruleset sheeting = (named-short, sheet-arm, sheet-parted, sheet-fits, sheet-order)
 
 pub nowdoc-arm : (nowdocs arm : session.Reading) (src label : List ℕ) (end : Bool) (at : ℕ) (xs : List ℕ) (r : Plan) → nowdocs ≡ arm
     → Plans src end (nowdoc arm label end at xs) r → Plans src end (nowdoc nowdocs label end at xs) r
@@ -266,7 +284,7 @@ module _ (kind place : ℕ) (mode : Mode) (src : List ℕ) (end : Bool) (at : �
   literal-plans (unit.Refused number fault) e = record { told = refl; ready = tt }
   literal-plans unit.Wait e = record { told = refl; ready = tt }
 
-  pub literal-arm : (scan arm : text.Scanned) (r : Plan) → scan ≡ text-scans.measured (unit.textAt mode [] end at (drop at src))
+  pub literal-arm : (scan arm : Scanned) (r : Plan) → scan ≡ text-scans.measured (unit.textAt mode [] end at (drop at src))
       → scan ≡ arm → r ≡ literalWork kind place mode at arm
       → Plans src end (literal kind place (unit.textAt mode [] end at (drop at src))) r
   literal-arm scan arm r s a e =

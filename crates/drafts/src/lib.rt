@@ -8,6 +8,7 @@ use plan::Plan;
 use state::Frame;
 use state::Label;
 use state::Reading;
+use text::Scanned;
 use unit::Follow;
 use unit::Indentation;
 use unit::Mode;
@@ -22,8 +23,8 @@ ghost use Rattle.number.specs.Numbers.{numberAt};
 ghost use Rattle.outcome.specs.Texts.{docKind, quoteKind, stopKind, stopDetail, variableChange, stopChange, isLeft, numberKind};
 ghost use Rattle.outcome.specs.Texts.{literal, numbered};
 ghost use Rattle.outcome.specs.Steps.{textMode, nowdoc};
-ghost use Rattle.plan.specs.Code.{Here, Named, Plans, copiedDraft};
-ghost use Rattle.drafts.specs.Code.{madeDraft, textDraft, textPlan, sheetPlan, literalPlan};
+ghost use Rattle.plan.specs.Code.{Here, Named, Plans};
+ghost use Rattle.drafts.specs.Code.{madeDraft, textDraft, sheetDraft, textPlan, literalPlan};
 
 // The kind of an EndDocString by its indentation, which is never mixed.
 fn doc_kind(ind: Indentation) -> u32
@@ -113,16 +114,6 @@ fn stop_change(stop: Stop) -> Change
     }
 }
 
-// The bytes that a label names.
-fn label_bytes(src: &[u8], label: Label) -> &[u8]
-    requires { ⌜ Named (now src) label ⌝ }
-    ensures { λ r. ⌜ now r ≡ labelBytes (now (src .entry)) label ⌝ }
-{
-    let start = label.start as usize;
-    let len = label.len as usize;
-    &src[start..start + len]
-}
-
 // A token whose value is made: `len` bytes.
 fn made_draft(kind: u32, place: usize, making: Making, from: usize, to: usize, len: usize) -> Draft
     ensures { λ r. ⌜ r ≡ madeDraft kind place making from to len ⌝ }
@@ -135,22 +126,6 @@ fn made_draft(kind: u32, place: usize, making: Making, from: usize, to: usize, l
         from,
         to,
         len,
-    }
-}
-
-// A token whose value is the source's own bytes, with a detail.
-fn copied_draft(kind: u32, detail: usize, place: usize, from: usize, to: usize) -> Draft
-    requires { ⌜ from ≤ to ⌝ }
-    ensures { λ r. ⌜ r ≡ copiedDraft kind detail place from to ⌝ }
-{
-    Draft {
-        kind,
-        detail,
-        place,
-        making: Making::Copied,
-        from,
-        to,
-        len: to - from,
     }
 }
 
@@ -187,27 +162,32 @@ fn text_draft(
     ensures { λ r. ⌜ r ≡ textDraft kind place mode label at len stop from ⌝ }
 {
     if at + len == text_end(stop, from) {
-        return plan::copied(kind, place, at, at + len);
+        return plan::copied(kind, 0, place, at, at + len);
     }
     made_draft(kind, place, Making::Text { mode, label }, at, from, len)
 }
 
-// A mode's text of `len` bytes from `at` on, and what ends it. Both tokens bear the span where the call began.
-fn text_plan(
-    mode: Mode,
-    label: Label,
-    at: usize,
-    len: usize,
-    stop: Stop,
-    from: usize,
-    after: usize,
-) -> Plan
-    requires { ⌜ (at + len + gap stop ≤ from) × (from ≤ after) ⌝ }
-    ensures { λ r. ⌜ r ≡ textPlan mode label at len stop from after ⌝ }
+// A sheet's value of `len` bytes: its rows up to the closing line. Without an indentation it is the source's own bytes.
+fn sheet_draft(at: usize, len: usize, stop: Stop, from: usize) -> Draft
+    requires { ⌜ at + len + stopDetail stop ≤ from ⌝ }
+    ensures { λ r. ⌜ r ≡ sheetDraft at len stop from ⌝ }
 {
-    let part = text_draft(token::STRING_PART, at, mode, label, at, len, stop, from);
+    let width = stop_detail(stop);
+    if width == 0 {
+        return plan::copied(token::STRING_PART, 0, at, at, at + len);
+    }
+    let blank = sheet::blank_of(stop);
+    let making = Making::Sheet { blank, width };
+    made_draft(token::STRING_PART, at, making, at, from - width, len)
+}
+
+// A mode's text, and what ends it. Both tokens bear the span where the call began.
+fn text_plan(mode: Mode, part: Draft, stop: Stop, from: usize, after: usize) -> Plan
+    requires { ⌜ from ≤ after ⌝ }
+    ensures { λ r. ⌜ r ≡ textPlan mode part stop from after ⌝ }
+{
     let kind = stop_kind(mode, stop);
-    let closing = copied_draft(kind, stop_detail(stop), at, from, after);
+    let closing = plan::copied(kind, stop_detail(stop), part.place, from, after);
     plan::parted(part, closing, after, stop_change(stop))
 }
 
@@ -216,35 +196,20 @@ pub fn text_mode(mode: Mode, src: &[u8], label: Label, at: usize, end: bool) -> 
     requires { ⌜ Here (now src) at × Named (now src) label ⌝ }
     ensures { λ r. ⌜ Plans (now (src .entry)) end (textMode mode (labelBytes (now (src .entry)) label) end at (drop at (now (src .entry)))) r ⌝ }
 {
-    let scan = text::scan_text(mode, src, label_bytes(src, label), at, end);
+    let scan = text::scan_text(mode, src, plan::label_bytes(src, label), at, end);
     match scan {
-        text::Scanned::Text {
+        Scanned::Text {
             len,
             stop,
             from,
             after,
-        } => text_plan(mode, label, at, len, stop, from, after),
-        text::Scanned::Refused { number, place } => Plan::Refused { number, place },
-        text::Scanned::Wait => Plan::Wait,
+        } => {
+            let part = text_draft(token::STRING_PART, at, mode, label, at, len, stop, from);
+            text_plan(mode, part, stop, from, after)
+        }
+        Scanned::Refused { number, place } => Plan::Refused { number, place },
+        Scanned::Wait => Plan::Wait,
     }
-}
-
-// A sheet of `len` bytes from `at` on, and the label that closes it.
-fn sheet_plan(
-    label: Label,
-    at: usize,
-    len: usize,
-    ind: Indentation,
-    amount: usize,
-    from: usize,
-    after: usize,
-) -> Plan
-    requires { ⌜ from ≤ after ⌝ }
-    ensures { λ r. ⌜ r ≡ sheetPlan label at len ind amount from after ⌝ }
-{
-    let part = made_draft(token::STRING_PART, at, Making::Sheet(label), at, from, len);
-    let closing = copied_draft(doc_kind(ind), amount, at, from, after);
-    plan::parted(part, closing, after, Change::Swap(Frame::Scripting))
 }
 
 // A nowdoc block read as a sheet.
@@ -252,17 +217,19 @@ fn sheet_mode(src: &[u8], label: Label, at: usize, end: bool) -> Plan
     requires { ⌜ Here (now src) at × Named (now src) label ⌝ }
     ensures { λ r. ⌜ Plans (now (src .entry)) end (nowdoc Reading.Sheet (labelBytes (now (src .entry)) label) end at (drop at (now (src .entry)))) r ⌝ }
 {
-    let scan = sheet::scan_sheet(src, label_bytes(src, label), at, end);
+    let scan = sheet::scan_sheet(src, plan::label_bytes(src, label), at, end);
     match scan {
-        sheet::Scanned::Sheet {
+        Scanned::Text {
             len,
-            indentation,
-            amount,
+            stop,
             from,
             after,
-        } => sheet_plan(label, at, len, indentation, amount, from, after),
-        sheet::Scanned::Refused { number, place } => Plan::Refused { number, place },
-        sheet::Scanned::Wait => Plan::Wait,
+        } => {
+            let part = sheet_draft(at, len, stop, from);
+            text_plan(Mode::Nowdoc, part, stop, from, after)
+        }
+        Scanned::Refused { number, place } => Plan::Refused { number, place },
+        Scanned::Wait => Plan::Wait,
     }
 }
 
@@ -327,14 +294,14 @@ pub fn literal(kind: u32, place: usize, mode: Mode, src: &[u8], at: usize, end: 
 {
     let scan = text::scan_text(mode, src, &src[0..0], at, end);
     match scan {
-        text::Scanned::Text {
+        Scanned::Text {
             len,
             stop,
             from,
             after,
         } => literal_plan(kind, place, mode, at, len, stop, from, after),
-        text::Scanned::Refused { number, place } => Plan::Refused { number, place },
-        text::Scanned::Wait => Plan::Wait,
+        Scanned::Refused { number, place } => Plan::Refused { number, place },
+        Scanned::Wait => Plan::Wait,
     }
 }
 

@@ -173,8 +173,8 @@ fn tag_plan(at: usize, kind: OpenTagKind, place: usize) -> Plan
     ensures { λ r. ⌜ r ≡ tagPlan at kind place ⌝ }
 {
     let after = place + tag_length(kind);
-    let text = plan::copied(token::INLINE_HTML, at, at, place);
-    let tag = plan::copied(tag_kind(kind), place, place, after);
+    let text = plan::copied(token::INLINE_HTML, 0, at, at, place);
+    let tag = plan::copied(tag_kind(kind), 0, place, place, after);
     plan::parted(text, tag, after, Change::Swap(Frame::Scripting))
 }
 
@@ -183,7 +183,7 @@ fn over_plan(at: usize, hi: usize) -> Plan
     requires { ⌜ at ≤ hi ⌝ }
     ensures { λ r. ⌜ r ≡ overPlan at hi ⌝ }
 {
-    let text = plan::copied(token::INLINE_HTML, at, at, hi);
+    let text = plan::copied(token::INLINE_HTML, 0, at, at, hi);
     Plan::Told(Work {
         drafts: Drafts::One(text),
         after: hi,

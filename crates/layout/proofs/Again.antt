@@ -1,15 +1,16 @@
 -- Theorems on sessions as numbers. Assumes nothing.
+--   choices-flags, choices-again, number-again   choices and the numbers whose bits are flags stand for each other, one for one
 --   session-again              reading what was written gives the session again
 --   held-in                    what is read is such a session, whatever the numbers
 --   good-session, no-session   numbers that are no session are refused: 11 for a source or tables that are too large, else 12
-use Prim.Native.Nat.{ℕ, zero, suc, _≤_}
+use Prim.Native.Nat.{ℕ, zero, suc, _≤_, _<_, _%_}
 use mathlib.Core.Path.{_≡_, refl, sym, _∙_}
 use mathlib.Core.Bool.{Bool, true, false, _&&_, false≢true}
 use mathlib.Core.List.{List, [], _∷_, _++_}
 use native.Mathlib.Omega.{arith}
-use lib.Dec.{leb, eqb}
+use lib.Dec.{eqb}
 use lib.ListN.{length, getD, take, drop}
-use borrow.Author.Tests.{eqb-true}
+use borrow.Author.Tests.{eqb-true, eqb-false, lt-ltb, ltb-true}
 use Rattle.byte.specs.Words.{if_then_else_, every}
 use Rattle.byte.specs.Laid.{laid}
 use Rattle.byte.specs.Refusals.{tooLarge, badSession}
@@ -18,11 +19,12 @@ use Rattle.state.specs.declared.Label.{Label}
 use Rattle.state.specs.declared.Frame.{Frame}
 use Rattle.state.specs.declared.Slot.{Slot}
 use Rattle.state.specs.declared.Reading.{Reading}
+use Rattle.state.specs.declared.Choices.{Choices}
 use Rattle.state.specs.declared.Session.{Session}
-use Rattle.state.specs.Bounds.{isLabel, isFrame, isBottom, noSlot, isSlot, isStack, isWithin, isGood}
+use Rattle.state.specs.Bounds.{isLabel, isFrame, isBottom, noSlot, isSlot, isStack, isWithin, isGood, noLabel}
 use Rattle.state.specs.Gates.{sourceFits, tablesFit, gateRefusal, lentRefusal}
 use Rattle.state.proofs.Bounds.{isWithin-facts}
-use Rattle.layout.specs.Sessions.{noLabel, frameNumber, labelOf, framesNumbers, readingNumber, numbersOf, isLabelNumbers, labelIn, frameIn, framesIn, readingIn, depthIn, sessionIn, isFrameNumbers, areSlots, isSession}
+use Rattle.layout.specs.Sessions.{frameNumber, labelOf, framesNumbers, readingFlag, choicesNumber, numbersOf, isLabelNumbers, labelIn, frameIn, framesIn, readingIn, areChoices, choicesIn, depthIn, sessionIn, isFrameNumbers, areSlots, isSession}
 use Rattle.layout.proofs.Sessions.{length-framesIn}
 
 -- a label's numbers have 16 bits
@@ -55,21 +57,43 @@ frames-again (slot ∷ slots) rest h =
     let first = frame-again (slot .frame) (&&-left (isHeld slot) (every isHeld slots) h) in
     rw (first, frames-again slots rest (&&-right (isHeld slot) (every isHeld slots) h))
 
-reading-again : (reading : Reading) → readingIn (readingNumber reading) ≡ reading
-unfolding readingIn readingNumber
+-- a reading's flag is 0 or 1, and gives the reading again
+readingFlag-small : (reading : Reading) → readingFlag reading < 2
+unfolding readingFlag
+readingFlag-small Reading.Ported = omega arith
+readingFlag-small Reading.Sheet = omega arith
+
+reading-again : (reading : Reading) → readingIn (readingFlag reading) ≡ reading
+unfolding readingIn readingFlag
 reading-again Reading.Ported = refl
 reading-again Reading.Sheet = refl
 
-depth-again : (depth : ℕ) (reading : Reading) → depthIn depth (readingNumber reading) ≡ depth
-unfolding depthIn readingNumber
-depth-again depth Reading.Ported = refl
-depth-again depth Reading.Sheet = refl
+flag-again : (flag : ℕ) → flag < 2 → readingFlag (readingIn flag) ≡ flag
+unfolding readingFlag readingIn
+flag-again flag h =
+    choice (λ (r : Reading). readingFlag r ≡ flag) (eqb flag 0) Reading.Ported Reading.Sheet (λ e. sym (eqb-true flag 0 e))
+    (λ e. omega (arith, eqb-false flag 0 e))
+
+pub choices-flags : (choices : Choices) → areChoices (choicesNumber choices) ≡ true
+choices-flags choices = lt-ltb _ 2 (readingFlag-small (choices .nowdocs))
+
+pub choices-again : (choices : Choices) → choicesIn (choicesNumber choices) ≡ choices
+choices-again choices =
+    let e : choicesNumber choices % 2 ≡ readingFlag (choices .nowdocs) = omega (arith, readingFlag-small (choices .nowdocs)) in
+    rw (e, reading-again (choices .nowdocs))
+
+pub number-again : (number : ℕ) → areChoices number ≡ true → choicesNumber (choicesIn number) ≡ number
+number-again number h = flag-again (number % 2) (omega arith) ∙ omega (arith, ltb-true number 2 h)
+
+depth-again : (depth : ℕ) (choices : Choices) → depthIn depth (choicesNumber choices) ≡ depth
+unfolding depthIn
+depth-again depth choices = rw (choices-flags choices)
 
 module _ (s : Session) (h : Held s) where
   numbers-again : (rest : List ℕ) → sessionIn (numbersOf s ++ rest) ≡ s
   numbers-again rest =
       let all : framesIn 64 (framesNumbers 64 (s .frames) ++ rest) ≡ s .frames = rw (← h .slots) (frames-again (s .frames) rest (h .labels)) in
-      rw (all, depth-again (s .depth) (s .nowdocs), reading-again (s .nowdocs))
+      rw (all, depth-again (s .depth) (s .choices), choices-again (s .choices))
 
   pub session-again : (lent : List ℕ) → sessionIn (laid lent 0 (numbersOf s)) ≡ s
   unfolding laid
@@ -134,10 +158,10 @@ slots-good src (suc count) (suc most) numbers h e =
     let rest = every (isSlot src) (take count (framesIn most (drop 3 numbers))) in
     &&-both _ _ (frameIn-good src (getD numbers 0 0) (getD numbers 1 0) (getD numbers 2 0) (&&-left (isFrame src f) rest e)) (slots-good src count most (drop 3 numbers) (omega arith) (&&-right (isFrame src f) rest e))
 
-depth-some : (depth reading : ℕ) → 1 ≤ depthIn depth reading → (leb reading 1 ≡ true) × (depthIn depth reading ≡ depth)
+depth-some : (depth choices : ℕ) → 1 ≤ depthIn depth choices → (areChoices choices ≡ true) × (depthIn depth choices ≡ depth)
 unfolding depthIn
-depth-some depth reading =
-    choice (λ (d : ℕ). 1 ≤ d → (leb reading 1 ≡ true) × (d ≡ depth)) (leb reading 1) depth 0 (λ e h. (e, refl)) (λ e h. absurd (omega arith))
+depth-some depth choices =
+    choice (λ (d : ℕ). 1 ≤ d → (areChoices choices ≡ true) × (d ≡ depth)) (areChoices choices) depth 0 (λ e h. (e, refl)) (λ e h. absurd (omega arith))
 
 pub good-session : (src numbers : List ℕ) → isGood src (sessionIn numbers) ≡ true → isSession numbers ≡ true
 unfolding isGood isSession isStack

@@ -1,22 +1,24 @@
 -- A session's numbers on each way through the functions that read and write them. Assumes nothing.
-use Prim.Native.Nat.{ℕ, zero, suc, _+_, _*_, _-_, _≤_, _<_}
+use Prim.Native.Nat.{ℕ, zero, suc, _+_, _*_, _-_, _%_, _≤_, _<_}
 use mathlib.Core.Path.{_≡_, refl, sym, ap, _∙_}
+use mathlib.Core.Bool.{Bool, true, false, not}
 use mathlib.Core.List.{List, [], _∷_, _++_}
 use native.Mathlib.Omega.{arith}
 use native.Mathlib.Numerals.{add-one}
 use native.Mathlib.Nat.{add-zero, add-comm}
 use lib.ListN.{length, getD, take, drop, set, length-append, length-set}
 use lib.Seq.{sets-eq, getD-drop, drop-drop, take-all, take-suc-set}
-use borrow.Author.Tests.{le-leb, lt-leb, eq-eqb, ne-eqb}
+use borrow.Author.Tests.{le-leb, lt-leb, eq-eqb, ne-eqb, not-true, not-false}
 use Rattle.byte.specs.Laid.{laid}
 use Rattle.byte.proofs.Laid.{laid-append, laid-rest, length-laid, Writing, writing-first, writing-on, writing-end}
 use Rattle.state.specs.declared.Label.{Label}
 use Rattle.state.specs.declared.Frame.{Frame}
 use Rattle.state.specs.declared.Slot.{Slot}
 use Rattle.state.specs.declared.Reading.{Reading}
+use Rattle.state.specs.declared.Choices.{Choices}
 use Rattle.state.specs.declared.Session.{Session}
-use Rattle.state.specs.Bounds.{noSlot}
-use Rattle.layout.specs.Sessions.{noLabel, frameNumber, labelOf, slotNumbers, framesNumbers, readingNumber, headNumbers, numbersOf, labelIn, frameIn, slotIn, framesIn, readingIn, depthIn, sessionIn}
+use Rattle.state.specs.Bounds.{noSlot, noLabel}
+use Rattle.layout.specs.Sessions.{frameNumber, labelOf, slotNumbers, framesNumbers, readingFlag, choicesNumber, headNumbers, numbersOf, labelIn, frameIn, slotIn, framesIn, readingIn, areChoices, choicesIn, depthIn, sessionIn}
 
 -- a label in two numbers
 module _ (start len : ℕ) where
@@ -62,25 +64,28 @@ slotIn-at numbers at f e =
     let first : getD (drop at numbers) 0 0 ≡ getD numbers at 0 = getD-drop at numbers 0 0 ∙ rw (add-zero at) in
     rw (e, first, getD-drop at numbers 1 0, getD-drop at numbers 2 0)
 
-module _ (number : ℕ) where
-  pub readingIn-ported : number ≡ 0 → Reading.Ported ≡ readingIn number
+module _ (flag : ℕ) where
+  pub readingIn-ported : flag ≡ 0 → Reading.Ported ≡ readingIn flag
   unfolding readingIn
-  readingIn-ported h = rw (eq-eqb number 0 h)
+  readingIn-ported h = rw (eq-eqb flag 0 h)
 
-  pub readingIn-sheet : (number ≡ 0 → ⊥) → Reading.Sheet ≡ readingIn number
+  pub readingIn-sheet : (flag ≡ 0 → ⊥) → Reading.Sheet ≡ readingIn flag
   unfolding readingIn
-  readingIn-sheet h = rw (ne-eqb number 0 h)
+  readingIn-sheet h = rw (ne-eqb flag 0 h)
 
 pub ruleset readings = (readingIn-ported, readingIn-sheet)
 
-module _ (depth reading : ℕ) where
-  pub depthIn-none : 1 < reading → 0 ≡ depthIn depth reading
-  unfolding depthIn
-  depthIn-none h = rw (lt-leb reading 1 h)
+pub choicesIn-flags : (number : ℕ) (nowdocs : Reading) → nowdocs ≡ readingIn (number % 2) → record { nowdocs = nowdocs } ≡ choicesIn number
+choicesIn-flags number nowdocs e = rw e
 
-  pub depthIn-some : reading ≤ 1 → depth ≡ depthIn depth reading
+module _ (depth choices : ℕ) (flag : Bool) (e : flag ≡ areChoices choices) where
+  pub depthIn-none : not flag ≡ true → 0 ≡ depthIn depth choices
   unfolding depthIn
-  depthIn-some h = rw (le-leb reading 1 h)
+  depthIn-none h = rw (← e, not-true flag h)
+
+  pub depthIn-some : not flag ≡ false → depth ≡ depthIn depth choices
+  unfolding depthIn
+  depthIn-some h = rw (← e, not-false flag h)
 
 pub ruleset depths = (depthIn-none, depthIn-some)
 
@@ -124,10 +129,10 @@ module _ (numbers : List ℕ) where
         let all : i ≡ 64 = omega (arith, w .inside) in
         sym (take-all i slots (omega (arith, w .size))) ∙ rw (w .read, all)
 
-    pub reads-session : (depth : ℕ) (reading : Reading) → 64 ≤ i → depth ≡ depthIn (getD numbers 3 0) (getD numbers 6 0)
-        → reading ≡ readingIn (getD numbers 6 0)
-        → record { position = getD numbers 0 0; line = getD numbers 1 0; column = getD numbers 2 0; depth = depth; tokens = getD numbers 4 0; bytes = getD numbers 5 0; frames = slots; nowdocs = reading } ≡ sessionIn numbers
-    reads-session depth reading h d r = rw (reads-end h, d, r)
+    pub reads-session : (depth : ℕ) (choices : Choices) → 64 ≤ i → depth ≡ depthIn (getD numbers 3 0) (getD numbers 6 0)
+        → choices ≡ choicesIn (getD numbers 6 0)
+        → record { position = getD numbers 0 0; line = getD numbers 1 0; column = getD numbers 2 0; depth = depth; tokens = getD numbers 4 0; bytes = getD numbers 5 0; frames = slots; choices = choices } ≡ sessionIn numbers
+    reads-session depth choices h d r = rw (reads-end h, d, r)
 
 pub ruleset reads = (reads-first, reads-inside, reads-on, reads-session)
 
@@ -190,16 +195,13 @@ module _ (l : List ℕ) (v0 v1 v2 v3 v4 : ℕ) where
   unfolding laid
   five-laid h = sets-eq (v0 ∷ v1 ∷ v2 ∷ v3 ∷ v4 ∷ []) l 0 h
 
-pub head-laid : (l : List ℕ) (s : Session) (reading : ℕ) → 7 ≤ length l → reading ≡ readingNumber (s .nowdocs)
-    → set (set (set (set (set (set (set l 0 (s .position)) 1 (s .line)) 2 (s .column)) 3 (s .depth)) 4 (s .tokens)) 5 (s .bytes)) 6 reading ≡ laid l 0 (headNumbers s)
+pub head-laid : (l : List ℕ) (s : Session) (choices : ℕ) → 7 ≤ length l → choices ≡ choicesNumber (s .choices)
+    → set (set (set (set (set (set (set l 0 (s .position)) 1 (s .line)) 2 (s .column)) 3 (s .depth)) 4 (s .tokens)) 5 (s .bytes)) 6 choices ≡ laid l 0 (headNumbers s)
 unfolding laid
-head-laid l s reading h e = rw e (sets-eq (headNumbers s) l 0 h)
+head-laid l s choices h e = rw e (sets-eq (headNumbers s) l 0 h)
 
-pub length-numbersOf : (s : Session) → length (numbersOf s) ≡ 199
-length-numbersOf s = length-append (headNumbers s) (framesNumbers 64 (s .frames)) ∙ rw (length-framesNumbers 64 (s .frames))
-
-pub readingNumber-arm : (reading arm : Reading) (r : ℕ) → reading ≡ arm → r ≡ readingNumber arm → r ≡ readingNumber reading
-readingNumber-arm reading arm r e h = rw e h
+pub readingFlag-arm : (reading arm : Reading) (r : ℕ) → reading ≡ arm → r ≡ readingFlag arm → r ≡ readingFlag reading
+readingFlag-arm reading arm r e h = rw e h
 
 -- the head, and the slots in the rest behind it
 pub session-laid : (l m rest : List ℕ) (s : Session) → 199 ≤ length l → m ≡ laid l 0 (headNumbers s)

@@ -1,26 +1,26 @@
 -- A session as numbers, for hosts in C and Rust (include/puretakoi.h): 199 of them. Position, line, column, depth, the marks of list
--- and pool, the reading; then for each of 64 slots its frame's number, and its label's start and length (0, 0 without a label).
---   frameNumber, labelOf, slotNumbers, framesNumbers, numbersOf   from a session to its numbers
---   labelIn, frameIn, framesIn, readingIn, sessionIn              from any numbers at all to a session
---   isSession                                                     what a session's numbers are
--- What is no frame is read as a text block without a label, and a session with a reading that is none has depth 0: the gate refuses
+-- and pool, the choices as flags; then for each of 64 slots its frame's number, and its label's start and length (0, 0 without a label).
+--   frameNumber, labelOf, slotNumbers, framesNumbers   from a session to its numbers: frames
+--   readingFlag, choicesNumber, numbersOf              choices, and all
+--   labelIn, frameIn, framesIn                         from any numbers at all to a session: frames
+--   readingIn, choicesIn, sessionIn                    choices, and all
+--   areChoices, isSession                              which numbers are choices, and what a session's are
+-- What is no frame is read as a text block without a label, and a session with a bit set that is no flag has depth 0: the gate refuses
 -- both (12), and looks at no slot above the depth. `no-session` says so, and `session-again` that reading what was written gives the
 -- session again (proofs/Again.antt).
-use Prim.Native.Nat.{ℕ, zero, suc}
+use Prim.Native.Nat.{ℕ, zero, suc, _%_}
 use mathlib.Core.Bool.{Bool, true, _&&_, _||_, not}
 use mathlib.Core.List.{List, [], _∷_, _++_}
-use lib.Dec.{leb, eqb}
+use lib.Dec.{leb, ltb, eqb}
 use lib.ListN.{getD, drop}
 use Rattle.byte.specs.Words.{if_then_else_}
 use Rattle.state.specs.declared.Label.{Label}
 use Rattle.state.specs.declared.Frame.{Frame}
 use Rattle.state.specs.declared.Slot.{Slot}
 use Rattle.state.specs.declared.Reading.{Reading}
+use Rattle.state.specs.declared.Choices.{Choices}
 use Rattle.state.specs.declared.Session.{Session}
-use Rattle.state.specs.Bounds.{noSlot}
-
-abbrev pub noLabel : Label
-noLabel = record { start = 0; len = 0 }
+use Rattle.state.specs.Bounds.{noSlot, noLabel}
 
 unfoldable pub frameNumber : Frame → ℕ
 frameNumber Frame.Initial = 0
@@ -53,14 +53,19 @@ unfoldable pub framesNumbers : ℕ → List Slot → List ℕ
 framesNumbers zero frames = []
 framesNumbers (suc count) frames = slotNumbers (getD frames 0 noSlot) ++ framesNumbers count (drop 1 frames)
 
-unfoldable pub readingNumber : Reading → ℕ
-readingNumber Reading.Ported = 0
-readingNumber Reading.Sheet = 1
+-- a reading as a flag, set or not
+unfoldable pub readingFlag : Reading → ℕ
+readingFlag Reading.Ported = 0
+readingFlag Reading.Sheet = 1
+
+-- the choices as flags in one number: 1 nowdoc blocks as sheets
+abbrev pub choicesNumber : Choices → ℕ
+choicesNumber choices = readingFlag (choices .nowdocs)
 
 -- the seven numbers before the slots
 abbrev pub headNumbers : Session → List ℕ
 headNumbers s =
-    s .position ∷ s .line ∷ s .column ∷ s .depth ∷ s .tokens ∷ s .bytes ∷ readingNumber (s .nowdocs) ∷ []
+    s .position ∷ s .line ∷ s .column ∷ s .depth ∷ s .tokens ∷ s .bytes ∷ choicesNumber (s .choices) ∷ []
 
 abbrev pub numbersOf : Session → List ℕ
 numbersOf s = headNumbers s ++ framesNumbers 64 (s .frames)
@@ -94,10 +99,17 @@ framesIn zero numbers = []
 framesIn (suc count) numbers = slotIn numbers ∷ framesIn count (drop 3 numbers)
 
 unfoldable pub readingIn : ℕ → Reading
-readingIn number = if eqb number 0 then Reading.Ported else Reading.Sheet
+readingIn flag = if eqb flag 0 then Reading.Ported else Reading.Sheet
+
+-- no bit is set but flags
+abbrev pub areChoices : ℕ → Bool
+areChoices number = ltb number 2
+
+abbrev pub choicesIn : ℕ → Choices
+choicesIn number = record { nowdocs = readingIn (number % 2) }
 
 unfoldable pub depthIn : ℕ → ℕ → ℕ
-depthIn depth reading = if leb reading 1 then depth else 0
+depthIn depth choices = if areChoices choices then depth else 0
 
 abbrev pub sessionIn : List ℕ → Session
 sessionIn numbers = record {
@@ -108,7 +120,7 @@ sessionIn numbers = record {
   tokens = getD numbers 4 0;
   bytes = getD numbers 5 0;
   frames = framesIn 64 (drop 7 numbers);
-  nowdocs = readingIn (getD numbers 6 0);
+  choices = choicesIn (getD numbers 6 0);
 }
 
 -- a frame's numbers: 0 to 8, and a label's where the frame has one
@@ -121,6 +133,6 @@ areSlots zero numbers = true
 areSlots (suc count) numbers =
     isFrameNumbers (getD numbers 0 0) (getD numbers 1 0) (getD numbers 2 0) && areSlots count (drop 3 numbers)
 
--- a reading, and a frame in each slot up to the depth
+-- choices, and a frame in each slot up to the depth
 unfoldable pub isSession : List ℕ → Bool
-isSession numbers = leb (getD numbers 6 0) 1 && areSlots (getD numbers 3 0) (drop 7 numbers)
+isSession numbers = areChoices (getD numbers 6 0) && areSlots (getD numbers 3 0) (drop 7 numbers)

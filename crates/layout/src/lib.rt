@@ -1,6 +1,7 @@
 // A session as numbers, both ways, and a turn as numbers: what crosses to a host. include/puretakoi.h tells the layout.
 use source::Span;
 use state::Answer;
+use state::Choices;
 use state::Frame;
 use state::Label;
 use state::Reading;
@@ -12,7 +13,7 @@ ghost use mathlib.Core.List.{[], _∷_};
 ghost use Prim.Native.Nat.{_+_, _≤_};
 ghost use lib.ListN.{length, drop};
 ghost use Rattle.byte.specs.Laid.{laid};
-ghost use Rattle.layout.specs.Sessions.{frameNumber, labelOf, slotNumbers, framesNumbers, readingNumber, headNumbers, numbersOf, labelIn, frameIn, slotIn, readingIn, depthIn, sessionIn};
+ghost use Rattle.layout.specs.Sessions.{frameNumber, labelOf, slotNumbers, framesNumbers, readingFlag, choicesNumber, headNumbers, numbersOf, labelIn, frameIn, slotIn, readingIn, areChoices, choicesIn, depthIn, sessionIn};
 ghost use Rattle.layout.specs.Answers.{answerNumbers, refusalIn, Turned, Stored};
 
 // The label in two numbers; one of no bytes where a number has more than 16 bits.
@@ -59,21 +60,37 @@ fn slot_in(numbers: &[u32], at: usize) -> Slot
     }
 }
 
-// The reading of a number.
-pub fn reading_in(number: u32) -> Reading
-    ensures { λ r. ⌜ r ≡ readingIn number ⌝ }
+// The reading that a flag stands for.
+fn reading_in(flag: u32) -> Reading
+    ensures { λ r. ⌜ r ≡ readingIn flag ⌝ }
 {
-    if number == 0 {
+    if flag == 0 {
         return Reading::Ported;
     }
     Reading::Sheet
 }
 
-// The depth; 0, which no session has, where the reading is none.
-fn depth_in(depth: u32, reading: u32) -> u32
-    ensures { λ r. ⌜ r ≡ depthIn depth reading ⌝ }
+// Whether no bit of a number is set but flags.
+pub fn are_choices(number: u32) -> bool
+    ensures { λ r. ⌜ r ≡ areChoices number ⌝ }
 {
-    if 1 < reading {
+    number < 2
+}
+
+// The choices in a number's flags.
+pub fn choices_in(number: u32) -> Choices
+    ensures { λ r. ⌜ r ≡ choicesIn number ⌝ }
+{
+    Choices {
+        nowdocs: reading_in(number % 2),
+    }
+}
+
+// The depth; 0, which no session has, where the choices are none.
+fn depth_in(depth: u32, choices: u32) -> u32
+    ensures { λ r. ⌜ r ≡ depthIn depth choices ⌝ }
+{
+    if !are_choices(choices) {
         return 0;
     }
     depth
@@ -100,7 +117,7 @@ pub fn session_in(numbers: &[u32]) -> Session
         tokens: numbers[4],
         bytes: numbers[5],
         frames,
-        nowdocs: reading_in(numbers[6]),
+        choices: choices_in(numbers[6]),
     }
 }
 
@@ -151,14 +168,22 @@ fn put_slot(numbers: &mut [u32], at: usize, slot: Slot)
     numbers[at + 2] = l.len as u32;
 }
 
-// The number of a reading.
-fn reading_number(reading: Reading) -> u32
-    ensures { λ r. ⌜ r ≡ readingNumber reading ⌝ }
+// The flag of a reading, set or not.
+fn reading_flag(reading: Reading) -> u32
+    ensures { λ r. ⌜ r ≡ readingFlag reading ⌝ }
 {
     match reading {
         Reading::Ported => 0,
         Reading::Sheet => 1,
     }
+}
+
+// The choices as flags in one number.
+fn choices_number(choices: Choices) -> u32
+    ensures { λ r. ⌜ r ≡ choicesNumber choices ⌝ }
+{
+    let nowdocs = choices.nowdocs;
+    reading_flag(nowdocs)
 }
 
 // The 64 slots from a list's start on.
@@ -179,14 +204,14 @@ fn put_head(numbers: &mut [u32], s: Session)
     requires { ⌜ 7 ≤ length (now numbers) ⌝ }
     ensures { λ r. ⌜ now (numbers .exit) ≡ laid (now (numbers .entry)) 0 (headNumbers s) ⌝ }
 {
-    let nowdocs = s.nowdocs;
+    let choices = s.choices;
     numbers[0] = s.position;
     numbers[1] = s.line;
     numbers[2] = s.column;
     numbers[3] = s.depth;
     numbers[4] = s.tokens;
     numbers[5] = s.bytes;
-    numbers[6] = reading_number(nowdocs);
+    numbers[6] = choices_number(choices);
 }
 
 // A session as 199 numbers.

@@ -11,7 +11,7 @@ use native.Mathlib.Omega.{arith}
 use native.Mathlib.Nat.{add-zero}
 use lib.Dec.{leb}
 use lib.ListN.{length, drop}
-use borrow.Author.Tests.{leb-true, eq-eqb, ne-eqb, lt-ltb, not-true, not-false}
+use borrow.Author.Tests.{leb-true, eq-eqb, ne-eqb, not-true, not-false}
 use Rattle.source.specs.Cursor.{origin}
 use Rattle.source.specs.Code.{Reaches}
 use Rattle.source.specs.declared.Span.{Span}
@@ -20,7 +20,7 @@ use Rattle.byte.proofs.Laid.{laid-nil}
 use Rattle.state.specs.declared.Frame.{Frame}
 use Rattle.state.specs.declared.Session.{Session}
 use Rattle.state.specs.declared.Turn.{Turn}
-use Rattle.state.specs.Bounds.{isFrame, isWithin, isStack, isGood, fitsTables}
+use Rattle.state.specs.Bounds.{isFrame, isWithin, isStack, isGood, fitsTables, isScripting}
 use Rattle.state.specs.Gates.{sourceFits, tablesFit, lentRefusal}
 use Rattle.state.specs.Calls.{spanOf, refused, done, moved}
 use Rattle.state.proofs.Bounds.{Within, isWithin-facts}
@@ -32,11 +32,9 @@ use Rattle.unit.specs.Readings.{textAt}
 use Rattle.number.specs.Numbers.{numberAt}
 use Rattle.outcome.specs.declared.Change.{Change}
 use Rattle.outcome.specs.Outcomes.{Outcome, values, goes, limited}
-use Rattle.outcome.specs.Insides.{Inside}
 use Rattle.outcome.specs.Texts.{literal, numbered}
 use Rattle.outcome.specs.Steps.{topFrame, framed, rest, stepOutcome, numberOutcome, singleOutcome, doubleOutcome}
-use Rattle.outcome.proofs.Insides.{frame-inside, number-inside, single-inside, double-inside}
-use Rattle.outcome.proofs.Changes.{Limited, literal-room, numbered-room}
+use Rattle.outcome.proofs.StepWays.{framed-ways, Readable, number-readable, single-readable, double-readable}
 use Rattle.plan.specs.declared.Plan.{Plan}
 use Rattle.plan.specs.Code.{outcomeOf, Plans, Here}
 use Rattle.commit.specs.declared.Next.{Next}
@@ -45,7 +43,7 @@ use Rattle.modes.specs.Code.{Passes}
 use Rattle.commit.specs.Records.{spanAt, records}
 use Rattle.commit.specs.Code.{Cursor, Commits, Committed}
 use Rattle.lexer.specs.Turns.{After, Gives, framesAfter, depthAfter, settled}
-use Rattle.lexer.specs.Calls.{isScripting, gated, stepped, reading}
+use Rattle.lexer.specs.Calls.{gated, stepped, reading}
 use Rattle.lexer.specs.Code.{markOf, turnOf, Stacked, Turning, Settles}
 use Rattle.lexer.proofs.Nexts.{limited-free, settled-next, settled-list, settled-pool}
 
@@ -173,7 +171,7 @@ module _ (src : List ℕ) (s : Session) (l q : List ℕ) where
   stepped-moved z end p w n =
       let o = lent-opened src s (length l) (length q) z in
       let same = settled-moved (o .tokens) (o .bytes) (p .position) in
-      rw (z, w .told n (s .nowdocs) (s .depth) end, same, ← w .span)
+      rw (z, w .told n (s .choices) (s .depth) end, same, ← w .span)
 
 -- what `modes::passed` asks of a cursor
 pub cursor-here : (src : List ℕ) (p : Span) → Cursor src p → Here src (p .position)
@@ -189,7 +187,7 @@ cursor-reaches src p c = record {
 -- ---- the step
 
 module _ (src : List ℕ) (end : Bool) (s : Session) (f : Frame) (t : f ≡ topFrame s) (plan : Plan)
-    (p : Plans src end (framed f src (s .nowdocs) (s .depth) end (s .position) (rest src s)) plan) where
+    (p : Plans src end (framed f src (s .choices) (s .depth) end (s .position) (rest src s)) plan) where
   pub step-gives : (l q : List ℕ) (r : Turn) (l′ q′ : List ℕ)
       → Gives (gated src s l q (settled src s l q (limited (s .depth) (s .position) (outcomeOf src end plan)))) r l′ q′
       → Gives (stepped src end s l q) r l′ q′
@@ -207,12 +205,14 @@ module _ (src : List ℕ) (end : Bool) (s : Session) (l q : List ℕ) (shut : �
     step-top = rw t (top-good src s (lent-opened src s (length l) (length q) (sym e ∙ z) .good))
 
     module _ (plan : Plan)
-        (p : Plans src end (framed f src (s .nowdocs) (s .depth) end (s .position) (rest src s)) plan) where
+        (p : Plans src end (framed f src (s .choices) (s .depth) end (s .position) (rest src s)) plan) where
       pub step-settles : Settles src end s plan (length l) (length q)
       step-settles = record {
         gate = sym e ∙ z;
         ready = p .ready;
-        inside = rw (p .told) (frame-inside src end s (open-here src s l q shut e z .inside) f);
+        inside =
+            let here = open-here src s l q shut e z in
+            rw (p .told) (framed-ways src (s .depth) (s .position) end (here .inside) f (s .choices) .lies);
       }
 
     pub step-moved : (p after : Span) (r : Turn) → p ≡ spanOf s → Passes src f p after → (after .position ≡ s .position → ⊥)
@@ -236,34 +236,6 @@ pub ruleset steps = (
 
 -- ---- the readings
 
--- what enters no frame is not limited
-limited-same : (depth n : ℕ) (o : Outcome) → Limited depth o → limited depth n o ≡ o
-unfolding limited
-limited-same depth n (Outcome.Told pieces after Change.Keep finished) h = refl
-limited-same depth n (Outcome.Told pieces after (Change.Swap f) finished) h = refl
-limited-same depth n (Outcome.Told pieces after (Change.Enter f) finished) h = rw (lt-ltb depth 64 h)
-limited-same depth n (Outcome.Told pieces after Change.Leave finished) h = refl
-limited-same depth n (Outcome.Refused number place) h = refl
-limited-same depth n Outcome.Wait h = refl
-
--- an outcome of a reading: it lies within the source, and enters no frame
-pub record Readable (src : List ℕ) (s : Session) (o : Outcome) : Type 0 where
-  pub inside : s .position ≤ length src → Inside (s .position) (length src) o
-  pub room : Limited (s .depth) o
-
-module _ (src : List ℕ) (end : Bool) (s : Session) where
-  pub number-readable : Readable src s (numberOutcome src end s)
-  unfolding numberOutcome
-  number-readable = record { inside = number-inside src end s; room = numbered-room (s .depth) (s .position) _ }
-
-  pub single-readable : Readable src s (singleOutcome src end s)
-  unfolding singleOutcome
-  single-readable = record { inside = single-inside src end s; room = literal-room (s .depth) literalSingleQuotedString (s .position) _ }
-
-  pub double-readable : Readable src s (doubleOutcome src end s)
-  unfolding doubleOutcome
-  double-readable = record { inside = double-inside src end s; room = literal-room (s .depth) literalDoubleQuotedString (s .position) _ }
-
 module _ (src : List ℕ) (end : Bool) (s : Session) (o : Outcome) (w : Readable src s o) (f : Frame) (t : f ≡ topFrame s)
     (flag : Bool) (b : flag ≡ isScripting f) (n : not flag ≡ false) (plan : Plan) (p : Plans src end o plan) where
   pub read-gives : (l q : List ℕ) (r : Turn) (l′ q′ : List ℕ)
@@ -272,8 +244,7 @@ module _ (src : List ℕ) (end : Bool) (s : Session) (o : Outcome) (w : Readable
   unfolding reading
   read-gives l q r l′ q′ g =
       let k : isScripting (topFrame s) ≡ true = rw t at (sym b) ∙ not-false flag n in
-      let same = limited-same (s .depth) (s .position) o (w .room) in
-      rw k (rw (p .told, same) at g)
+      rw k (rw (p .told, w .free) at g)
 
 module _ (src : List ℕ) (end : Bool) (s : Session) (l q : List ℕ) (o : Outcome)
     (w : Readable src s o) (shut : ℕ) (e : shut ≡ lentRefusal src (length l) (length q) s) where
@@ -296,7 +267,7 @@ module _ (src : List ℕ) (end : Bool) (s : Session) (l q : List ℕ) (shut : �
   read-settles o w p = record {
     gate = sym e ∙ z;
     ready = p .ready;
-    inside = rw (p .told) (w .inside (open-here src s l q shut e z .inside));
+    inside = rw (p .told) (w .ways (open-here src s l q shut e z .inside) .lies);
   }
 
   pub number-settles : Plans src end (numbered (s .position) (numberAt end (s .position) (drop (s .position) src))) plan

@@ -38,7 +38,7 @@ turnWith s x depth frames = record {
     tokens = x .mark .tokens;
     bytes = x .mark .bytes;
     frames = frames;
-    nowdocs = s .nowdocs;
+    choices = s .choices;
   };
 }
 

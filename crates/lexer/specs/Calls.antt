@@ -1,7 +1,7 @@
 -- What step and the three readings give (document 01, "Step", "Refusal numbers"). Order: 11, 12, 10, 6, then 1 to 5 and 13 as the
 -- routine meets them, then 9, 7, 8.
 --   gated                          the gate's refusal, 11 or 12, at the script's beginning; or what the call gives
---   isScripting                    (modes) a reading asks for Scripting on top, else 10
+--   reading                        a reading asks for Scripting on top, else 10
 --   stepped                        the step
 --   readNumber, readSingle, readDouble   the readings
 use Prim.Native.Nat.{ℕ}
@@ -9,6 +9,7 @@ use mathlib.Core.Bool.{Bool}
 use mathlib.Core.List.{List}
 use lib.Dec.{eqb}
 use lib.ListN.{length}
+use Rattle.state.specs.Bounds.{isScripting}
 use Rattle.byte.specs.Words.{if_then_else_}
 use Rattle.source.specs.Cursor.{origin}
 use Rattle.byte.specs.Refusals.{outOfPlace}
@@ -17,7 +18,6 @@ use Rattle.state.specs.Calls.{spanOf}
 use Rattle.state.specs.Gates.{lentRefusal}
 use Rattle.outcome.specs.Outcomes.{Outcome}
 use Rattle.outcome.specs.Steps.{topFrame, stepOutcome, numberOutcome, singleOutcome, doubleOutcome}
-unfoldable pub use Rattle.modes.specs.Code.{isScripting}
 use Rattle.lexer.specs.Turns.{After, refusing, settled}
 
 abbrev pub gated : List ℕ → Session → List ℕ → List ℕ → After → After

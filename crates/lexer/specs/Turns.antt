@@ -57,7 +57,7 @@ changed s p tokens bytes change = record {
   tokens = tokens;
   bytes = bytes;
   frames = framesAfter change (s .depth) (s .frames);
-  nowdocs = s .nowdocs;
+  choices = s .choices;
 }
 
 abbrev pub refusing : ℕ → Span → Session → List ℕ → List ℕ → After

@@ -111,8 +111,8 @@ pub fn step(src: &[u8], end: bool, s: Session, list: &mut [u32], pool: &mut [u8]
     if p.position != s.position {
         return moved(s, p);
     }
-    let nowdocs = s.nowdocs;
-    let plan = modes::plan_at(src, end, f, nowdocs, s.depth, s.position as usize);
+    let choices = s.choices;
+    let plan = modes::plan_at(src, end, f, choices, s.depth, s.position as usize);
     settle(src, end, s, plan, list, pool)
 }
 

@@ -14,8 +14,8 @@ use Rattle.byte.proofs.Tests.{&&-left, &&-right}
 use Rattle.byte.proofs.Words.{drop-one}
 use Rattle.state.specs.declared.Frame.{Frame}
 use Rattle.state.specs.declared.Label.{Label}
-use Rattle.state.specs.declared.Reading.{Reading}
-use Rattle.state.specs.Bounds.{labelBytes, isLabel, isFrame}
+use Rattle.state.specs.declared.Choices.{Choices}
+use Rattle.state.specs.Bounds.{labelBytes, isLabel, isFrame, noLabel}
 use Rattle.token.specs.Kinds.{literalSingleQuotedString, literalDoubleQuotedString}
 use Rattle.unit.specs.declared.Mode.{Mode}
 use Rattle.unit.specs.Readings.{textAt}
@@ -30,8 +30,8 @@ use Rattle.outcome.specs.Comments.{slash, hash}
 use Rattle.outcome.specs.Scripts.{point, word, closeTag, scripting}
 use Rattle.outcome.specs.Steps.{textMode, framed}
 use Rattle.plan.specs.declared.Plan.{Plan}
-use Rattle.plan.specs.Code.{outcomeOf, piecesOf, Named, Plans, noLabel, goesPlan, endingPlan}
-use Rattle.modes.specs.Ends.{finishedPlan}
+use Rattle.plan.specs.Code.{outcomeOf, piecesOf, Named, Plans, goesPlan, endingPlan}
+use Rattle.modes.specs.Code.{finishedPlan}
 use Rattle.plan.proofs.Plans.{goes-plans, wait-plans, ending-plans, sign-plans, last-sign-plans}
 use Rattle.modes.proofs.Looks.{name-small}
 
@@ -253,20 +253,20 @@ module _ (src : List ℕ) (f : Frame) (good : isFrame src f ≡ true) (label : L
 pub noLabel-named : (src : List ℕ) (label : Label) → label ≡ noLabel → Named src label
 noLabel-named src label e = rw e (record { inside = omega arith; short = omega arith })
 
-module _ (f arm : Frame) (src : List ℕ) (nowdocs : Reading) (depth : ℕ) (end : Bool) (at : ℕ) (xs : List ℕ) (r : Plan) where
-  pub framed-arm : f ≡ arm → Plans src end (framed arm src nowdocs depth end at xs) r → Plans src end (framed f src nowdocs depth end at xs) r
+module _ (f arm : Frame) (src : List ℕ) (choices : Choices) (depth : ℕ) (end : Bool) (at : ℕ) (xs : List ℕ) (r : Plan) where
+  pub framed-arm : f ≡ arm → Plans src end (framed arm src choices depth end at xs) r → Plans src end (framed f src choices depth end at xs) r
   framed-arm e p = rw e p
 
 -- a mode that has no label
-module _ (f : Frame) (src : List ℕ) (nowdocs : Reading) (depth : ℕ) (end : Bool) (at : ℕ) (xs : List ℕ) (r : Plan) (label : Label)
+module _ (f : Frame) (src : List ℕ) (choices : Choices) (depth : ℕ) (end : Bool) (at : ℕ) (xs : List ℕ) (r : Plan) (label : Label)
     (l : label ≡ noLabel) where
   pub framed-doubleQuote : f ≡ Frame.DoubleQuote → Plans src end (textMode Mode.DoubleQuote (labelBytes src label) end at xs) r
-      → Plans src end (framed f src nowdocs depth end at xs) r
+      → Plans src end (framed f src choices depth end at xs) r
   unfolding framed
   framed-doubleQuote e p = rw e (rw l at p)
 
   pub framed-shellExec : f ≡ Frame.ShellExec → Plans src end (textMode Mode.ShellExec (labelBytes src label) end at xs) r
-      → Plans src end (framed f src nowdocs depth end at xs) r
+      → Plans src end (framed f src choices depth end at xs) r
   unfolding framed
   framed-shellExec e p = rw e (rw l at p)
 

@@ -9,6 +9,7 @@ use lib.Dec.{eqb, leb}
 use lib.ListN.{length, getD, take, drop, length-drop}
 use lib.Seq.{length-take-le}
 use borrow.Author.Tests.{eqb-true, ne-eqb, leb-true, lt-leb, not-true, not-false}
+use Rattle.state.specs.Bounds.{isScripting}
 use Rattle.byte.specs.Words.{if_then_else_, run, every}
 use Rattle.byte.specs.Bytes.{isDigit, isStart, isLetter, isIdentifier, isNoBreak, isNoneOf}
 use Rattle.source.specs.Code.{RunEnd, LineStart}
@@ -25,7 +26,7 @@ use Rattle.outcome.specs.Lookings.{named}
 use Rattle.outcome.specs.Scripts.{word, scripting}
 use Rattle.outcome.specs.Steps.{framed}
 use Rattle.plan.specs.Code.{Here}
-use Rattle.modes.specs.Code.{isScripting, isOther, PassesAt, Passes}
+use Rattle.modes.specs.Code.{isOther, PassesAt, Passes}
 use Rattle.modes.proofs.Looks.{named-stops}
 
 pub isScripting-arm : (f arm : Frame) (r : Bool) → f ≡ arm → r ≡ isScripting arm → r ≡ isScripting f
@@ -188,7 +189,7 @@ module _ (src : List ℕ) (f : Frame) (p : Span) where
           low = omega arith;
           high = omega (arith, q .inside);
           span = rw count s;
-          told = λ h nowdocs depth end. rw (frame, place) (q .told (λ z. h (omega arith)) depth end);
+          told = λ h choices depth end. rw (frame, place) (q .told (λ z. h (omega arith)) depth end);
         }
 
     pub passes-byte : (r : Span) → k ≡ 1 → r ≡ passedByte p (getD src (p .position) 0) → Passes src f p r

@@ -1,5 +1,6 @@
--- A step at Scripting that only passes bytes: it writes nothing and keeps the frame (document 01, "Step").
---   isScripting   whether a frame is Scripting
+-- The plan where nothing is left to read; and a step at Scripting that only passes bytes: it writes nothing and keeps the
+-- frame (document 01, "Step").
+--   finishedPlan  nothing is left
 --   isOther       a byte of the table's last row, if no identifier starts with it
 --   PassesAt      so many bytes are passed from a place on; 0 tells nothing
 --   Passes        r is the place behind such a step; the cursor p itself tells nothing
@@ -7,7 +8,7 @@
 use Prim.Native.Nat.{ℕ, _+_, _-_, _≤_}
 use Prim.Native.Char.{code}
 use mathlib.Core.Path.{_≡_}
-use mathlib.Core.Bool.{Bool, true, false, not, _&&_}
+use mathlib.Core.Bool.{Bool, true, not, _&&_}
 use mathlib.Core.List.{List}
 use lib.ListN.{length, take, drop}
 use Rattle.byte.specs.Words.{every}
@@ -15,22 +16,16 @@ use Rattle.byte.specs.Bytes.{isDigit, isNoBreak, isNoneOf}
 use Rattle.source.specs.Cursor.{passed}
 use Rattle.source.specs.declared.Span.{Span}
 use Rattle.state.specs.declared.Frame.{Frame}
-use Rattle.state.specs.declared.Reading.{Reading}
+use Rattle.state.specs.declared.Choices.{Choices}
 use Rattle.outcome.specs.declared.Change.{Change}
 use Rattle.outcome.specs.Outcomes.{goes}
 use Rattle.outcome.specs.Scripts.{scripting}
 use Rattle.outcome.specs.Steps.{framed}
+use Rattle.plan.specs.declared.Drafts.{Drafts}
+use Rattle.plan.specs.declared.Plan.{Plan}
 
-unfoldable pub isScripting : Frame → Bool
-isScripting Frame.Scripting = true
-isScripting Frame.Initial = false
-isScripting Frame.DoubleQuote = false
-isScripting Frame.ShellExec = false
-isScripting (Frame.Heredoc label) = false
-isScripting (Frame.Nowdoc label) = false
-isScripting Frame.LookingForVarname = false
-isScripting Frame.LookingForProperty = false
-isScripting Frame.VarOffset = false
+abbrev pub finishedPlan : ℕ → Plan
+finishedPlan at = Plan.Told (record { drafts = Drafts.None; after = at; change = Change.Keep; finished = true })
 
 unfoldable pub isOther : ℕ → Bool
 isOther b =
@@ -49,5 +44,5 @@ pub record Passes (src : List ℕ) (f : Frame) (p r : Span) : Type 0 where
   pub low : p .position ≤ r .position
   pub high : r .position ≤ length src
   pub span : r ≡ passed p (take (r .position - p .position) (drop (p .position) src))
-  pub told : (r .position ≡ p .position → ⊥) → (nowdocs : Reading) (depth : ℕ) (end : Bool)
-      → framed f src nowdocs depth end (p .position) (drop (p .position) src) ≡ goes (r .position) Change.Keep
+  pub told : (r .position ≡ p .position → ⊥) → (choices : Choices) (depth : ℕ) (end : Bool)
+      → framed f src choices depth end (p .position) (drop (p .position) src) ≡ goes (r .position) Change.Keep

@@ -3,8 +3,8 @@
 // In order: LookingForVarname, LookingForProperty and VarOffset (lookings); Scripting's table (scripting); a step of it that only
 // passes bytes (passing); and here the plan of any frame. The text modes are the crate texts, the mode Initial is the crate initial.
 use plan::Plan;
+use state::Choices;
 use state::Frame;
-use state::Reading;
 use unit::Mode;
 ghost use mathlib.Core.Path.{_≡_};
 ghost use mathlib.Core.Bool.{true};
@@ -21,10 +21,11 @@ pub use passing::is_scripting;
 pub use passing::passed;
 
 // The top frame's routine, from a place on.
-pub fn plan_at(src: &[u8], end: bool, f: Frame, nowdocs: Reading, depth: u32, at: usize) -> Plan
+pub fn plan_at(src: &[u8], end: bool, f: Frame, choices: Choices, depth: u32, at: usize) -> Plan
     requires { ⌜ Here (now src) at × (isFrame (now src) f ≡ true) ⌝ }
-    ensures { λ r. ⌜ Plans (now (src .entry)) end (framed f (now (src .entry)) nowdocs depth end at (drop at (now (src .entry)))) r ⌝ }
+    ensures { λ r. ⌜ Plans (now (src .entry)) end (framed f (now (src .entry)) choices depth end at (drop at (now (src .entry)))) r ⌝ }
 {
+    let nowdocs = choices.nowdocs;
     match f {
         Frame::Initial => initial::initial(src, at, end),
         Frame::Scripting => scripting::scripting(src, at, end, depth),

@@ -3,9 +3,10 @@ use source::Span;
 use state::Frame;
 ghost use mathlib.Core.Path.{_≡_};
 ghost use lib.ListN.{length};
+ghost use Rattle.state.specs.Bounds.{isScripting};
 ghost use Rattle.source.specs.Code.{Reaches};
 ghost use Rattle.plan.specs.Code.{Here};
-ghost use Rattle.modes.specs.Code.{isScripting, isOther, PassesAt, Passes};
+ghost use Rattle.modes.specs.Code.{isOther, PassesAt, Passes};
 
 // Whether a frame is Scripting.
 pub fn is_scripting(f: Frame) -> bool

@@ -22,7 +22,7 @@ ghost use Rattle.unit.specs.Readings.{textAt};
 ghost use Rattle.outcome.specs.Texts.{literal};
 ghost use Rattle.outcome.specs.Scripts.{point, word, closeTag, scripting};
 ghost use Rattle.plan.specs.Code.{Here, Plans};
-ghost use Rattle.modes.specs.Ends.{finishedPlan};
+ghost use Rattle.modes.specs.Code.{finishedPlan};
 
 // The opening quote at a place: a literal of this kind.
 fn quoted(kind: u32, mode: Mode, src: &[u8], at: usize, end: bool) -> Plan

@@ -5,10 +5,9 @@
 --   Answers        the same at one part, so that a choice goes way by way
 --   mode-waits, limited-waits   a mode's demand 3; and at each depth, with the limit of 64 frames
 --   waits-along    demand 3 of the rest of a text is demand 3 of the text
---   more-stays     what is told of a part with more announced is told of a longer part with more announced
 use mathlib.Core.Path.{_≡_, refl, sym, ap, _∙_}
 use mathlib.Core.Bool.{Bool, true, false}
-use mathlib.Core.List.{List, [], _∷_, _++_, append-nil, append-assoc}
+use mathlib.Core.List.{List, [], _∷_, _++_, append-nil}
 use Prim.Native.Nat.{ℕ}
 use lib.Dec.{ltb}
 use Rattle.byte.specs.Words.{if_then_else_, every}
@@ -32,18 +31,6 @@ module _ {A : Type 0} (wait : A) (more whole : List ℕ → A) where
         );
         settled = λ k rest. along rest ∙ w .settled (λ z. k (same ∙ z)) rest ∙ sym same;
       }
-
-  pub more-stays : (part rest : List ℕ) → Waits wait more whole part → Waits wait more whole (part ++ rest)
-      → (more part ≡ wait → ⊥) → more (part ++ rest) ≡ more part
-  more-stays part rest w v k = sym (v .settled told []) ∙ longer []
-    where
-      longer : (c : List ℕ) → whole ((part ++ rest) ++ c) ≡ more part
-      longer c = ap whole (append-assoc part rest c) ∙ w .settled k (rest ++ c)
-
-      told : more (part ++ rest) ≡ wait → ⊥
-      told z =
-          let x = v .exactly .0 z in
-          x .apart (longer (x .one) ∙ sym (longer (x .two)))
 
 -- ---- outcomes
 

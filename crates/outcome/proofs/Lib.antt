@@ -3,8 +3,8 @@ pub mod Openings
 pub mod Pieces
 pub mod Comments
 pub mod Ways
-pub mod Insides
-pub mod Changes
+pub mod ScriptWays
+pub mod StepWays
 pub mod Demand
 pub mod TextDemand
 pub mod LookingDemand
@@ -13,4 +13,3 @@ pub mod OpeningDemand
 pub mod CommentDemand
 pub mod ScriptDemand
 pub mod StepDemand
-pub mod Progress

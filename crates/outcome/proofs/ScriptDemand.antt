@@ -13,7 +13,6 @@ use Rattle.state.specs.declared.Frame.{Frame}
 use Rattle.token.specs.Kinds.{literalSingleQuotedString, literalDoubleQuotedString}
 use Rattle.unit.specs.declared.Mode.{Mode}
 use Rattle.unit.proofs.Openings.{oneMore}
-use Rattle.unit.proofs.Stops.{single, double}
 use Rattle.number.specs.Numbers.{Reading, numberAt}
 use Rattle.number.proofs.Values.{numberAt-ends}
 use Rattle.outcome.specs.declared.Change.{Change}
@@ -92,9 +91,9 @@ module _ (n p : ℕ) where
         told-waits
     scripting-answers (b ∷ xs) =
         if-answers p (b is "'")
-        (demands-answers p _ (literal-demands literalSingleQuotedString n Mode.Single single tt (suc n) p) xs)
+        (demands-answers p _ (literal-demands literalSingleQuotedString n Mode.Single refl tt (suc n) p) xs)
         (if-answers p (b is "\"")
-        (demands-answers p _ (literal-demands literalDoubleQuotedString n Mode.Double double tt (suc n) p) xs)
+        (demands-answers p _ (literal-demands literalDoubleQuotedString n Mode.Double refl tt (suc n) p) xs)
         (if-answers p (b is "`") (settled p (goes (suc n) (Change.Swap Frame.ShellExec)) told-waits)
         (if-answers p (isDigit b) (demands-answers p _ (numbered-demands n n p) (b ∷ xs))
         (if-answers p (b is ".") (point-answers xs)

@@ -1,10 +1,10 @@
--- Demand 3 for what is made of a text, a sheet and a number. Assumes nothing.
+-- Demand 3 for what is made of a text and a number. Assumes nothing.
 --   textMode-demands, nowdoc-demands    the text modes, from any position on
 --   literal-demands, numbered-demands   the readings
--- A wait's two continuations are the reading's own, and the outcome tells them apart: of a text and of a sheet by its ending, of a
--- number altogether.
+-- A wait's two continuations are the reading's own, and the outcome tells them apart: of a text by its ending, of a number
+-- altogether.
 use mathlib.Core.Path.{_≡_, refl, sym, ap, _∙_}
-use mathlib.Core.Bool.{Bool, true, false}
+use mathlib.Core.Bool.{Bool, true, false, false≢true}
 use mathlib.Core.List.{List, [], _∷_, _++_}
 use Prim.Native.Nat.{ℕ, _+_, _-_, _≤_}
 use native.Mathlib.Omega.{arith}
@@ -12,34 +12,34 @@ use lib.Dec.{eqb}
 use lib.ListN.{length, drop, length-drop}
 use lib.Seq.{take-append-le, drop-append-le}
 use Rattle.byte.specs.Words.{if_then_else_}
+use Rattle.byte.specs.Demand.{Apart}
 use Rattle.byte.proofs.Demand.{apart-by}
 use Rattle.state.specs.declared.Frame.{Frame}
 use Rattle.state.specs.declared.Reading as state
 use Rattle.token.specs.Kinds.{literalInteger, stringPart}
 use Rattle.unit.specs.declared.Follow.{Follow}
-use Rattle.unit.specs.declared.Indentation.{Indentation}
 use Rattle.unit.specs.declared.Mode.{Mode}
 use Rattle.unit.specs.declared.Stop.{Stop}
 use Rattle.unit.specs.Labels.{Label, Labelled}
 use Rattle.unit.specs.Readings as unit
-use Rattle.unit.proofs.Stays.{Stays, clash}
+use Rattle.unit.proofs.Stays.{Stays}
 use Rattle.unit.proofs.Inside as within
 use Rattle.unit.proofs.Demand.{ending, text-stays, text-endings, text-never-waits}
-use Rattle.unit.proofs.Stops.{Literal, ReadStops, literal-stops}
+use Rattle.unit.proofs.Stands.{isLiteral}
+use Rattle.unit.proofs.Readings.{StandsReading, text-stands}
 use Rattle.number.specs.declared.Literal as kind
 use Rattle.number.specs.Numbers as number
 use Rattle.number.proofs.Values.{numberAt-ends}
 use Rattle.number.proofs.Waiting.{number-waits}
-use Rattle.sheet.specs.Sheets as sheet
-use Rattle.sheet.proofs.Inside as sheetWithin
-use Rattle.sheet.proofs.Demand as sheetDemand
+use Rattle.sheet.specs.Sheets.{sheetAt}
+use Rattle.sheet.proofs.Inside.{sheet-inside}
 use Rattle.sheet.proofs.Demand.{sheet-stays, sheet-endings, sheet-never-waits}
 use Rattle.outcome.specs.declared.Change.{Change}
 use Rattle.outcome.specs.Outcomes.{Piece, Outcome, piece, limited}
-use Rattle.outcome.specs.Texts.{slice, stopChange, variableChange, texted, sheeted, isLeft}
+use Rattle.outcome.specs.Texts.{slice, stopChange, variableChange, texted, isLeft}
 use Rattle.outcome.specs.Texts.{literal, numberKind, numbered}
 use Rattle.outcome.specs.Steps.{textMode, nowdoc}
-use Rattle.outcome.proofs.Demand.{closed, Splits, Demands, told-waits, refused-waits}
+use Rattle.outcome.proofs.Demand.{closed, Demands, told-waits, refused-waits}
 
 -- bytes that a part has are those of a longer text
 pub slice-append : (n : ℕ) (part rest : List ℕ) (from after : ℕ) → n ≤ from → from ≤ after → after ≤ n + length part
@@ -86,84 +86,57 @@ texted-ended p m n xs (unit.Text value (Stop.Label ind amount) from after) = ref
 texted-ended p m n xs (unit.Refused number place) = refl
 texted-ended p m n xs unit.Wait = refl
 
-module _ (m : Mode) (label : List ℕ) (h : Labelled m label) (n : ℕ) where
-  textMode-stays : (part rest : List ℕ) → Stays Outcome.Wait (textMode m label false n part) (textMode m label true n (part ++ rest))
-  unfolding textMode texted
-  textMode-stays part rest k =
-      ap (texted m n (part ++ rest)) (text-stays m label h n part (λ z. k (ap (texted m n part) z)) rest)
-      ∙ texted-append m n part rest (unit.textAt m label false n part) (within.text-inside m label false n part)
+-- what demand 3 asks of a reading from n on
+pub record Reads (n : ℕ) (read : Bool → List ℕ → unit.Reading) : Type 0 where
+  pub inside : (part : List ℕ) → within.InsideReading n (n + length part) (read false part)
+  pub stays : (part : List ℕ) → (read false part ≡ unit.Wait → ⊥) → (rest : List ℕ) → read true (part ++ rest) ≡ read false part
+  pub endings : (p : ℕ) (part : List ℕ) → read false part ≡ unit.Wait → Apart (λ xs. ending p (read true xs)) part
+  pub told : (xs : List ℕ) → read true xs ≡ unit.Wait → ⊥
 
-  textMode-splits : (p : ℕ) (part : List ℕ) → textMode m label false n part ≡ Outcome.Wait
-      → Splits p (λ c. textMode m label true n (part ++ c))
-  unfolding textMode
-  textMode-splits p part k =
-      apart-by (λ xs. ending p (unit.textAt m label true n xs)) (λ c. closed p (textMode m label true n (part ++ c))) part []
-      (λ one two e. sym (texted-ended p m n (part ++ one) _) ∙ ap ended e ∙ texted-ended p m n (part ++ two) _)
-      (text-endings m label h n p part (texted-wait m n part _ k))
+module _ (m : Mode) (n : ℕ) (read : Bool → List ℕ → unit.Reading) (h : Reads n read) where
+  texted-stays : (part rest : List ℕ)
+      → Stays Outcome.Wait (texted m n part (read false part)) (texted m n (part ++ rest) (read true (part ++ rest)))
+  unfolding texted
+  texted-stays part rest k =
+      ap (texted m n (part ++ rest)) (h .stays part (λ z. k (ap (texted m n part) z)) rest)
+      ∙ texted-append m n part rest (read false part) (h .inside part)
 
-  pub textMode-demands : (p : ℕ) → Demands p (λ end. textMode m label end n)
-  unfolding textMode
-  textMode-demands p =
+  texted-demands : (p : ℕ) → Demands p (λ end xs. texted m n xs (read end xs))
+  texted-demands p =
       record {
-        stays = textMode-stays;
-        splits = textMode-splits p;
-        told = λ xs e. text-never-waits m label h n xs (texted-wait m n xs _ e);
+        stays = texted-stays;
+        splits = λ part k.
+            apart-by (λ xs. ending p (read true xs)) (λ c. closed p (texted m n (part ++ c) (read true (part ++ c)))) part []
+            (λ one two e. sym (texted-ended p m n (part ++ one) _) ∙ ap ended e ∙ texted-ended p m n (part ++ two) _)
+            (h .endings p part (texted-wait m n part _ k));
+        told = λ xs e. h .told xs (texted-wait m n xs _ e);
       }
 
--- ---- sheets
+pub textMode-demands : (m : Mode) (label : List ℕ) → Labelled m label → (n p : ℕ) → Demands p (λ end. textMode m label end n)
+unfolding textMode
+textMode-demands m label h n p =
+    texted-demands m n (λ end. unit.textAt m label end n)
+    (record {
+      inside = within.text-inside m label false n;
+      stays = text-stays m label h n;
+      endings = text-endings m label h n;
+      told = text-never-waits m label h n;
+    })
+    p
 
-sheeted-wait : (n : ℕ) (xs : List ℕ) (r : sheet.Reading) → sheeted n xs r ≡ Outcome.Wait → r ≡ sheet.Wait
-unfolding sheeted
-sheeted-wait n xs (sheet.Sheet value ind amount from after) e = told-waits e
-sheeted-wait n xs (sheet.Refused number place) e = refused-waits e
-sheeted-wait n xs sheet.Wait e = refl
-
-sheeted-append : (n : ℕ) (part rest : List ℕ) (r : sheet.Reading) → sheetWithin.InsideReading n (n + length part) r
-    → sheeted n (part ++ rest) r ≡ sheeted n part r
-unfolding sheeted
-sheeted-append n part rest (sheet.Sheet value ind amount from after) x =
-    rw (slice-append n part rest from after (omega (arith, x .narrow)) (x .order) (x .inside))
-sheeted-append n part rest (sheet.Refused number place) x = refl
-sheeted-append n part rest sheet.Wait x = refl
-
--- what an outcome tells of a sheet's ending
-abbrev sheetEnded : Outcome → sheet.Reading
-sheetEnded (Outcome.Told pieces after change finished) = sheet.Sheet [] Indentation.None 0 0 0
-sheetEnded (Outcome.Refused number place) = sheet.Refused number place
-sheetEnded Outcome.Wait = sheet.Wait
-
-sheeted-ended : (p n : ℕ) (xs : List ℕ) (r : sheet.Reading) → sheetEnded (closed p (sheeted n xs r)) ≡ sheetDemand.ending r
-unfolding sheeted limited
-sheeted-ended p n xs (sheet.Sheet value ind amount from after) = refl
-sheeted-ended p n xs (sheet.Refused number place) = refl
-sheeted-ended p n xs sheet.Wait = refl
-
-module _ (label : List ℕ) (h : Label label) (n : ℕ) where
-  sheeted-stays : (part rest : List ℕ)
-      → Stays Outcome.Wait (sheeted n part (sheet.sheetAt label false n part))
-      (sheeted n (part ++ rest) (sheet.sheetAt label true n (part ++ rest)))
-  unfolding sheeted
-  sheeted-stays part rest k =
-      ap (sheeted n (part ++ rest)) (sheet-stays label h n part (λ z. k (ap (sheeted n part) z)) rest)
-      ∙ sheeted-append n part rest (sheet.sheetAt label false n part) (sheetWithin.sheet-inside label false n part)
-
-  sheeted-splits : (p : ℕ) (part : List ℕ) → sheeted n part (sheet.sheetAt label false n part) ≡ Outcome.Wait
-      → Splits p (λ c. sheeted n (part ++ c) (sheet.sheetAt label true n (part ++ c)))
-  sheeted-splits p part k =
-      apart-by (λ xs. sheetDemand.ending (sheet.sheetAt label true n xs))
-      (λ c. closed p (sheeted n (part ++ c) (sheet.sheetAt label true n (part ++ c)))) part []
-      (λ one two e. sym (sheeted-ended p n (part ++ one) _) ∙ ap sheetEnded e ∙ sheeted-ended p n (part ++ two) _)
-      (sheet-endings label h n part (sheeted-wait n part _ k))
-
-  pub nowdoc-demands : (p : ℕ) (nowdocs : state.Reading) → Demands p (λ end. nowdoc nowdocs label end n)
-  unfolding nowdoc
-  nowdoc-demands p state.Reading.Ported = textMode-demands Mode.Nowdoc label h n p
-  nowdoc-demands p state.Reading.Sheet =
-      record {
-        stays = sheeted-stays;
-        splits = sheeted-splits p;
-        told = λ xs e. sheet-never-waits label n xs (sheeted-wait n xs _ e);
-      }
+pub nowdoc-demands : (label : List ℕ) → Label label → (n p : ℕ) (nowdocs : state.Reading)
+    → Demands p (λ end. nowdoc nowdocs label end n)
+unfolding nowdoc
+nowdoc-demands label h n p state.Reading.Ported = textMode-demands Mode.Nowdoc label h n p
+nowdoc-demands label h n p state.Reading.Sheet =
+    texted-demands Mode.Nowdoc n (λ end. sheetAt label end n)
+    (record {
+      inside = sheet-inside label false n;
+      stays = sheet-stays label h n;
+      endings = sheet-endings label h n;
+      told = sheet-never-waits label n;
+    })
+    p
 
 -- ---- literals
 
@@ -181,24 +154,30 @@ module _ (form place : ℕ) where
   literal-wait (unit.Refused number fault) e = refused-waits e
   literal-wait unit.Wait e = refl
 
-  literal-ended : (p : ℕ) (r : unit.Reading) → ReadStops r → ended (closed p (literal form place r)) ≡ ending p r
+  -- a literal enters no frame
+  entered : {A : Type 0} → true ≡ false → A
+  entered e = absurd (false≢true (sym e))
+
+  literal-ended : (p n hi : ℕ) (xs : List ℕ) (r : unit.Reading) → StandsReading true n hi xs r
+      → ended (closed p (literal form place r)) ≡ ending p r
   unfolding literal isLeft limited
-  literal-ended p (unit.Text value Stop.Quote from after) x = refl
-  literal-ended p (unit.Text value Stop.Interpolation from after) x = refl
-  literal-ended p (unit.Text value Stop.DollarLeftBrace from after) x = clash cc
-  literal-ended p (unit.Text value Stop.LeftBrace from after) x = clash cc
-  literal-ended p (unit.Text value (Stop.Variable Follow.Other) from after) x = refl
-  literal-ended p (unit.Text value (Stop.Variable Follow.Offset) from after) x = clash cc
-  literal-ended p (unit.Text value (Stop.Variable Follow.Property) from after) x = clash cc
-  literal-ended p (unit.Text value (Stop.Label ind amount) from after) x = refl
-  literal-ended p (unit.Refused number fault) x = refl
-  literal-ended p unit.Wait x = refl
+  literal-ended p n hi xs (unit.Text value Stop.Quote from after) x = refl
+  literal-ended p n hi xs (unit.Text value Stop.Interpolation from after) x = refl
+  literal-ended p n hi xs (unit.Text value Stop.DollarLeftBrace from after) x = entered (x .keeps refl)
+  literal-ended p n hi xs (unit.Text value Stop.LeftBrace from after) x = entered (x .keeps refl)
+  literal-ended p n hi xs (unit.Text value (Stop.Variable Follow.Other) from after) x = refl
+  literal-ended p n hi xs (unit.Text value (Stop.Variable Follow.Offset) from after) x = entered (x .keeps refl)
+  literal-ended p n hi xs (unit.Text value (Stop.Variable Follow.Property) from after) x = entered (x .keeps refl)
+  literal-ended p n hi xs (unit.Text value (Stop.Label ind amount) from after) x = refl
+  literal-ended p n hi xs (unit.Refused number fault) x = refl
+  literal-ended p n hi xs unit.Wait x = refl
 
   -- a literal has no label
-  module _ (m : Mode) (l : Literal m) (h : Labelled m []) (n : ℕ) where
+  module _ (m : Mode) (l : isLiteral m ≡ true) (h : Labelled m []) (n : ℕ) where
     read-ended : (p : ℕ) (xs : List ℕ)
         → ended (closed p (literal form place (unit.textAt m [] true n xs))) ≡ ending p (unit.textAt m [] true n xs)
-    read-ended p xs = literal-ended p (unit.textAt m [] true n xs) (literal-stops true m l [] n xs)
+    read-ended p xs =
+        literal-ended p n (n + length xs) xs (unit.textAt m [] true n xs) (rw l at (text-stands m [] true n xs))
 
     pub literal-demands : (p : ℕ) → Demands p (λ end xs. literal form place (unit.textAt m [] end n xs))
     unfolding literal

@@ -9,6 +9,7 @@ use mathlib.Core.List.{List, []}
 use lib.ListN.{getD, drop}
 use Rattle.state.specs.declared.Frame.{Frame}
 use Rattle.state.specs.declared.Reading.{Reading}
+use Rattle.state.specs.declared.Choices.{Choices}
 use Rattle.state.specs.declared.Session.{Session}
 use Rattle.state.specs.Bounds.{labelBytes, noSlot}
 use Rattle.token.specs.Kinds.{literalSingleQuotedString, literalDoubleQuotedString}
@@ -18,7 +19,7 @@ use Rattle.number.specs.Numbers.{numberAt}
 use Rattle.sheet.specs.Sheets.{sheetAt}
 use Rattle.outcome.specs.Outcomes.{Outcome, limited}
 use Rattle.outcome.specs.Initials.{initial}
-use Rattle.outcome.specs.Texts.{texted, sheeted, literal, numbered}
+use Rattle.outcome.specs.Texts.{texted, literal, numbered}
 use Rattle.outcome.specs.Scripts.{scripting}
 use Rattle.outcome.specs.Lookings.{lookingForVarname, lookingForProperty, varOffset}
 
@@ -32,18 +33,18 @@ textMode m label end n xs = texted m n xs (textAt m label end n xs)
 -- a Nowdoc frame, as the session has it read
 unfoldable pub nowdoc : Reading → List ℕ → Bool → ℕ → List ℕ → Outcome
 nowdoc Reading.Ported label end n xs = textMode Mode.Nowdoc label end n xs
-nowdoc Reading.Sheet label end n xs = sheeted n xs (sheetAt label end n xs)
+nowdoc Reading.Sheet label end n xs = texted Mode.Nowdoc n xs (sheetAt label end n xs)
 
-unfoldable pub framed : Frame → List ℕ → Reading → ℕ → Bool → ℕ → List ℕ → Outcome
-framed Frame.Initial src nowdocs depth end n xs = initial end n xs
-framed Frame.Scripting src nowdocs depth end n xs = scripting depth end n xs
-framed Frame.DoubleQuote src nowdocs depth end n xs = textMode Mode.DoubleQuote [] end n xs
-framed Frame.ShellExec src nowdocs depth end n xs = textMode Mode.ShellExec [] end n xs
-framed (Frame.Heredoc label) src nowdocs depth end n xs = textMode Mode.Heredoc (labelBytes src label) end n xs
-framed (Frame.Nowdoc label) src nowdocs depth end n xs = nowdoc nowdocs (labelBytes src label) end n xs
-framed Frame.LookingForVarname src nowdocs depth end n xs = lookingForVarname end n xs
-framed Frame.LookingForProperty src nowdocs depth end n xs = lookingForProperty end n xs
-framed Frame.VarOffset src nowdocs depth end n xs = varOffset end n xs
+unfoldable pub framed : Frame → List ℕ → Choices → ℕ → Bool → ℕ → List ℕ → Outcome
+framed Frame.Initial src choices depth end n xs = initial end n xs
+framed Frame.Scripting src choices depth end n xs = scripting depth end n xs
+framed Frame.DoubleQuote src choices depth end n xs = textMode Mode.DoubleQuote [] end n xs
+framed Frame.ShellExec src choices depth end n xs = textMode Mode.ShellExec [] end n xs
+framed (Frame.Heredoc label) src choices depth end n xs = textMode Mode.Heredoc (labelBytes src label) end n xs
+framed (Frame.Nowdoc label) src choices depth end n xs = nowdoc (choices .nowdocs) (labelBytes src label) end n xs
+framed Frame.LookingForVarname src choices depth end n xs = lookingForVarname end n xs
+framed Frame.LookingForProperty src choices depth end n xs = lookingForProperty end n xs
+framed Frame.VarOffset src choices depth end n xs = varOffset end n xs
 
 -- what is left to read
 abbrev pub rest : List ℕ → Session → List ℕ
@@ -51,7 +52,7 @@ rest src s = drop (s .position) src
 
 unfoldable pub stepOutcome : List ℕ → Bool → Session → Outcome
 stepOutcome src end s =
-    limited (s .depth) (s .position) (framed (topFrame s) src (s .nowdocs) (s .depth) end (s .position) (rest src s))
+    limited (s .depth) (s .position) (framed (topFrame s) src (s .choices) (s .depth) end (s .position) (rest src s))
 
 unfoldable pub numberOutcome : List ℕ → Bool → Session → Outcome
 numberOutcome src end s = numbered (s .position) (numberAt end (s .position) (rest src s))

@@ -1,9 +1,8 @@
--- What a reading of a text, a sheet or a number comes to in a step (document 01, "Rules easily misread", "Sheet reading", "Token list").
+-- What a reading of a text or a number comes to in a step (document 01, "Rules easily misread", "Token list").
 --   slice        the bytes of xs, which starts at n, from one place up to another
 --   docKind      the kind of an EndDocString by its indentation
 --   stopKind, stopDetail, stopChange   what ends a text in a mode: the token's kind and detail, and the change of frame
 --   texted       a mode's text: its part, if it is not empty, and the token behind it; both bear the span where the call began
---   sheeted      a sheet's block, likewise
 --   literal      a quoted string: closed, it is one token; before an interpolation its part, empty or not
 --   numbered     a number
 use Prim.Native.Nat.{ℕ, _-_}
@@ -21,7 +20,6 @@ use Rattle.unit.specs.declared.Stop.{Stop}
 use Rattle.unit.specs.Readings as unit
 use Rattle.number.specs.declared.Literal.{Literal}
 use Rattle.number.specs.Numbers as number
-use Rattle.sheet.specs.Sheets as sheet
 use Rattle.outcome.specs.declared.Change.{Change}
 use Rattle.outcome.specs.Outcomes.{Outcome, piece, unlessEmpty}
 
@@ -85,17 +83,6 @@ texted m n xs (unit.Text value stop from after) =
     false
 texted m n xs (unit.Refused number place) = Outcome.Refused number place
 texted m n xs unit.Wait = Outcome.Wait
-
-unfoldable pub sheeted : ℕ → List ℕ → sheet.Reading → Outcome
-sheeted n xs (sheet.Sheet value ind amount from after) =
-    Outcome.Told
-    (unlessEmpty stringPart n value
-    ++ record { kind = docKind ind; detail = amount; place = n; value = slice n xs from after } ∷ [])
-    after
-    (Change.Swap Frame.Scripting)
-    false
-sheeted n xs (sheet.Refused number place) = Outcome.Refused number place
-sheeted n xs sheet.Wait = Outcome.Wait
 
 -- an interpolation is left to `double_quote`
 unfoldable pub isLeft : Stop → Bool

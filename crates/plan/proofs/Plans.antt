@@ -5,17 +5,30 @@ use mathlib.Core.Bool.{Bool, true, false}
 use mathlib.Core.List.{List, [], _∷_, _++_}
 use native.Mathlib.Omega.{arith}
 use native.Mathlib.Numerals.{add-one}
-use lib.ListN.{length, drop, length-take, length-drop}
+use lib.ListN.{length, take, drop, length-take, length-drop}
 use borrow.Author.Tests.{eq-eqb, ne-eqb}
 use Rattle.byte.specs.Words.{if_then_else_}
+use Rattle.state.specs.declared.Label.{Label}
+use Rattle.state.specs.Bounds.{labelBytes}
 use Rattle.outcome.specs.declared.Change.{Change}
 use Rattle.outcome.specs.Outcomes.{Outcome, unlessEmpty, goes, ending}
 use Rattle.outcome.specs.Lookings.{token}
 use Rattle.plan.specs.declared.Draft.{Draft}
 use Rattle.plan.specs.declared.Drafts.{Drafts}
 use Rattle.plan.specs.declared.Plan.{Plan}
-use Rattle.plan.specs.Code.{madeBy, made, pieceOf, piecesOf, outcomeOf, Ready, Plans, copiedDraft}
+use Rattle.plan.specs.Code.{madeBy, made, pieceOf, piecesOf, outcomeOf, Named, Ready, Plans, copiedDraft}
 use Rattle.plan.specs.Code.{workPlan, goesPlan, onePlan, partedPlan, endingPlan}
+
+-- the bytes that a label names, as a part of the source
+pub labelBytes-part : (src : List ℕ) (label : Label)
+    → take (label .start + label .len - label .start) (drop (label .start) src) ≡ labelBytes src label
+labelBytes-part src label =
+    let k : label .start + label .len - label .start ≡ label .len = omega arith in
+    rw k
+
+pub named-short : (src : List ℕ) (label : Label) (part : List ℕ) → Named src label → part ≡ labelBytes src label
+    → length part ≤ 64
+named-short src label part name e = rw e (simp (length-take, length-drop) (omega (arith, name .short)))
 
 module _ (part d : Draft) (after : ℕ) (change : Change) where
   pub partedPlan-empty : (r : Plan) → part .len ≡ 0 → r ≡ onePlan d after change → r ≡ partedPlan part d after change

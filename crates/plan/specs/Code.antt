@@ -17,8 +17,7 @@ use Rattle.state.specs.Bounds.{labelBytes}
 use Rattle.unit.specs.Readings.{textAt}
 use Rattle.text.specs.Code as text
 use Rattle.number.specs.Numbers as number
-use Rattle.sheet.specs.Sheets.{sheetAt}
-use Rattle.sheet.specs.Code as sheet
+use Rattle.sheet.specs.Code.{sheetOf}
 use Rattle.outcome.specs.declared.Change.{Change}
 use Rattle.outcome.specs.Outcomes.{Piece, Outcome}
 use Rattle.plan.specs.declared.Making.{Making}
@@ -30,7 +29,8 @@ unfoldable pub madeBy : Making → List ℕ → Bool → ℕ → ℕ → List �
 madeBy Making.Copied src end from to = take (to - from) (drop from src)
 madeBy (Making.Text mode label) src end from to = text.valueOf (textAt mode (labelBytes src label) end from (drop from src))
 madeBy Making.Number src end from to = number.valueOf src from to
-madeBy (Making.Sheet label) src end from to = sheet.valueOf (sheetAt (labelBytes src label) end from (drop from src))
+madeBy (Making.Sheet blank width) src end from to =
+    sheetOf (record { blank = blank; width = width }) from (take (to - from) (drop from src))
 
 abbrev pub made : List ℕ → Bool → Draft → List ℕ
 made src end d = madeBy (d .making) src end (d .from) (d .to)
@@ -68,7 +68,7 @@ abbrev pub Able : Making → List ℕ → ℕ → ℕ → Type 0
 Able Making.Copied src from to = Range src from to
 Able (Making.Text mode label) src from to = Block src label from
 Able Making.Number src from to = Range src from to
-Able (Making.Sheet label) src from to = Block src label from
+Able (Making.Sheet blank width) src from to = Range src from to
 
 pub record Ready (src : List ℕ) (end : Bool) (d : Draft) : Type 0 where
   pub size : d .len ≡ length (made src end d)
@@ -87,9 +87,6 @@ PlanReady Plan.Wait src end = Unit {0}
 pub record Plans (src : List ℕ) (end : Bool) (o : Outcome) (r : Plan) : Type 0 where
   pub told : outcomeOf src end r ≡ o
   pub ready : PlanReady r src end
-
-abbrev pub noLabel : Label
-noLabel = record { start = 0; len = 0 }
 
 abbrev pub copiedDraft : ℕ → ℕ → ℕ → ℕ → ℕ → Draft
 copiedDraft kind detail place from to =

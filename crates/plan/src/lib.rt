@@ -5,7 +5,8 @@ use state::Label;
 use unit::Mode;
 ghost use mathlib.Core.Path.{_≡_};
 ghost use Prim.Native.Nat.{_+_, _-_, _≤_};
-ghost use Rattle.plan.specs.Code.{noLabel, copiedDraft, goesPlan, onePlan, partedPlan, endingPlan};
+ghost use Rattle.state.specs.Bounds.{labelBytes, noLabel};
+ghost use Rattle.plan.specs.Code.{Named, copiedDraft, goesPlan, onePlan, partedPlan, endingPlan};
 
 // How a token's value comes about.
 pub enum Making {
@@ -14,7 +15,8 @@ pub enum Making {
     // The value of a text; a mode without a label has an empty range.
     Text { mode: Mode, label: Label },
     Number,
-    Sheet(Label),
+    // The rows of a sheet without their indentation and the last break: which byte, and how many.
+    Sheet { blank: u8, width: usize },
 }
 
 // A token to be written: its value has `len` bytes and comes from the source's bytes from `from` up to `to`.
@@ -57,14 +59,24 @@ pub fn no_label() -> Label
     Label { start: 0, len: 0 }
 }
 
+// The bytes that a label names: that part of the source itself.
+pub fn label_bytes(src: &[u8], label: Label) -> &[u8]
+    requires { ⌜ Named (now src) label ⌝ }
+    ensures { λ r. ⌜ now r ≡ labelBytes (now (src .entry)) label ⌝ }
+{
+    let start = label.start as usize;
+    let end = start + label.len as usize;
+    &src[start..end]
+}
+
 // A token whose value is the source's own bytes.
-pub fn copied(kind: u32, place: usize, from: usize, to: usize) -> Draft
+pub fn copied(kind: u32, detail: usize, place: usize, from: usize, to: usize) -> Draft
     requires { ⌜ from ≤ to ⌝ }
-    ensures { λ r. ⌜ r ≡ copiedDraft kind 0 place from to ⌝ }
+    ensures { λ r. ⌜ r ≡ copiedDraft kind detail place from to ⌝ }
 {
     Draft {
         kind,
-        detail: 0,
+        detail,
         place,
         making: Making::Copied,
         from,
@@ -103,7 +115,7 @@ pub fn one_token(kind: u32, at: usize, k: usize, change: Change) -> Plan
     ensures { λ r. ⌜ r ≡ onePlan (copiedDraft kind 0 at at (at + k)) (at + k) change ⌝ }
 {
     let to = at + k;
-    one(copied(kind, at, at, to), to, change)
+    one(copied(kind, 0, at, at, to), to, change)
 }
 
 // Nothing is left of the text: the plan at the announced end, else wait.

@@ -5,13 +5,14 @@ use mathlib.Core.List.{List}
 use native.Mathlib.Omega.{arith}
 use lib.ListN.{length, drop, length-drop}
 use borrow.Author.Tests.{le-leb, lt-leb}
+use Rattle.byte.specs.Words.{announced}
 use Rattle.byte.specs.Laid.{laid}
 use Rattle.number.specs.declared.Literal.{Literal}
 use Rattle.number.specs.declared.Scanned.{Scanned}
 use Rattle.number.specs.Numbers.{Reading, numberAt, scanned, valueOf}
 use Rattle.number.proofs.Values.{numberAt-inside, numberAt-valueOf}
 use Rattle.probe.specs.declared.Probed.{Probed}
-use Rattle.probe.specs.Probes.{announced, refusal}
+use Rattle.probe.specs.Probes.{refusal}
 use Rattle.probe.specs.Literals.{literalNumber, counted, askedNumber, readRefusal, readWritten, numberRefusal, numberWritten, NumberValued}
 
 pub literal-arm : (literal arm : Literal) (r : ℕ) → literal ≡ arm → r ≡ literalNumber arm → r ≡ literalNumber literal

@@ -6,6 +6,7 @@ use mathlib.Core.List.{List}
 use lib.Dec.{leb}
 use lib.ListN.{length, drop}
 use borrow.Author.Tests.{le-leb, lt-leb, leb-true, ne-eqb}
+use Rattle.byte.specs.Words.{announced}
 use Rattle.byte.specs.Laid.{laid}
 use Rattle.byte.proofs.Tests.{choice}
 use Rattle.unit.specs.declared.Follow.{Follow}
@@ -16,7 +17,7 @@ use Rattle.unit.specs.Readings.{Reading, Text, Refused, Wait, textAt}
 use Rattle.text.specs.declared.Scanned.{Scanned}
 use Rattle.text.specs.Code.{measured, valueOf, Measured}
 use Rattle.probe.specs.declared.Probed.{Probed}
-use Rattle.probe.specs.Probes.{modeOf, announced, asked, stopNumber, amountOf, numbered, valueRefusal, written, Valued}
+use Rattle.probe.specs.Probes.{modeOf, asked, stopNumber, amountOf, numbered, valueRefusal, written, Valued}
 
 -- an arm of a match on a number, a follow, an indentation, a stop or a scan
 pub mode-arm : (n key : ℕ) (r : Mode) → n ≡ key → r ≡ modeOf key → r ≡ modeOf n

@@ -7,14 +7,14 @@ use mathlib.Core.List.{List}
 use mathlib.Core.Path.{_≡_}
 use lib.Dec.{leb}
 use lib.ListN.{length, drop}
-use Rattle.byte.specs.Words.{if_then_else_}
+use Rattle.byte.specs.Words.{if_then_else_, announced}
 use Rattle.byte.specs.Laid.{laid}
 use Rattle.byte.specs.Refusals.{wait, poolFull, outOfPlace, tooLarge}
 use Rattle.number.specs.declared.Literal.{Literal}
 use Rattle.number.specs.declared.Scanned.{Scanned}
 use Rattle.number.specs.Numbers.{Reading, numberAt, scanned}
 use Rattle.probe.specs.declared.Probed.{Probed}
-use Rattle.probe.specs.Probes.{announced, refusal}
+use Rattle.probe.specs.Probes.{refusal}
 
 unfoldable pub literalNumber : Literal → ℕ
 literalNumber Literal.Integer = 0

@@ -8,12 +8,11 @@
 --   valueRefusal, written  a value for a part with so much room: why it is not written, and what the part holds then
 --   Valued       both
 use Prim.Native.Nat.{ℕ}
-use mathlib.Core.Bool.{Bool, not}
 use mathlib.Core.List.{List}
 use mathlib.Core.Path.{_≡_}
 use lib.Dec.{leb, eqb}
 use lib.ListN.{length, drop}
-use Rattle.byte.specs.Words.{if_then_else_}
+use Rattle.byte.specs.Words.{if_then_else_, announced}
 use Rattle.byte.specs.Laid.{laid}
 use Rattle.byte.specs.Refusals.{wait, poolFull, outOfPlace, tooLarge}
 use Rattle.unit.specs.declared.Follow.{Follow}
@@ -32,9 +31,6 @@ modeOf n =
     else if eqb n 3 then Mode.ShellExec
     else if eqb n 4 then Mode.Heredoc
     else Mode.Nowdoc
-
-abbrev pub announced : ℕ → Bool
-announced end = not (eqb end 0)
 
 unfoldable pub asked : ℕ → List ℕ → List ℕ → ℕ → ℕ → Reading
 asked mode src label at end =

@@ -104,9 +104,9 @@ pub walked-one : (most : ℕ) (first a : After) (session list pool answer : List
 walked-one most first a session list pool answer r r′ s s′ l l′ q q′ t t′ x y =
     (x .number ∙ sym (y .number), x .holds ∙ sym (y .holds), x .records ∙ sym (y .records), x .values ∙ sym (y .values), x .tells ∙ sym (y .tells))
 
-pub begun-one : (reading : ℕ) (session : List ℕ) (r r′ : ℕ) (s s′ : List ℕ) → Begun reading session r s → Begun reading session r′ s′
+pub begun-one : (choices : ℕ) (session : List ℕ) (r r′ : ℕ) (s s′ : List ℕ) → Begun choices session r s → Begun choices session r′ s′
     → (r ≡ r′) × (s ≡ s′)
-begun-one reading session r r′ s s′ x y = (x .number ∙ sym (y .number), x .holds ∙ sym (y .holds))
+begun-one choices session r r′ s s′ x y = (x .number ∙ sym (y .number), x .holds ∙ sym (y .holds))
 
 pub filed-one : (refusal : ℕ) (lent values : List ℕ) (r r′ : ℕ) (l l′ : List ℕ) → Filed refusal lent values r l → Filed refusal lent values r′ l′
     → (r ≡ r′) × (l ≡ l′)

@@ -11,13 +11,13 @@ use Rattle.byte.proofs.Tests.{&&-left, &&-right}
 use Rattle.byte.specs.Laid.{laid}
 use Rattle.state.specs.declared.Answer.{Answer}
 use Rattle.state.specs.declared.Frame.{Frame}
-use Rattle.state.specs.declared.Reading.{Reading}
+use Rattle.state.specs.declared.Choices.{Choices}
 use Rattle.state.specs.declared.Session.{Session}
 use Rattle.state.specs.declared.Turn.{Turn}
 use Rattle.state.specs.Calls.{freshSession, skipped, pushed, popped}
 use Rattle.token.specs.Files.{fileAnswer, Written}
 use Rattle.lexer.specs.Turns.{After, Gives}
-use Rattle.layout.specs.Sessions.{numbersOf, frameIn, readingIn, sessionIn}
+use Rattle.layout.specs.Sessions.{numbersOf, frameIn, areChoices, choicesIn, sessionIn}
 use Rattle.layout.specs.Answers.{refusalIn, Turned}
 use Rattle.puretakoi.specs.Calls.{areLong, Crossed, Called, freshRefusal, Begun, Filed}
 
@@ -88,21 +88,21 @@ call-done call session answer flag e h src end s list pool t list′ pool′ f g
 pub ruleset crossings = (session-long, answer-long, crossed-short, skip-done, push-done, pop-done)
 
 -- a fresh session
-module _ (reading : ℕ) (session : List ℕ) where
-  pub begun-short : length session < 199 → Begun reading session 10 session
+module _ (number : ℕ) (session : List ℕ) where
+  pub begun-short : length session < 199 → Begun number session 10 session
   unfolding freshRefusal
-  begun-short h = let e : freshRefusal (length session) reading ≡ 10 = rw (lt-leb 199 (length session) h) in record { number = sym e; holds = rw e }
+  begun-short h = let e : freshRefusal (length session) number ≡ 10 = rw (lt-leb 199 (length session) h) in record { number = sym e; holds = rw e }
 
-  module _ (n : 199 ≤ length session) where
-    pub begun-none : 1 < reading → Begun reading session 12 session
+  module _ (n : 199 ≤ length session) (flag : Bool) (f : flag ≡ areChoices number) where
+    pub begun-none : not flag ≡ true → Begun number session 12 session
     unfolding freshRefusal
-    begun-none h = let e : freshRefusal (length session) reading ≡ 12 = rw (le-leb 199 (length session) n, lt-leb reading 1 h) in record { number = sym e; holds = rw e }
+    begun-none h = let e : freshRefusal (length session) number ≡ 12 = rw (le-leb 199 (length session) n, ← f, not-true flag h) in record { number = sym e; holds = rw e }
 
-    pub begun-done : (nowdocs : Reading) (s : Session) (session′ : List ℕ) → reading ≤ 1 → nowdocs ≡ readingIn reading → s ≡ freshSession nowdocs
-        → session′ ≡ laid session 0 (numbersOf s) → Begun reading session 0 session′
+    pub begun-done : (choices : Choices) (s : Session) (session′ : List ℕ) → not flag ≡ false → choices ≡ choicesIn number → s ≡ freshSession choices
+        → session′ ≡ laid session 0 (numbersOf s) → Begun number session 0 session′
     unfolding freshRefusal
-    begun-done nowdocs s session′ h a b c =
-        let e : freshRefusal (length session) reading ≡ 0 = rw (le-leb 199 (length session) n, le-leb reading 1 h) in
+    begun-done choices s session′ h a b c =
+        let e : freshRefusal (length session) number ≡ 0 = rw (le-leb 199 (length session) n, ← f, not-false flag h) in
         record { number = sym e; holds = c ∙ rw (e, b, a) }
 
 pub ruleset begun = (begun-short, begun-none, begun-done)

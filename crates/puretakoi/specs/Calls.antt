@@ -9,12 +9,12 @@
 --   freshRefusal, Begun   a fresh session
 --   Filed                 a record file or a list: the refusal or 0, and what the lent slice holds
 use Prim.Native.Nat.{ℕ}
-use mathlib.Core.Bool.{Bool, _&&_, not}
+use mathlib.Core.Bool.{Bool, _&&_}
 use mathlib.Core.List.{List}
 use mathlib.Core.Path.{_≡_}
 use lib.Dec.{leb, eqb}
 use lib.ListN.{length}
-use Rattle.byte.specs.Words.{if_then_else_}
+use Rattle.byte.specs.Words.{if_then_else_, announced}
 use Rattle.byte.specs.Laid.{laid}
 use Rattle.byte.specs.Refusals.{outOfPlace, badSession}
 use Rattle.state.specs.declared.Turn.{Turn}
@@ -22,12 +22,8 @@ use Rattle.state.specs.Calls.{freshSession}
 use Rattle.lexer.specs.Turns.{After}
 use Rattle.lexer.specs.Calls.{stepped, readNumber, readSingle, readDouble}
 use Rattle.demands.specs.Walks.{walked}
-use Rattle.layout.specs.Sessions.{readingIn, numbersOf, sessionIn}
+use Rattle.layout.specs.Sessions.{areChoices, choicesIn, numbersOf, sessionIn}
 use Rattle.layout.specs.Answers.{answerNumbers, refusalIn, sessionAfter, Stored}
-
--- whether the end is announced
-abbrev pub announced : ℕ → Bool
-announced end = not (eqb end 0)
 
 unfoldable pub areLong : ℕ → ℕ → Bool
 areLong session answer = leb 199 session && leb 5 answer
@@ -78,15 +74,15 @@ abbrev pub Walked : List ℕ → ℕ → ℕ → List ℕ → List ℕ → List 
 Walked src end most session list pool answer =
     WalkCalled most (stepped src (announced end) (sessionIn session) list pool) (walked most src (announced end) (sessionIn session) list pool) session list pool answer
 
--- 10 for a slice that is too short, 12 for a reading that is none, or 0
+-- 10 for a slice that is too short, 12 for a bit that is no choice's flag, or 0
 unfoldable pub freshRefusal : ℕ → ℕ → ℕ
-freshRefusal session reading =
-    if leb 199 session then (if leb reading 1 then 0 else badSession) else outOfPlace
+freshRefusal session choices =
+    if leb 199 session then (if areChoices choices then 0 else badSession) else outOfPlace
 
-pub record Begun (reading : ℕ) (session : List ℕ) (r : ℕ) (session′ : List ℕ) : Type 0 where
-  pub number : r ≡ freshRefusal (length session) reading
+pub record Begun (choices : ℕ) (session : List ℕ) (r : ℕ) (session′ : List ℕ) : Type 0 where
+  pub number : r ≡ freshRefusal (length session) choices
   pub holds :
-      session′ ≡ (if eqb (freshRefusal (length session) reading) 0 then laid session 0 (numbersOf (freshSession (readingIn reading)))
+      session′ ≡ (if eqb (freshRefusal (length session) choices) 0 then laid session 0 (numbersOf (freshSession (choicesIn choices)))
       else session)
 
 -- with refusal 0 the values stand at the start of what was lent, and else it is as it was

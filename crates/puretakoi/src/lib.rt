@@ -65,18 +65,18 @@ fn are_long(session: usize, answer: usize) -> bool
     (199 <= session) & (5 <= answer)
 }
 
-// A session before its script, with the reading of nowdoc blocks.
+// A session before its script, with its choices.
 #[no_mangle]
-pub extern "C" fn puretakoi_fresh(reading: u32, session: &mut [u32]) -> u32
-    ensures { λ r. ⌜ Begun reading (now (session .entry)) r (now (session .exit)) ⌝ }
+pub extern "C" fn puretakoi_fresh(choices: u32, session: &mut [u32]) -> u32
+    ensures { λ r. ⌜ Begun choices (now (session .entry)) r (now (session .exit)) ⌝ }
 {
     if session.len() < 199 {
         return byte::OUT_OF_PLACE;
     }
-    if 1 < reading {
+    if !layout::are_choices(choices) {
         return byte::BAD_SESSION;
     }
-    layout::put_session(session, state::fresh(layout::reading_in(reading)));
+    layout::put_session(session, state::fresh(layout::choices_in(choices)));
     0
 }
 

@@ -5,6 +5,7 @@ use libc::STDIN_FILENO;
 use libc::STDOUT_FILENO;
 use source::Span;
 use state::Answer;
+use state::Choices;
 use state::Reading;
 
 // A number, and a byte behind it.
@@ -62,7 +63,10 @@ fn is_full(number: u32) -> bool {
 fn print_script(src: &[u8]) {
     let mut list = [0u32; 2048];
     let mut pool = [0u8; 16384];
-    let mut s = state::fresh(Reading::Ported);
+    let choices = Choices {
+        nowdocs: Reading::Ported,
+    };
+    let mut s = state::fresh(choices);
     let mut left: u32 = 32770;
     while 0 < left {
         let t = walk::walk(src, true, 32770, s, &mut list, &mut pool);

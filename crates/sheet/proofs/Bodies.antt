@@ -2,28 +2,23 @@
 --   keeps-line        a line without its indentation is a line with the same break
 --   body-break        what is left of lines ends in their last break
 --   unbroken-break    a text without its last break has so many bytes less
---   block-body        the lines before a closing line are whole, and are the lines of the source up to it
 -- Assumes nothing.
 use Prim.Native.Nat.{ℕ, zero, suc, _+_, _<_, _≤_}
 use Prim.Native.Char.{code}
-use mathlib.Core.Path.{_≡_, refl, sym, ap, _∙_}
+use mathlib.Core.Path.{_≡_, refl, sym, _∙_}
 use mathlib.Core.Bool.{Bool, true, false, _&&_, false≢true}
 use mathlib.Core.List.{List, [], _∷_, _++_, append-nil}
 use native.Mathlib.Omega.{arith}
-use lib.Dec.{eqb, leb}
-use lib.ListN.{length, take, drop, length-append}
-use lib.Seq.{take-append-add}
-use borrow.Author.Tests.{eqb-true, leb-true}
+use lib.Dec.{eqb}
+use lib.ListN.{length, drop, length-append}
+use borrow.Author.Tests.{eqb-true}
 use Rattle.byte.specs.Words.{if_then_else_, _is_, run, every}
 use Rattle.byte.specs.Bytes.{isBlank}
-use Rattle.byte.proofs.Tests.{choice, &&-left, &&-right, &&-both}
-use Rattle.unit.specs.declared.Indentation.{Indentation}
+use Rattle.byte.proofs.Tests.{&&-left, &&-right}
 use Rattle.unit.proofs.Openings.{other-byte}
-use Rattle.sheet.specs.declared.Line.{Line}
 use Rattle.sheet.specs.Bodies.{Indent, Text, Kept, Stray, followed, bodyText, unbroken}
-use Rattle.sheet.specs.Sheets.{lineKind, Block, Closed, Missing, Open, withLine, told, block}
 use Rattle.sheet.specs.Code.{offsetOf, isStray, breakOf, isLine}
-use Rattle.sheet.proofs.Lines.{total, Lined, none, last, broken, flat}
+use Rattle.sheet.proofs.Lines.{flat}
 use Rattle.sheet.proofs.Turns.{unindented-parts}
 
 -- ---- the last break
@@ -108,10 +103,7 @@ module _ (blank : ℕ) (h : isBlank blank ≡ true) where
 
 offset-run : (ind : Indent) (line : List ℕ) → offsetOf ind line ≤ run (eqb (ind .blank)) line
 unfolding offsetOf
-offset-run ind line =
-    choice (λ k. k ≤ run (eqb (ind .blank)) line) (leb (ind .width) (run (eqb (ind .blank)) line)) _ _
-    (λ e. leb-true (ind .width) (run (eqb (ind .blank)) line) e)
-    (λ e. omega arith)
+offset-run ind line = omega arith
 
 -- ---- what is left of a body
 
@@ -183,42 +175,3 @@ module _ (ind : Indent) (h : isBlank (ind .blank) ≡ true) where
   body-break n [] text w e = body-nothing n text e
   body-break n (line ∷ more) text w e =
       body-some n line more text (&&-left (isLine line) (every isLine more) w) (&&-right (isLine line) (every isLine more) w) e
-
--- ---- the lines before a closing line
-
-pub record ClosedBody (ls body : List (List ℕ)) : Type 0 where
-  pub whole : every isLine body ≡ true
-  pub start : take (total body) (flat ls) ≡ flat body
-
-abbrev pub BlockBody : List (List ℕ) → Block → Type 0
-BlockBody ls (Closed body ind amount place) = ClosedBody ls body
-BlockBody ls (Missing place) = Unit {0}
-BlockBody ls Open = Unit {0}
-
-told-last : (n : ℕ) (line : List ℕ) (k : Line) (t : Bool) (p : ℕ)
-    → BlockBody (line ∷ []) (told k n line (if t then Missing p else Open))
-unfolding told withLine every total flat
-told-last n line (Line.Closes ind amount) t p = record { whole = refl; start = refl }
-told-last n line Line.Body true p = tt
-told-last n line Line.Body false p = tt
-told-last n line Line.Undecided t p = tt
-
-told-body : (n : ℕ) (line : List ℕ) (later : List (List ℕ)) (k : Line) (b : Block) → isLine line ≡ true → BlockBody later b
-    → BlockBody (line ∷ later) (told k n line b)
-unfolding told withLine every total flat
-told-body n line later (Line.Closes ind amount) b l x = record { whole = refl; start = refl }
-told-body n line later Line.Body (Closed body ind amount place) l x =
-    record {
-      whole = &&-both (isLine line) (every isLine body) l (x .whole);
-      start = take-append-add line (flat later) (total body) ∙ ap (_++_ line) (x .start);
-    }
-told-body n line later Line.Body (Missing place) l x = tt
-told-body n line later Line.Body Open l x = tt
-told-body n line later Line.Undecided b l x = tt
-
-pub block-body : (label : List ℕ) (end : Bool) (n : ℕ) {ls : List (List ℕ)} → Lined ls → BlockBody ls (block label end n ls)
-unfolding block
-block-body label end n none = choice (BlockBody []) end _ _ (λ e. tt) (λ e. tt)
-block-body label end n (last {line}) = told-last n line (lineKind label end Indentation.None 0 line) end (n + length line)
-block-body label end n (broken {line} {later} l x) =
-    told-body n line later (lineKind label end Indentation.None 0 line) _ l (block-body label end (n + length line) x)

@@ -13,9 +13,11 @@ use Rattle.byte.specs.Bytes.{isBlank, isIdentifier}
 use Rattle.byte.proofs.Tests.{choice}
 use Rattle.unit.specs.declared.Indentation.{Indentation}
 use Rattle.unit.specs.declared.Match.{Match}
+use Rattle.unit.specs.declared.Stop.{Stop}
 use Rattle.unit.specs.Closers.{indented}
+use Rattle.unit.specs.Readings.{Reading}
 use Rattle.sheet.specs.Bodies.{lines, inFront, isBreak, isOver, unindented, followed, bodyText, unbroken}
-use Rattle.sheet.specs.Sheets.{closingLabel, judgedLine, lineKind, withLine, told, block, Missing, Open, Sheet, Refused, Wait}
+use Rattle.sheet.specs.Sheets.{closingLabel, judgedLine, lineKind, withLine, told, block, Missing, Open}
 use Rattle.sheet.specs.Sheets.{filled, stripped, answered, sheetAt}
 
 -- a label that stands there decides nothing: what follows it does
@@ -44,7 +46,8 @@ one-line b = choice (λ ls. ls ≡ (b ∷ []) ∷ []) (b is "\n") _ _ (λ e. ref
 -- a row, and the label with one byte behind it: an identifier byte makes that a row, too, and no line closes
 pub behind-label : (end : Bool) (b : ℕ)
     → sheetAt (bytes "EOT") end 0 (bytes "a\nEOT" ++ b ∷ [])
-    ≡ (if isIdentifier b then (if end then Refused 1 6 else Wait) else Sheet (bytes "a") Indentation.None 0 2 5)
+    ≡ (if isIdentifier b then (if end then Reading.Refused 1 6 else Reading.Wait)
+    else Reading.Text (bytes "a") (Stop.Label Indentation.None 0) 2 5)
 unfolding sheetAt answered stripped filled block told withLine lineKind judgedLine closingLabel indented isBlank bodyText followed
     unindented unbroken isOver isBreak lines inFront run bytes
 behind-label end b = rw (one-line b) (go end (isIdentifier b))
@@ -54,7 +57,8 @@ behind-label end b = rw (one-line b) (go end (isIdentifier b))
         (withLine (bytes "a\n")
         (told (judgedLine (if t then Match.Other else Match.Whole) e Indentation.None 0) 2 (bytes "EOT" ++ b ∷ [])
         (if e then Missing 6 else Open)))
-        ≡ (if t then (if e then Refused 1 6 else Wait) else Sheet (bytes "a") Indentation.None 0 2 5)
+        ≡ (if t then (if e then Reading.Refused 1 6 else Reading.Wait)
+        else Reading.Text (bytes "a") (Stop.Label Indentation.None 0) 2 5)
     go true true = refl
     go true false = refl
     go false true = refl

@@ -15,16 +15,21 @@ use Rattle.byte.specs.Words.{every}
 use Rattle.byte.specs.Demand.{Apart, Waits}
 use Rattle.byte.proofs.Demand.{apart-by, waits}
 use Rattle.unit.specs.declared.Indentation.{Indentation}
+use Rattle.unit.specs.declared.Stop.{Stop}
 use Rattle.unit.specs.Labels.{Label}
+use Rattle.unit.specs.Readings.{Reading}
+use Rattle.unit.proofs.Stands.{enters}
 use Rattle.unit.proofs.Stays.{Stays, clash}
+use Rattle.unit.proofs.Demand.{ending}
 use Rattle.unit.proofs.Openings.{oneMore}
 use Rattle.sheet.specs.declared.Line.{Line}
 use Rattle.sheet.specs.Bodies.{Text, Kept, Stray, lines}
 use Rattle.sheet.specs.Sheets.{lineKind, Block, Closed, Missing, Open, withLine, told, block}
-use Rattle.sheet.specs.Sheets.{Reading, Sheet, Refused, Wait, filled, stripped, answered, sheetAt}
-use Rattle.sheet.proofs.Lines.{total, total-lines, line-break, Grown, begun, grown, beside, lines-grown}
+use Rattle.sheet.specs.Sheets.{filled, stripped, answered, sheetAt}
+use Rattle.sheet.proofs.Lines.{total, total-lines, lines-lined, line-break, Grown, begun, grown, beside, lines-grown}
 use Rattle.sheet.proofs.Lines.{Continues, behind, longer, alike, lines-append}
 use Rattle.sheet.proofs.Closings.{lineKind-stays, lineKind-open, lineKind-told, lineKind-ended}
+use Rattle.sheet.proofs.Inside.{block-stands}
 
 -- ---- what is told of a block stays
 
@@ -37,12 +42,6 @@ unfolding withLine
 open-withLine line (Closed body ind amount place) e = clash cc
 open-withLine line (Missing place) e = e
 open-withLine line Open e = refl
-
-missing-withLine : (line : List ℕ) (b : Block) (p : ℕ) → withLine line b ≡ Missing p → b ≡ Missing p
-unfolding withLine
-missing-withLine line (Closed body ind amount place) p e = let z : _≡_ {A = ℕ} 0 1 = cc in clash z
-missing-withLine line (Missing place) p e = e
-missing-withLine line Open p e = e
 
 closes-told : {A : Type 0} {ind : Indentation} {amount : ℕ} → Line.Closes ind amount ≡ Line.Undecided → A
 closes-told e = clash cc
@@ -122,107 +121,87 @@ module _ (label : List ℕ) (h : Label label) where
           (ih (open-withLine line (block label false (n + length line) ls) z))
       go Line.Undecided q ih z = absurd (lineKind-told label (h .identifiers) Indentation.None 0 line (line-break line b) q)
 
--- a closing line is missing nowhere else
-block-missing : (label : List ℕ) (n : ℕ) (ls : List (List ℕ)) (p : ℕ) → block label true n ls ≡ Missing p → p ≡ n + total ls
-unfolding block told total
-block-missing label n [] p e =
-    let z : n ≡ p = cc in
-    omega arith
-block-missing label n (line ∷ later) p e =
-    go (lineKind label true Indentation.None 0 line) (block-missing label (n + length line) later p) e
-  where
-    go : (k : Line) → (block label true (n + length line) later ≡ Missing p → p ≡ n + length line + total later)
-        → told k n line (block label true (n + length line) later) ≡ Missing p → p ≡ n + (length line + total later)
-    go (Line.Closes ind amount) ih z = let y : _≡_ {A = ℕ} 0 1 = cc in clash y
-    go Line.Body ih z = omega (arith, ih (missing-withLine line (block label true (n + length line) later) p z))
-    go Line.Undecided ih z = let y : _≡_ {A = ℕ} 0 1 = cc in clash y
-
 -- ---- the reading
 
-filled-told : (t : Text) (ind : Indentation) (amount place after : ℕ) → filled t ind amount place after ≡ Wait → ⊥
+-- a block that is closed neither waits nor misses its closing line, and enters no frame
+abbrev Tells : Reading → Type 0
+Tells (Reading.Text value stop from after) = enters stop ≡ false
+Tells (Reading.Refused number place) = number ≡ 1 → ⊥
+Tells Reading.Wait = ⊥
+
+filled-tells : (t : Text) (ind : Indentation) (amount place after : ℕ) → Tells (filled t ind amount place after)
 unfolding filled
-filled-told (Kept text) ind amount place after e = clash cc
-filled-told (Stray p) ind amount place after e = clash cc
+filled-tells (Kept text) ind amount place after = refl
+filled-tells (Stray p) ind amount place after = λ e. omega arith
 
-stripped-told : (size n : ℕ) (body : List (List ℕ)) (ind : Indentation) (amount place : ℕ)
-    → stripped size n body ind amount place ≡ Wait → ⊥
+stripped-tells : (size n : ℕ) (body : List (List ℕ)) (ind : Indentation) (amount place : ℕ)
+    → Tells (stripped size n body ind amount place)
 unfolding stripped
-stripped-told size n body Indentation.None amount place e = filled-told _ _ _ _ _ e
-stripped-told size n body Indentation.Space amount place e = filled-told _ _ _ _ _ e
-stripped-told size n body Indentation.Tab amount place e = filled-told _ _ _ _ _ e
-stripped-told size n body Indentation.Mixed amount place e = clash cc
+stripped-tells size n body Indentation.None amount place = filled-tells _ _ _ _ _
+stripped-tells size n body Indentation.Space amount place = filled-tells _ _ _ _ _
+stripped-tells size n body Indentation.Tab amount place = filled-tells _ _ _ _ _
+stripped-tells size n body Indentation.Mixed amount place = λ e. omega arith
 
-filled-closed : (t : Text) (ind : Indentation) (amount place after q : ℕ) → filled t ind amount place after ≡ Refused 1 q → ⊥
-unfolding filled
-filled-closed (Kept text) ind amount place after q e = clash cc
-filled-closed (Stray p) ind amount place after q e = let z : _≡_ {A = ℕ} 13 1 = cc in omega arith
+tells-missing : (p : ℕ) (r : Reading) (q : ℕ) → Tells r → ending p r ≡ Reading.Refused 1 q → ⊥
+tells-missing p (Reading.Text value stop from after) q t e =
+    let z : Reading.Text [] Stop.Quote 0 0 ≡ Reading.Refused 1 q = rw t at e in
+    clash cc
+tells-missing p (Reading.Refused number place) q t e = t (let z : number ≡ 1 = cc in z)
+tells-missing p Reading.Wait q t e = t
 
-stripped-closed : (size n : ℕ) (body : List (List ℕ)) (ind : Indentation) (amount place q : ℕ)
-    → stripped size n body ind amount place ≡ Refused 1 q → ⊥
-unfolding stripped
-stripped-closed size n body Indentation.None amount place q e = filled-closed _ _ _ _ _ q e
-stripped-closed size n body Indentation.Space amount place q e = filled-closed _ _ _ _ _ q e
-stripped-closed size n body Indentation.Tab amount place q e = filled-closed _ _ _ _ _ q e
-stripped-closed size n body Indentation.Mixed amount place q e = let z : _≡_ {A = ℕ} 4 1 = cc in omega arith
-
-answered-wait : (size n : ℕ) (b : Block) → answered size n b ≡ Wait → b ≡ Open
+answered-wait : (size n : ℕ) (b : Block) → answered size n b ≡ Reading.Wait → b ≡ Open
 unfolding answered
-answered-wait size n (Closed body ind amount place) e = absurd (stripped-told size n body ind amount place e)
+answered-wait size n (Closed body ind amount place) e =
+    let t : Tells Reading.Wait = rw e at (stripped-tells size n body ind amount place) in
+    absurd t
 answered-wait size n (Missing place) e = clash cc
 answered-wait size n Open e = refl
 
-answered-missing : (size n : ℕ) (b : Block) (p : ℕ) → answered size n b ≡ Refused 1 p → b ≡ Missing p
+answered-missing : (p size n : ℕ) (b : Block) (q : ℕ) → ending p (answered size n b) ≡ Reading.Refused 1 q → b ≡ Missing q
 unfolding answered
-answered-missing size n (Closed body ind amount place) p e = absurd (stripped-closed size n body ind amount place p e)
-answered-missing size n (Missing place) p e = let z : place ≡ p = cc in ap Missing z
-answered-missing size n Open p e = let z : _≡_ {A = ℕ} 0 1 = cc in clash z
+answered-missing p size n (Closed body ind amount place) q e =
+    absurd (tells-missing p (stripped size n body ind amount place) q (stripped-tells size n body ind amount place) e)
+answered-missing p size n (Missing place) q e = let z : place ≡ q = cc in ap Missing z
+answered-missing p size n Open q e = let z : _≡_ {A = ℕ} 0 1 = cc in clash z
 
--- what a reading tells but for its sheet
-abbrev pub ending : Reading → Reading
-ending (Sheet value ind amount place after) = Sheet [] Indentation.None 0 0 0
-ending (Refused number place) = Refused number place
-ending Wait = Wait
-
-ending-refused : (r : Reading) (number place : ℕ) → ending r ≡ Refused number place → r ≡ Refused number place
-ending-refused (Sheet value ind amount from after) number place e = clash cc
-ending-refused (Refused number′ place′) number place e = e
-ending-refused Wait number place e = clash cc
-
-is-wait : (r : Reading) → Dec (r ≡ Wait)
-is-wait (Sheet value ind amount place after) = no (λ (z : Sheet value ind amount place after ≡ Wait). clash cc)
-is-wait (Refused number place) = no (λ (z : Refused number place ≡ Wait). clash cc)
-is-wait Wait = yes refl
+is-wait : (r : Reading) → Dec (r ≡ Reading.Wait)
+is-wait (Reading.Text value stop from after) = no (λ (z : Reading.Text value stop from after ≡ Reading.Wait). clash cc)
+is-wait (Reading.Refused number place) = no (λ (z : Reading.Refused number place ≡ Reading.Wait). clash cc)
+is-wait Reading.Wait = yes refl
 
 module _ (label : List ℕ) (h : Label label) (n : ℕ) where
-  pub sheet-stays : (part : List ℕ) → (sheetAt label false n part ≡ Wait → ⊥) → (rest : List ℕ)
+  pub sheet-stays : (part : List ℕ) → (sheetAt label false n part ≡ Reading.Wait → ⊥) → (rest : List ℕ)
       → sheetAt label true n (part ++ rest) ≡ sheetAt label false n part
   unfolding sheetAt answered
   sheet-stays part k rest =
       ap (answered (length label) n) (block-stays label h n (lines-append part rest) (λ z. k (rw z)))
 
   -- no sheet is refused so but where its text ends
-  missing-place : (xs : List ℕ) (p : ℕ) → ending (sheetAt label true n xs) ≡ Refused 1 p → p ≡ n + length xs
+  missing-place : (p : ℕ) (xs : List ℕ) (q : ℕ) → ending p (sheetAt label true n xs) ≡ Reading.Refused 1 q → q ≡ n + length xs
   unfolding sheetAt
-  missing-place xs p e =
-      omega (arith, block-missing label n (lines xs) p (answered-missing (length label) n _ p (ending-refused _ 1 p e)), total-lines xs)
+  missing-place p xs q e =
+      let m : block label true n (lines xs) ≡ Missing q = answered-missing p (length label) n _ q e in
+      let z : q ≡ n + total (lines xs) = rw m at (block-stands label true n (lines-lined xs)) in
+      omega (arith, total-lines xs)
 
   -- an open block is refused where the text ends, or behind one identifier byte more
-  sheet-open : (part : List ℕ) → sheetAt label false n part ≡ Wait
-      → (sheetAt label true n part ≡ Refused 1 (n + length part))
-      ⊎ (sheetAt label true n (part ++ oneMore) ≡ Refused 1 (n + length (part ++ oneMore)))
+  sheet-open : (part : List ℕ) → sheetAt label false n part ≡ Reading.Wait
+      → (sheetAt label true n part ≡ Reading.Refused 1 (n + length part))
+      ⊎ (sheetAt label true n (part ++ oneMore) ≡ Reading.Refused 1 (n + length (part ++ oneMore)))
   unfolding sheetAt answered
   sheet-open part k =
       ⊎-elim (λ y. inl (missed part y)) (λ y. inr (missed (part ++ oneMore) y))
       (block-open label h n (lines-grown part) (answered-wait (length label) n _ k))
     where
       missed : (xs : List ℕ) → block label true n (lines xs) ≡ Missing (n + total (lines xs))
-          → answered (length label) n (block label true n (lines xs)) ≡ Refused 1 (n + length xs)
+          → answered (length label) n (block label true n (lines xs)) ≡ Reading.Refused 1 (n + length xs)
       missed xs e = rw (e, total-lines xs)
 
   -- the text as it is, and with one byte more
-  pub sheet-endings : (part : List ℕ) → sheetAt label false n part ≡ Wait → Apart (λ xs. ending (sheetAt label true n xs)) part
+  pub sheet-endings : (p : ℕ) (part : List ℕ) → sheetAt label false n part ≡ Reading.Wait
+      → Apart (λ xs. ending p (sheetAt label true n xs)) part
   unfolding every
-  sheet-endings part k =
+  sheet-endings p part k =
       record {
         one = [];
         two = oneMore;
@@ -231,21 +210,21 @@ module _ (label : List ℕ) (h : Label label) (n : ℕ) where
         apart = λ z. go (rw append-nil at z) (sheet-open part k);
       }
     where
-      go : ending (sheetAt label true n part) ≡ ending (sheetAt label true n (part ++ oneMore))
-          → (sheetAt label true n part ≡ Refused 1 (n + length part))
-          ⊎ (sheetAt label true n (part ++ oneMore) ≡ Refused 1 (n + length (part ++ oneMore)))
+      go : ending p (sheetAt label true n part) ≡ ending p (sheetAt label true n (part ++ oneMore))
+          → (sheetAt label true n part ≡ Reading.Refused 1 (n + length part))
+          ⊎ (sheetAt label true n (part ++ oneMore) ≡ Reading.Refused 1 (n + length (part ++ oneMore)))
           → ⊥
-      go z (inl e) = omega (arith, missing-place (part ++ oneMore) (n + length part) (sym z ∙ ap ending e), length-append part oneMore)
-      go z (inr e) = omega (arith, missing-place part (n + length (part ++ oneMore)) (z ∙ ap ending e), length-append part oneMore)
+      go z (inl e) = omega (arith, missing-place p (part ++ oneMore) (n + length part) (sym z ∙ ap (ending p) e), length-append part oneMore)
+      go z (inr e) = omega (arith, missing-place p part (n + length (part ++ oneMore)) (z ∙ ap (ending p) e), length-append part oneMore)
 
-  sheet-apart : (part : List ℕ) → sheetAt label false n part ≡ Wait → Apart (sheetAt label true n) part
+  sheet-apart : (part : List ℕ) → sheetAt label false n part ≡ Reading.Wait → Apart (sheetAt label true n) part
   sheet-apart part k =
-      apart-by (λ xs. ending (sheetAt label true n xs)) (sheetAt label true n) part part (λ one two e. ap ending e)
-      (sheet-endings part k)
+      apart-by (λ xs. ending n (sheetAt label true n xs)) (sheetAt label true n) part part (λ one two e. ap (ending n) e)
+      (sheet-endings n part k)
 
 pub sheet-waits : (label : List ℕ) → Label label → (n : ℕ) (part : List ℕ)
-    → Waits Wait (sheetAt label false n) (sheetAt label true n) part
-sheet-waits label h n part = waits Wait _ _ part (is-wait _) (sheet-stays label h n part) (sheet-apart label h n part)
+    → Waits Reading.Wait (sheetAt label false n) (sheetAt label true n) part
+sheet-waits label h n part = waits Reading.Wait _ _ part (is-wait _) (sheet-stays label h n part) (sheet-apart label h n part)
 
 -- ---- with the end announced nothing waits
 
@@ -262,6 +241,6 @@ block-told label n (line ∷ later) e =
     go Line.Body t ih z = ih (open-withLine line _ z)
     go Line.Undecided t ih z = t refl
 
-pub sheet-never-waits : (label : List ℕ) (n : ℕ) (xs : List ℕ) → sheetAt label true n xs ≡ Wait → ⊥
+pub sheet-never-waits : (label : List ℕ) (n : ℕ) (xs : List ℕ) → sheetAt label true n xs ≡ Reading.Wait → ⊥
 unfolding sheetAt
 sheet-never-waits label n xs e = block-told label n (lines xs) (answered-wait (length label) n _ e)

@@ -1,35 +1,48 @@
--- Every place that a sheet reading names lies within the text, and its value has no more bytes than were passed.
---   block-inside   where a closing line stands: behind its lines and its indentation
+-- What a sheet reading stands for, by one law: every place that it names lies within the text, and its value is what is left of
+-- the lines before the closing line.
+--   block-stands   a closing line stands after whole lines and its indentation; where none does, the text is over
 --   body-inside    what is left of the lines, or the place of a stray byte
+--   sheet-stands   the value, the indentation and the label of a sheet
 --   sheet-inside   InsideReading n (n + length xs) (sheetAt label end n xs)
+--   sheet-moves    a sheet ends after its start, as its label has a byte or more
 -- Assumes nothing.
-use Prim.Native.Nat.{ℕ, suc, _+_, _≤_}
-use mathlib.Core.Path.{_≡_, refl, sym, _∙_}
-use mathlib.Core.Bool.{Bool, _&&_}
-use mathlib.Core.List.{List, [], _∷_}
+use Prim.Native.Nat.{ℕ, suc, _+_, _-_, _<_, _≤_}
+use mathlib.Core.Path.{_≡_, refl, sym, ap, _∙_}
+use mathlib.Core.Bool.{Bool, true, false, _&&_, false≢true}
+use mathlib.Core.List.{List, [], _∷_, _++_}
 use native.Mathlib.Omega.{arith}
 use lib.Dec.{leb, eqb}
-use lib.ListN.{length, drop, length-append, length-drop}
+use lib.ListN.{length, take, drop, length-append, length-drop}
+use lib.Seq.{take-append-add}
+use borrow.Author.Tests.{eqb-true, eq-eqb}
 use Rattle.byte.specs.Refusals.{strayIndentation}
-use Rattle.byte.specs.Words.{_is_, run}
+use Rattle.byte.specs.Words.{if_then_else_, _is_, run, every}
 use Rattle.byte.specs.Bytes.{isBlank}
-use Rattle.byte.proofs.Tests.{choice}
+use Rattle.byte.proofs.Tests.{choice, &&-both}
 use Rattle.unit.specs.declared.Indentation.{Indentation}
 use Rattle.unit.specs.declared.Match.{Match}
+use Rattle.unit.specs.declared.Stop.{Stop}
 use Rattle.unit.specs.Closers.{matched, indented}
-use Rattle.unit.proofs.Inside.{FaultInside, ReadInside, matched-length}
+use Rattle.unit.specs.Readings.{Reading}
+use Rattle.unit.proofs.Inside.{FaultInside, InsideReading, MovesReading, matched-length}
 use Rattle.sheet.specs.declared.Line.{Line}
 use Rattle.sheet.specs.Bodies.{Text, Kept, Stray, Indent, lines, isOver, unindented, followed, bodyText, unbroken}
 use Rattle.sheet.specs.Sheets.{closingLabel, judgedLine, lineKind, Block, Closed, Missing, Open, withLine, told, block}
-use Rattle.sheet.specs.Sheets.{Reading, Sheet, Refused, Wait, filled, stripped, answered, sheetAt}
-use Rattle.sheet.proofs.Lines.{total, total-lines}
+use Rattle.sheet.specs.Sheets.{filled, stripped, answered, sheetAt}
+use Rattle.sheet.specs.Code.{isLine, blankOf, indentOf, leftOf, sheetOf}
+use Rattle.sheet.proofs.Lines.{total, total-lines, Lined, none, last, broken, lines-lined}
+use Rattle.sheet.proofs.Lines.{flat, flat-lines, lines-flat}
 use Rattle.sheet.proofs.Closings.{bounded, closingLabel-bounded}
 
 -- ---- the closing line
 
--- the label stands within its line
+-- the label stands within its line; without an indentation it has no blanks
+pub record LineCloses (size hi : ℕ) (ind : Indentation) (amount : ℕ) : Type 0 where
+  pub inside : amount + size ≤ hi
+  pub bare : ind ≡ Indentation.None → amount ≡ 0
+
 abbrev pub LineInside : ℕ → ℕ → Line → Type 0
-LineInside size hi (Line.Closes ind amount) = amount + size ≤ hi
+LineInside size hi (Line.Closes ind amount) = LineCloses size hi ind amount
 LineInside size hi Line.Body = Unit {0}
 LineInside size hi Line.Undecided = Unit {0}
 
@@ -44,52 +57,99 @@ closingLabel-length label end ys e =
     matched-length label ys (bounded-whole (matched label ys) _ (sym (closingLabel-bounded label end ys) ∙ e))
 
 judgedLine-inside : (label ys : List ℕ) (end : Bool) (ind : Indentation) (amount hi : ℕ) → amount + length ys ≤ hi
+    → (ind ≡ Indentation.None → amount ≡ 0)
     → LineInside (length label) hi (judgedLine (closingLabel label end ys) end ind amount)
 unfolding judgedLine
-judgedLine-inside label ys end ind amount hi h = go (closingLabel label end ys) (closingLabel-length label end ys)
+judgedLine-inside label ys end ind amount hi h bare = go (closingLabel label end ys) (closingLabel-length label end ys)
   where
     go : (m : Match) → (m ≡ Match.Whole → length label ≤ length ys) → LineInside (length label) hi (judgedLine m end ind amount)
-    go Match.Whole l = omega (arith, l refl)
+    go Match.Whole l = record { inside = omega (arith, l refl); bare = bare }
     go Match.Other l = tt
     go Match.Undecided l = choice (LineInside (length label) hi) end _ _ (λ e. tt) (λ e. tt)
 
-pub lineKind-inside : (label : List ℕ) (end : Bool) (ind : Indentation) (amount hi : ℕ) (xs : List ℕ) → amount + length xs ≤ hi
+-- after a blank there is an indentation
+unfoldable isIndented : Indentation → Bool
+isIndented Indentation.None = false
+isIndented Indentation.Space = true
+isIndented Indentation.Tab = true
+isIndented Indentation.Mixed = true
+
+indented-some : (ind : Indentation) (b : ℕ) → isIndented (indented ind b) ≡ true
+unfolding indented isIndented
+indented-some Indentation.None b = choice (λ i. isIndented i ≡ true) (b is " ") _ _ (λ e. refl) (λ e. refl)
+indented-some Indentation.Space b = choice (λ i. isIndented i ≡ true) (b is " ") _ _ (λ e. refl) (λ e. refl)
+indented-some Indentation.Tab b = choice (λ i. isIndented i ≡ true) (b is " ") _ _ (λ e. refl) (λ e. refl)
+indented-some Indentation.Mixed b = refl
+
+bare-some : {A : Type 0} (ind : Indentation) → isIndented ind ≡ true → ind ≡ Indentation.None → A
+unfolding isIndented
+bare-some ind s e = absurd (false≢true (rw e at s))
+
+lineKind-inside : (label : List ℕ) (end : Bool) (ind : Indentation) (amount hi : ℕ) (xs : List ℕ) → amount + length xs ≤ hi
+    → (ind ≡ Indentation.None → amount ≡ 0)
     → LineInside (length label) hi (lineKind label end ind amount xs)
 unfolding lineKind
-lineKind-inside label end ind amount hi [] h = judgedLine-inside label [] end ind amount hi h
-lineKind-inside label end ind amount hi (b ∷ rest) h =
+lineKind-inside label end ind amount hi [] h bare = judgedLine-inside label [] end ind amount hi h bare
+lineKind-inside label end ind amount hi (b ∷ rest) h bare =
     choice (LineInside (length label) hi) (isBlank b) _ _
-    (λ e. lineKind-inside label end (indented ind b) (suc amount) hi rest (omega arith))
-    (λ e. judgedLine-inside label (b ∷ rest) end ind amount hi h)
+    (λ e. lineKind-inside label end (indented ind b) (suc amount) hi rest (omega arith) (bare-some (indented ind b) (indented-some ind b)))
+    (λ e. judgedLine-inside label (b ∷ rest) end ind amount hi h bare)
 
--- a closing line's label, behind the body's lines and its own indentation
-pub record ClosedInside (size n hi : ℕ) (body : List (List ℕ)) (amount place : ℕ) : Type 0 where
+-- a closing line's label stands after the body's lines, which are whole and the first of all, and its own indentation
+pub record ClosedStands (size n : ℕ) (ls body : List (List ℕ)) (ind : Indentation) (amount place : ℕ) : Type 0 where
   pub behind : place ≡ n + total body + amount
-  pub inside : place + size ≤ hi
+  pub inside : place + size ≤ n + total ls
+  pub bare : ind ≡ Indentation.None → amount ≡ 0
+  pub whole : every isLine body ≡ true
+  pub start : take (total body) (flat ls) ≡ flat body
 
-abbrev pub BlockInside : ℕ → ℕ → ℕ → Block → Type 0
-BlockInside size n hi (Closed body ind amount place) = ClosedInside size n hi body amount place
-BlockInside size n hi (Missing place) = place ≡ hi
-BlockInside size n hi Open = Unit {0}
+abbrev pub BlockStands : ℕ → ℕ → List (List ℕ) → Block → Type 0
+BlockStands size n ls (Closed body ind amount place) = ClosedStands size n ls body ind amount place
+BlockStands size n ls (Missing place) = place ≡ n + total ls
+BlockStands size n ls Open = Unit {0}
 
-told-inside : (size n hi : ℕ) (line : List ℕ) (k : Line) (b : Block) → n + length line ≤ hi → LineInside size (length line) k
-    → BlockInside size (n + length line) hi b → BlockInside size n hi (told k n line b)
+module _ (size n : ℕ) (line : List ℕ) (later : List (List ℕ)) where
+  closes-stands : (ind : Indentation) (amount : ℕ) → LineCloses size (length line) ind amount
+      → ClosedStands size n (line ∷ later) [] ind amount (n + amount)
+  unfolding total flat every
+  closes-stands ind amount l =
+      record { behind = omega arith; inside = omega (arith, l .inside); bare = l .bare; whole = refl; start = refl }
+
+  told-stands : (k : Line) (b : Block) → isLine line ≡ true → LineInside size (length line) k
+      → BlockStands size (n + length line) later b → BlockStands size n (line ∷ later) (told k n line b)
+  unfolding told withLine total flat every
+  told-stands (Line.Closes ind amount) b w l x = closes-stands ind amount l
+  told-stands Line.Body (Closed body ind amount place) w l x =
+      record {
+        behind = omega (arith, x .behind);
+        inside = omega (arith, x .inside);
+        bare = x .bare;
+        whole = &&-both (isLine line) (every isLine body) w (x .whole);
+        start = take-append-add line (flat later) (total body) ∙ ap (_++_ line) (x .start);
+      }
+  told-stands Line.Body (Missing place) w l x = omega arith
+  told-stands Line.Body Open w l x = tt
+  told-stands Line.Undecided b w l x = tt
+
+-- after the last line no other closes
+last-stands : (size n : ℕ) (line : List ℕ) (k : Line) (t : Bool) → LineInside size (length line) k
+    → BlockStands size n (line ∷ []) (told k n line (if t then Missing (n + length line) else Open))
 unfolding told withLine total
-told-inside size n hi line (Line.Closes ind amount) b h l i = record { behind = omega arith; inside = omega arith }
-told-inside size n hi line Line.Body (Closed body ind amount place) h l i =
-    record { behind = omega (arith, i .behind); inside = i .inside }
-told-inside size n hi line Line.Body (Missing place) h l i = i
-told-inside size n hi line Line.Body Open h l i = tt
-told-inside size n hi line Line.Undecided b h l i = tt
+last-stands size n line (Line.Closes ind amount) t l = closes-stands size n line [] ind amount l
+last-stands size n line Line.Body true l = omega arith
+last-stands size n line Line.Body false l = tt
+last-stands size n line Line.Undecided t l = tt
 
-pub block-inside : (label : List ℕ) (end : Bool) (n hi : ℕ) (ls : List (List ℕ)) → n + total ls ≡ hi
-    → BlockInside (length label) n hi (block label end n ls)
-unfolding block total
-block-inside label end n hi [] h = choice (BlockInside (length label) n hi) end _ _ (λ e. omega arith) (λ e. tt)
-block-inside label end n hi (line ∷ more) h =
-    told-inside (length label) n hi line _ _ (omega arith)
-    (lineKind-inside label end Indentation.None 0 (length line) line (omega arith))
-    (block-inside label end (n + length line) hi more (omega arith))
+module _ (label : List ℕ) (end : Bool) where
+  pub line-inside : (line : List ℕ) → LineInside (length label) (length line) (lineKind label end Indentation.None 0 line)
+  line-inside line = lineKind-inside label end Indentation.None 0 (length line) line (omega arith) (λ e. refl)
+
+  pub block-stands : (n : ℕ) {ls : List (List ℕ)} → Lined ls → BlockStands (length label) n ls (block label end n ls)
+  unfolding block total
+  block-stands n none = choice (BlockStands (length label) n []) end _ _ (λ e. omega arith) (λ e. tt)
+  block-stands n (last {line}) = last-stands (length label) n line _ end (line-inside line)
+  block-stands n (broken {line} {later} w x) =
+      told-stands (length label) n line later _ _ w (line-inside line) (block-stands (n + length line) x)
 
 -- ---- the body
 
@@ -139,39 +199,104 @@ unbroken-length (b ∷ c ∷ d ∷ rest) = omega (arith, unbroken-length (c ∷ 
 
 -- ---- the reading
 
-abbrev pub InsideReading : ℕ → ℕ → Reading → Type 0
-InsideReading n hi (Sheet value ind amount place after) = ReadInside n hi amount value place after
-InsideReading n hi (Refused number place) = FaultInside n hi number place
-InsideReading n hi Wait = Unit {0}
+module _ (size n : ℕ) (body : List (List ℕ)) (amount place : ℕ) where
+  pub stripped-mixed : (ind : Indentation) → blankOf (Stop.Label ind amount) ≡ 0
+      → stripped size n body ind amount place ≡ Reading.Refused 4 place
+  unfolding stripped blankOf
+  stripped-mixed Indentation.None z = absurd (omega arith)
+  stripped-mixed Indentation.Space z = absurd (omega arith)
+  stripped-mixed Indentation.Tab z = absurd (omega arith)
+  stripped-mixed Indentation.Mixed z = refl
 
-filled-inside : (n m hi : ℕ) (t : Text) (ind : Indentation) (amount place after : ℕ) → TextInside n m t → m + amount ≤ place
-    → place ≤ after → after ≤ hi → InsideReading n hi (filled t ind amount place after)
-unfolding filled
-filled-inside n m hi (Kept text) ind amount place after t h k l =
-    record { indented = omega arith; narrow = omega (arith, unbroken-length text); order = k; inside = l }
-filled-inside n m hi (Stray p) ind amount place after t h k l = record { told = refl; on = t .on; inside = omega (arith, t .inside) }
+  pub stripped-indent : (ind : Indentation) → (ind ≡ Indentation.None → amount ≡ 0) → (blankOf (Stop.Label ind amount) ≡ 0 → ⊥)
+      → stripped size n body ind amount place ≡ filled (bodyText (indentOf ind amount) n body) ind amount place (place + size)
+  unfolding stripped blankOf
+  stripped-indent Indentation.None bare z = rw (bare refl)
+  stripped-indent Indentation.Space bare z = refl
+  stripped-indent Indentation.Tab bare z = refl
+  stripped-indent Indentation.Mixed bare z = absurd (z refl)
 
-stripped-inside : (size n hi : ℕ) (body : List (List ℕ)) (ind : Indentation) (amount place : ℕ)
-    → ClosedInside size n hi body amount place → InsideReading n hi (stripped size n body ind amount place)
-unfolding stripped
-stripped-inside size n hi body Indentation.None amount place c =
-    filled-inside n (n + total body) hi _ _ _ _ _ (body-inside _ n body) (omega (arith, c .behind)) (omega arith) (c .inside)
-stripped-inside size n hi body Indentation.Space amount place c =
-    filled-inside n (n + total body) hi _ _ _ _ _ (body-inside _ n body) (omega (arith, c .behind)) (omega arith) (c .inside)
-stripped-inside size n hi body Indentation.Tab amount place c =
-    filled-inside n (n + total body) hi _ _ _ _ _ (body-inside _ n body) (omega (arith, c .behind)) (omega arith) (c .inside)
-stripped-inside size n hi body Indentation.Mixed amount place c =
-    record { told = refl; on = omega (arith, c .behind); inside = omega (arith, c .inside) }
+-- a sheet's value, what comes off its lines, and its label
+pub record SheetStands (size n hi : ℕ) (xs value : List ℕ) (stop : Stop) (from after : ℕ) : Type 0 where
+  pub ind : Indentation
+  pub amount : ℕ
+  pub label : stop ≡ Stop.Label ind amount
+  pub narrow : n + length value + amount ≤ from
+  pub sized : from + size ≡ after
+  pub inside : after ≤ hi
+  pub same : value ≡ sheetOf (indentOf ind amount) n (take (from - amount - n) xs)
 
-answered-inside : (size n hi : ℕ) (b : Block) → n ≤ hi → BlockInside size n hi b → InsideReading n hi (answered size n b)
+abbrev pub StandsSheet : ℕ → ℕ → ℕ → List ℕ → Reading → Type 0
+StandsSheet size n hi xs (Reading.Text value stop from after) = SheetStands size n hi xs value stop from after
+StandsSheet size n hi xs (Reading.Refused number place) = FaultInside n hi number place
+StandsSheet size n hi xs Reading.Wait = Unit {0}
+
+module _ (size n : ℕ) (xs : List ℕ) (body : List (List ℕ)) (ind : Indentation) (amount place : ℕ)
+    (c : ClosedStands size n (lines xs) body ind amount place) where
+  -- the body is what stands before the closing line
+  pub lines-before : lines (take (place - amount - n) xs) ≡ body
+  lines-before =
+      let k : place - amount - n ≡ total body = omega (arith, c .behind) in
+      rw k (rw flat-lines at (ap lines (c .start)) ∙ lines-flat body (c .whole))
+
+  filled-stands : (t : Text) → bodyText (indentOf ind amount) n body ≡ t → TextInside n (n + total body) t
+      → StandsSheet size n (n + length xs) xs (filled t ind amount place (place + size))
+  unfolding filled sheetOf leftOf
+  filled-stands (Kept text) e i =
+      record {
+        ind = ind;
+        amount = amount;
+        label = refl;
+        narrow = omega (arith, i, unbroken-length text, c .behind);
+        sized = refl;
+        inside = omega (arith, c .inside, total-lines xs);
+        same = sym (rw (lines-before, e));
+      }
+  filled-stands (Stray p) e i =
+      record { told = refl; on = i .on; inside = omega (arith, i .inside, c .behind, c .inside, total-lines xs) }
+
+  stripped-stands : (t : Bool) → eqb (blankOf (Stop.Label ind amount)) 0 ≡ t
+      → StandsSheet size n (n + length xs) xs (stripped size n body ind amount place)
+  stripped-stands true e =
+      rw (stripped-mixed size n body amount place ind (eqb-true _ 0 e))
+      (record { told = refl; on = omega (arith, c .behind); inside = omega (arith, c .inside, total-lines xs) })
+  stripped-stands false e =
+      rw (stripped-indent size n body amount place ind (c .bare) (λ z. false≢true (sym e ∙ eq-eqb _ 0 z)))
+      (filled-stands _ refl (body-inside (indentOf ind amount) n body))
+
+answered-stands : (size n : ℕ) (xs : List ℕ) (b : Block) → BlockStands size n (lines xs) b
+    → StandsSheet size n (n + length xs) xs (answered size n b)
 unfolding answered
-answered-inside size n hi (Closed body ind amount place) h i = stripped-inside size n hi body ind amount place i
-answered-inside size n hi (Missing place) h i = record { told = refl; on = omega arith; inside = omega arith }
-answered-inside size n hi Open h i = tt
+answered-stands size n xs (Closed body ind amount place) x =
+    stripped-stands size n xs body ind amount place x (eqb (blankOf (Stop.Label ind amount)) 0) refl
+answered-stands size n xs (Missing place) x =
+    record { told = refl; on = omega arith; inside = omega (arith, total-lines xs) }
+answered-stands size n xs Open x = tt
 
-pub sheet-inside : (label : List ℕ) (end : Bool) (n : ℕ) (xs : List ℕ)
-    → InsideReading n (n + length xs) (sheetAt label end n xs)
-unfolding sheetAt
-sheet-inside label end n xs =
-    answered-inside (length label) n (n + length xs) _ (omega arith)
-    (block-inside label end n (n + length xs) (lines xs) (omega (arith, total-lines xs)))
+module _ (label : List ℕ) (end : Bool) (n : ℕ) (xs : List ℕ) where
+  pub sheet-stands : StandsSheet (length label) n (n + length xs) xs (sheetAt label end n xs)
+  unfolding sheetAt
+  sheet-stands = answered-stands (length label) n xs _ (block-stands label end n (lines-lined xs))
+
+  pub sheet-inside : InsideReading n (n + length xs) (sheetAt label end n xs)
+  sheet-inside = go (sheetAt label end n xs) sheet-stands
+    where
+      go : (r : Reading) → StandsSheet (length label) n (n + length xs) xs r → InsideReading n (n + length xs) r
+      go (Reading.Text value stop from after) x =
+          rw (x .label)
+          (record {
+            indented = omega (arith, x .narrow);
+            narrow = omega (arith, x .narrow);
+            order = omega (arith, x .sized);
+            inside = x .inside;
+          })
+      go (Reading.Refused number place) x = x
+      go Reading.Wait x = tt
+
+  pub sheet-moves : 0 < length label → MovesReading n (sheetAt label end n xs)
+  sheet-moves h = go (sheetAt label end n xs) sheet-stands
+    where
+      go : (r : Reading) → StandsSheet (length label) n (n + length xs) xs r → MovesReading n r
+      go (Reading.Text value stop from after) x = omega (arith, x .narrow, x .sized)
+      go (Reading.Refused number place) x = tt
+      go Reading.Wait x = tt

@@ -9,4 +9,3 @@ pub mod Bodies
 pub mod Scans
 pub mod Parts
 pub mod Writes
-pub mod Progress

@@ -10,7 +10,7 @@ use mathlib.Core.Path.{_≡_, refl, ap, _∙_}
 use mathlib.Core.Bool.{Bool, true, false, _||_, false≢true}
 use mathlib.Core.List.{List, [], _∷_, _++_}
 use native.Mathlib.Omega.{arith}
-use lib.ListN.{length, length-append}
+use lib.ListN.{length}
 use Rattle.byte.specs.Words.{if_then_else_, _is_, every}
 use Rattle.byte.proofs.Tests.{choice, &&-left, &&-right}
 use Rattle.unit.proofs.Openings.{oneMore}
@@ -43,10 +43,6 @@ pub data Lined : List (List ℕ) → Type 0 where
   none : Lined []
   last : {line : List ℕ} → Lined (line ∷ [])
   broken : {line : List ℕ} {later : List (List ℕ)} → isLine line ≡ true → Lined later → Lined (line ∷ later)
-
-or-true : (t : Bool) → (t || true) ≡ true
-or-true true = refl
-or-true false = refl
 
 pub line-break : (line : List ℕ) → isLine line ≡ true → hasBreak line ≡ true
 unfolding isLine hasBreak
@@ -124,11 +120,6 @@ lines-grown (b ∷ xs) = go (b is "\n") refl (lines-grown xs)
 unfoldable pub flat : List (List ℕ) → List ℕ
 flat [] = []
 flat (line ∷ more) = line ++ flat more
-
-pub length-flat : (ls : List (List ℕ)) → length (flat ls) ≡ total ls
-unfolding flat total
-length-flat [] = refl
-length-flat (line ∷ more) = length-append line (flat more) ∙ ap (_+_ (length line)) (length-flat more)
 
 flat-inFront : (b : ℕ) (ls : List (List ℕ)) → flat (inFront b ls) ≡ b ∷ flat ls
 unfolding flat inFront

@@ -1,14 +1,13 @@
 -- The code of a line on each way through: where it ends, what it is to the block, what comes off it, its break. Assumes nothing.
 use Prim.Native.Nat.{ℕ, zero, suc, _+_, _-_, _<_, _≤_, min}
-use mathlib.Core.Path.{_≡_, refl, sym, _∙_}
+use mathlib.Core.Path.{_≡_, refl, sym, ap, _∙_}
 use mathlib.Core.Bool.{Bool, true, false, not}
 use mathlib.Core.List.{List, [], _∷_}
 use native.Mathlib.Omega.{arith}
-use native.Mathlib.Numerals.{add-one}
 use lib.Dec.{eqb}
-use lib.ListN.{length, getD, drop, length-drop, drop-of-length-le}
+use lib.ListN.{length, getD, take, drop, length-drop, drop-of-length-le}
 use lib.Seq.{getD-drop, drop-drop}
-use borrow.Author.Tests.{eq-eqb, ne-eqb, le-leb, lt-leb, not-true, not-false}
+use borrow.Author.Tests.{eq-eqb, ne-eqb, le-leb, lt-leb}
 use Rattle.byte.specs.Words.{if_then_else_, _is_, run}
 use Rattle.byte.specs.Bytes.{isBlank, isIdentifier, isNoBreak}
 use Rattle.source.specs.Code.{RunEnd}
@@ -18,9 +17,9 @@ use Rattle.unit.specs.declared.Match.{Match}
 use Rattle.unit.specs.Closers.{matched, indented}
 use Rattle.unit.proofs.Inside.{matched-length}
 use Rattle.sheet.specs.declared.Line.{Line}
-use Rattle.sheet.specs.Bodies.{isBreak, isOver}
+use Rattle.sheet.specs.Bodies.{Indent, isBreak, isOver}
 use Rattle.sheet.specs.Sheets.{closingLabel, judgedLine, lineKind}
-use Rattle.sheet.specs.Code.{lineLength, LineEnd, offsetOf, isStray, breakOf}
+use Rattle.sheet.specs.Code.{lineLength, LineEnd, indentation, offsetOf, isStray, breakOf}
 use Rattle.sheet.proofs.Closings.{bounded, closingLabel-bounded}
 use Rattle.sheet.proofs.Inside.{run-length}
 
@@ -30,7 +29,8 @@ unfolding lineLength run isNoBreak
 lineLength-run [] = omega arith
 lineLength-run (b ∷ rest) = go (eqb b 10) (lineLength-run rest)
   where
-    go : (t : Bool) → lineLength rest ≡ min (suc (run isNoBreak rest)) (length rest) → (if t then 1 else suc (lineLength rest)) ≡ min (suc (if not t then suc (run isNoBreak rest) else 0)) (suc (length rest))
+    go : (t : Bool) → lineLength rest ≡ min (suc (run isNoBreak rest)) (length rest)
+        → (if t then 1 else suc (lineLength rest)) ≡ min (suc (if not t then suc (run isNoBreak rest) else 0)) (suc (length rest))
     go true e = omega arith
     go false e = omega arith
 
@@ -87,109 +87,143 @@ module _ (label line : List ℕ) (at : ℕ) (end : Bool) (m : Match) (e : m ≡ 
 
 pub ruleset labels = (label-inside, label-whole, label-other, label-undecided)
 
--- it closes the line, makes it one of the body, or leaves it open
-module _ (end : Bool) (ind : Indentation) (amount : ℕ) where
-  pub judgedLine-arm : (m arm : Match) (r : Line) → m ≡ arm → r ≡ judgedLine arm end ind amount → r ≡ judgedLine m end ind amount
-  judgedLine-arm m arm r e h = rw e h
+-- after its blanks a line is what the label makes of it
+lineKind-run : (label : List ℕ) (end : Bool) (ind : Indentation) (amount : ℕ) (xs : List ℕ)
+    → lineKind label end ind amount xs
+    ≡ judgedLine (closingLabel label end (drop (run isBlank xs) xs)) end (indentation ind (take (run isBlank xs) xs))
+    (amount + run isBlank xs)
+unfolding lineKind run indentation
+lineKind-run label end ind amount [] =
+    let z : amount + 0 ≡ amount = omega arith in
+    rw z
+lineKind-run label end ind amount (b ∷ rest) = go (isBlank b) (lineKind-run label end (indented ind b) (suc amount) rest)
+  where
+    go : (t : Bool)
+        → lineKind label end (indented ind b) (suc amount) rest
+        ≡ judgedLine (closingLabel label end (drop (run isBlank rest) rest)) end
+        (indentation (indented ind b) (take (run isBlank rest) rest)) (suc amount + run isBlank rest)
+        → (if t then lineKind label end (indented ind b) (suc amount) rest
+        else judgedLine (closingLabel label end (b ∷ rest)) end ind amount)
+        ≡ judgedLine (closingLabel label end (drop (if t then suc (run isBlank rest) else 0) (b ∷ rest))) end
+        (indentation ind (take (if t then suc (run isBlank rest) else 0) (b ∷ rest)))
+        (amount + (if t then suc (run isBlank rest) else 0))
+    go true e =
+        let z : amount + suc (run isBlank rest) ≡ suc amount + run isBlank rest = omega arith in
+        e ∙ rw z
+    go false e =
+        let z : amount + 0 ≡ amount = omega arith in
+        rw z
 
-  pub judgedLine-whole : Line.Closes ind amount ≡ judgedLine Match.Whole end ind amount
+module _ (label line : List ℕ) (end : Bool) (n : ℕ) (r : RunEnd isBlank line 0 n) (m : Match)
+    (e : m ≡ closingLabel label end (drop n line)) where
+  kind : lineKind label end Indentation.None 0 line ≡ judgedLine m end (indentation Indentation.None (take n line)) n
+  kind =
+      let z : run isBlank line ≡ n = omega (arith, r .place) in
+      let y : 0 + n ≡ n = omega arith in
+      lineKind-run label end Indentation.None 0 line ∙ rw (z, e, y)
+
+  pub kind-closes : (ind : Indentation) → m ≡ Match.Whole → ind ≡ indentation Indentation.None (take n line)
+      → Line.Closes ind n ≡ lineKind label end Indentation.None 0 line
   unfolding judgedLine
-  judgedLine-whole = refl
+  kind-closes ind w i = sym (kind ∙ rw (w, ← i))
 
-  pub judgedLine-other : Line.Body ≡ judgedLine Match.Other end ind amount
+  pub kind-other : m ≡ Match.Other → Line.Body ≡ lineKind label end Indentation.None 0 line
   unfolding judgedLine
-  judgedLine-other = refl
+  kind-other w = sym (kind ∙ rw w)
 
-  pub judgedLine-end : end ≡ true → Line.Body ≡ judgedLine Match.Undecided end ind amount
+  pub kind-end : m ≡ Match.Undecided → end ≡ true → Line.Body ≡ lineKind label end Indentation.None 0 line
   unfolding judgedLine
-  judgedLine-end t = rw t
+  kind-end w t = sym (kind ∙ rw (w, t))
 
-  pub judgedLine-more : end ≡ false → Line.Undecided ≡ judgedLine Match.Undecided end ind amount
+  pub kind-more : m ≡ Match.Undecided → end ≡ false → Line.Undecided ≡ lineKind label end Indentation.None 0 line
   unfolding judgedLine
-  judgedLine-more t = rw t
+  kind-more w t = sym (kind ∙ rw (w, t))
 
-pub ruleset judgements = (judgedLine-arm, judgedLine-whole, judgedLine-other, judgedLine-end, judgedLine-more)
+pub ruleset kinds = (kind-closes, kind-other, kind-end, kind-more)
 
--- i blanks are passed: what is left decides
-pub record Indenting (label line : List ℕ) (end : Bool) (ind : Indentation) (i : ℕ) : Type 0 where
+-- the blanks before i have this kind
+pub record Indenting (line : List ℕ) (n : ℕ) (ind : Indentation) (i : ℕ) : Type 0 where
+  pub inside : i ≤ n
+  pub same : indentation Indentation.None (take n line) ≡ indentation ind (take (n - i) (drop i line))
+
+module _ (line : List ℕ) (n : ℕ) (fits : n ≤ length line) where
+  pub indenting-first : Indenting line n Indentation.None 0
+  indenting-first =
+      let z : n ≡ n - 0 = omega arith in
+      record { inside = omega arith; same = ap (λ (k : ℕ). indentation Indentation.None (take k line)) z }
+
+  module _ (ind : Indentation) (i : ℕ) (p : Indenting line n ind i) where
+    pub indenting-end : n ≤ i → ind ≡ indentation Indentation.None (take n line)
+    unfolding indentation
+    indenting-end h =
+        let z : n - i ≡ 0 = omega arith in
+        sym (p .same ∙ rw z)
+
+    pub indenting-on : (more : Indentation) → i < n → more ≡ indented ind (getD line i 0) → Indenting line n more (i + 1)
+    unfolding indentation
+    indenting-on more h e =
+        let z : n - i ≡ suc (n - (i + 1)) = omega arith in
+        let k : i < length line = omega arith in
+        record { inside = omega arith; same = p .same ∙ rw (z, drop-one line i k, e) }
+
+pub ruleset indenting = (indenting-first, indenting-end, indenting-on)
+
+-- i bytes of indentation come off
+pub record Counting (blank width : ℕ) (line : List ℕ) (i : ℕ) : Type 0 where
   pub inside : i ≤ length line
-  pub same : lineKind label end Indentation.None 0 line ≡ lineKind label end ind i (drop i line)
-
-module _ (label line : List ℕ) (end : Bool) where
-  pub indenting-first : Indenting label line end Indentation.None 0
-  indenting-first = record { inside = omega arith; same = refl }
-
-  module _ (ind : Indentation) (i : ℕ) (l : Indenting label line end ind i) where
-    module _ (m : Match) (r : Line) (e : m ≡ closingLabel label end (drop i line)) (f : r ≡ judgedLine m end ind i) where
-      pub indenting-end : length line ≤ i → r ≡ lineKind label end Indentation.None 0 line
-      unfolding lineKind
-      indenting-end h = f ∙ rw e (sym (l .same ∙ rw (drop-of-length-le line h)))
-
-      pub indenting-label : (flag : Bool) → i < length line → flag ≡ isBlank (getD line i 0) → not flag ≡ true
-          → r ≡ lineKind label end Indentation.None 0 line
-      unfolding lineKind
-      indenting-label flag h b t = f ∙ rw e (sym (l .same ∙ rw (drop-one line i h, ← b, not-true flag t)))
-
-    pub indenting-on : (more : Indentation) (flag : Bool) → i < length line → flag ≡ isBlank (getD line i 0)
-        → not flag ≡ false → more ≡ indented ind (getD line i 0) → Indenting label line end more (i + 1)
-    unfolding lineKind
-    indenting-on more flag h b t e =
-        record { inside = omega arith; same = l .same ∙ rw (drop-one line i h, ← b, not-false flag t, e, add-one i) }
-
-pub ruleset indenting = (indenting-first, indenting-end, indenting-label, indenting-on)
-
--- i blanks are counted
-pub record Counting (blank : ℕ) (line : List ℕ) (i : ℕ) : Type 0 where
-  pub inside : i ≤ length line
+  pub within : i ≤ width
   pub same : run (eqb blank) line ≡ i + run (eqb blank) (drop i line)
 
-module _ (blank : ℕ) (line : List ℕ) where
-  pub counting-first : Counting blank line 0
-  counting-first = record { inside = omega arith; same = omega arith }
+module _ (blank width : ℕ) (line : List ℕ) where
+  pub counting-first : Counting blank width line 0
+  counting-first = record { inside = omega arith; within = omega arith; same = omega arith }
 
-  module _ (i : ℕ) (p : Counting blank line i) where
-    pub counting-end : length line ≤ i → i ≡ run (eqb blank) line
-    unfolding run
-    counting-end h = sym (p .same ∙ rw (drop-of-length-le line h) (omega arith))
+  module _ (i : ℕ) (p : Counting blank width line i) where
+    pub counting-full : width ≤ i → i ≡ offsetOf (record { blank = blank; width = width }) line
+    unfolding offsetOf
+    counting-full h = omega (arith, p .within, p .same)
 
-    module _ (h : i < length line) where
-      pub counting-stop : (getD line i 0 ≡ blank → ⊥) → i ≡ run (eqb blank) line
-      unfolding run
+    pub counting-end : i < width → length line ≤ i → i ≡ offsetOf (record { blank = blank; width = width }) line
+    unfolding offsetOf run
+    counting-end w h =
+        let e : run (eqb blank) line ≡ i = p .same ∙ rw (drop-of-length-le line h) (omega arith) in
+        omega arith
+
+    module _ (w : i < width) (h : i < length line) where
+      pub counting-stop : (getD line i 0 ≡ blank → ⊥) → i ≡ offsetOf (record { blank = blank; width = width }) line
+      unfolding offsetOf run
       counting-stop n =
           let t : eqb blank (getD line i 0) ≡ false = ne-eqb blank (getD line i 0) (λ (z : blank ≡ getD line i 0). n (sym z)) in
-          sym (p .same ∙ rw (drop-one line i h, t) (omega arith))
+          let e : run (eqb blank) line ≡ i = p .same ∙ rw (drop-one line i h, t) (omega arith) in
+          omega arith
 
-      pub counting-on : getD line i 0 ≡ blank → Counting blank line (i + 1)
+      pub counting-on : getD line i 0 ≡ blank → Counting blank width line (i + 1)
       unfolding run
       counting-on e =
           let t : eqb blank (getD line i 0) ≡ true = eq-eqb blank (getD line i 0) (sym e) in
-          record { inside = omega arith; same = p .same ∙ rw (drop-one line i h, t) (omega arith) }
+          record { inside = omega arith; within = omega arith; same = p .same ∙ rw (drop-one line i h, t) (omega arith) }
 
-pub ruleset counting = (counting-first, counting-end, counting-stop, counting-on)
+pub ruleset counting = (counting-first, counting-full, counting-end, counting-stop, counting-on)
 
--- what comes off a line, and whether the byte behind is stray
-module _ (blank width blanks : ℕ) (line : List ℕ) (e : blanks ≡ run (eqb blank) line) where
-  pub offset-width : width ≤ blanks → width ≡ offsetOf (record { blank = blank; width = width }) line
-  unfolding offsetOf
-  offset-width h = rw (← e, le-leb width blanks h)
+-- whether the byte after what comes off a line is stray
+pub offset-length : (ind : Indent) (line : List ℕ) → offsetOf ind line ≤ length line
+unfolding offsetOf
+offset-length ind line = omega (arith, run-length (eqb (ind .blank)) line)
 
-  pub offset-blanks : blanks < width → blanks ≡ offsetOf (record { blank = blank; width = width }) line
-  unfolding offsetOf
-  offset-blanks h = rw (← e, lt-leb width blanks h)
-
-  pub stray-none : width ≤ blanks → false ≡ isStray (record { blank = blank; width = width }) line
+module _ (blank width off : ℕ) (line : List ℕ) (e : off ≡ offsetOf (record { blank = blank; width = width }) line) where
+  pub stray-none : width ≤ off → false ≡ isStray (record { blank = blank; width = width }) line
   unfolding isStray
-  stray-none h = rw (← e, le-leb width blanks h)
+  stray-none h = rw (← e, le-leb width off h)
 
-  pub stray-over : (over : Bool) → blanks < width → over ≡ isOver (drop blanks line)
+  pub stray-over : (over : Bool) → off < width → over ≡ isOver (drop off line)
       → not over ≡ isStray (record { blank = blank; width = width }) line
   unfolding isStray
-  stray-over over h f = rw (← e, lt-leb width blanks h, ← f)
+  stray-over over h f = rw (← e, lt-leb width off h, ← f)
 
-  pub stray-place : blanks ≤ length line
-  stray-place = rw e (run-length (eqb blank) line)
+  pub stray-place : off ≤ length line
+  stray-place = rw e (offset-length (record { blank = blank; width = width }) line)
 
-pub ruleset offsets = (offset-width, offset-blanks, stray-none, stray-over, stray-place)
+pub ruleset strays = (stray-none, stray-over, stray-place)
 
 module _ (line : List ℕ) (at : ℕ) where
   pub over-past : length line ≤ at → true ≡ isOver (drop at line)
@@ -219,35 +253,22 @@ module _ (line : List ℕ) (at : ℕ) where
 
 pub ruleset overs = (over-past, over-lf, over-other, over-cr-past, over-cr)
 
--- the break at a text's end, by its last bytes
-breakOf-other : (cr : Bool) (xs : List ℕ) (m : ℕ) → length xs ≡ suc m → (getD xs m 0 is "\n") ≡ false → breakOf cr xs ≡ 0
-unfolding breakOf
-breakOf-other cr [] m l e = absurd (omega arith)
-breakOf-other cr (b ∷ []) zero l e = rw e
-breakOf-other cr (b ∷ []) (suc m) l e = absurd (omega arith)
-breakOf-other cr (b ∷ c ∷ rest) zero l e = absurd (omega arith)
-breakOf-other cr (b ∷ c ∷ rest) (suc m) l e = breakOf-other (b is "\r") (c ∷ rest) m (omega arith) e
+-- the break at a text's end, by its last byte and the one before
+unfoldable before : Bool → List ℕ → ℕ → Bool
+before cr xs zero = cr
+before cr xs (suc m) = getD xs m 0 is "\r"
 
-breakOf-one : (xs : List ℕ) → length xs ≡ 1 → (getD xs 0 0 is "\n") ≡ true → breakOf false xs ≡ 1
-unfolding breakOf
-breakOf-one [] l e = absurd (omega arith)
-breakOf-one (b ∷ []) l e = rw e
-breakOf-one (b ∷ c ∷ rest) l e = absurd (omega arith)
-
-breakOf-two : (cr t : Bool) (xs : List ℕ) (m : ℕ) → length xs ≡ suc (suc m) → (getD xs (suc m) 0 is "\n") ≡ true
-    → (getD xs m 0 is "\r") ≡ t → breakOf cr xs ≡ (if t then 2 else 1)
-unfolding breakOf
-breakOf-two cr t [] m l e f = absurd (omega arith)
-breakOf-two cr t (b ∷ []) m l e f = absurd (omega arith)
-breakOf-two cr t (b ∷ c ∷ []) zero l e f = rw (e, f)
-breakOf-two cr t (b ∷ c ∷ []) (suc m) l e f = absurd (omega arith)
-breakOf-two cr t (b ∷ c ∷ d ∷ rest) zero l e f = absurd (omega arith)
-breakOf-two cr t (b ∷ c ∷ d ∷ rest) (suc m) l e f = breakOf-two (b is "\r") t (c ∷ d ∷ rest) m (omega arith) e f
+breakOf-last : (cr : Bool) (xs : List ℕ) (m : ℕ) → length xs ≡ suc m
+    → breakOf cr xs ≡ (if getD xs m 0 is "\n" then (if before cr xs m then 2 else 1) else 0)
+unfolding breakOf before
+breakOf-last cr [] m l = absurd (omega arith)
+breakOf-last cr (b ∷ []) zero l = refl
+breakOf-last cr (b ∷ []) (suc m) l = absurd (omega arith)
+breakOf-last cr (b ∷ c ∷ rest) zero l = absurd (omega arith)
+breakOf-last cr (b ∷ c ∷ rest) (suc zero) l = breakOf-last (b is "\r") (c ∷ rest) zero (omega arith)
+breakOf-last cr (b ∷ c ∷ rest) (suc (suc m)) l = breakOf-last (b is "\r") (c ∷ rest) (suc m) (omega arith)
 
 module _ (body : List ℕ) (at : ℕ) (start : at ≤ length body) where
-  byte-at : (i m : ℕ) → at + m ≡ i → getD (drop at body) m 0 ≡ getD body i 0
-  byte-at i m e = getD-drop at body m 0 ∙ rw e
-
   pub break-empty : length body ≡ at → 0 ≡ breakOf false (drop at body)
   unfolding breakOf
   break-empty e =
@@ -255,30 +276,34 @@ module _ (body : List ℕ) (at : ℕ) (start : at ≤ length body) where
       rw (drop-of-length-le body past)
 
   module _ (n : length body ≡ at → ⊥) where
-    pub break-other : (getD body (length body - 1) 0 ≡ 10 → ⊥) → 0 ≡ breakOf false (drop at body)
-    break-other e =
-        let m = length body - 1 - at in
+    -- m bytes stand before the last
+    last-break : (m : ℕ) → at + suc m ≡ length body
+        → breakOf false (drop at body) ≡ (if getD body (length body - 1) 0 is "\n" then (if before false (drop at body) m then 2 else 1) else 0)
+    last-break m e =
         let l : length (drop at body) ≡ suc m = length-drop at body ∙ omega arith in
-        sym (breakOf-other false (drop at body) m l (rw (byte-at (length body - 1) m (omega arith)) (ne-eqb _ 10 e)))
+        let k : at + m ≡ length body - 1 = omega arith in
+        breakOf-last false (drop at body) m l ∙ rw (getD-drop at body m 0, k)
+
+    pub break-other : (getD body (length body - 1) 0 ≡ 10 → ⊥) → 0 ≡ breakOf false (drop at body)
+    break-other e = sym (last-break (length body - 1 - at) (omega arith) ∙ rw (ne-eqb _ 10 e))
 
     module _ (lf : getD body (length body - 1) 0 ≡ 10) where
       pub break-one : length body - 1 ≡ at → 1 ≡ breakOf false (drop at body)
-      break-one e =
-          let l : length (drop at body) ≡ 1 = length-drop at body ∙ omega arith in
-          sym (breakOf-one (drop at body) l (rw (byte-at (length body - 1) 0 (omega arith)) (eq-eqb _ 10 lf)))
+      unfolding before
+      break-one e = sym (last-break 0 (omega arith) ∙ rw (eq-eqb _ 10 lf))
 
       module _ (k : length body - 1 ≡ at → ⊥) where
-        two : (t : Bool) → (getD body (length body - 1 - 1) 0 is "\r") ≡ t → breakOf false (drop at body) ≡ (if t then 2 else 1)
-        two t f =
+        two : breakOf false (drop at body) ≡ (if getD body (length body - 1 - 1) 0 is "\r" then 2 else 1)
+        unfolding before
+        two =
             let m = length body - 2 - at in
-            let l : length (drop at body) ≡ suc (suc m) = length-drop at body ∙ omega arith in
-            breakOf-two false t (drop at body) m l (rw (byte-at (length body - 1) (suc m) (omega arith)) (eq-eqb _ 10 lf))
-            (rw (byte-at (length body - 1 - 1) m (omega arith)) f)
+            let j : at + m ≡ length body - 1 - 1 = omega arith in
+            last-break (suc m) (omega arith) ∙ rw (eq-eqb _ 10 lf, getD-drop at body m 0, j)
 
         pub break-lf : (getD body (length body - 1 - 1) 0 ≡ 13 → ⊥) → 1 ≡ breakOf false (drop at body)
-        break-lf e = sym (two false (ne-eqb _ 13 e))
+        break-lf e = sym (two ∙ rw (ne-eqb _ 13 e))
 
         pub break-crlf : getD body (length body - 1 - 1) 0 ≡ 13 → 2 ≡ breakOf false (drop at body)
-        break-crlf e = sym (two true (eq-eqb _ 13 e))
+        break-crlf e = sym (two ∙ rw (eq-eqb _ 13 e))
 
 pub ruleset breaks = (break-empty, break-other, break-one, break-lf, break-crlf)

@@ -1,6 +1,6 @@
 -- The loops over lines: the one that finds the closing line, and the one that measures the body. Each turn takes the first line
 -- off what is left, as the definitions do. Assumes nothing.
-use Prim.Native.Nat.{ℕ, suc, _+_, _-_, _^_, _<_, _≤_}
+use Prim.Native.Nat.{ℕ, suc, _+_, _-_, _^_, _<_, _≤_, min}
 use mathlib.Core.Path.{_≡_, refl, sym, ap, _∙_}
 use mathlib.Core.Bool.{Bool, true, false, not}
 use mathlib.Core.List.{List, [], _∷_}
@@ -8,9 +8,8 @@ use native.Mathlib.Omega.{arith}
 use lib.Dec.{eqb, leb}
 use lib.ListN.{length, take, drop, length-drop, length-append, drop-of-length-le}
 use lib.Seq.{drop-drop, length-take-le}
-use borrow.Author.Tests.{leb-true}
+use borrow.Author.Tests.{leb-true, leb-false, le-leb}
 use Rattle.byte.specs.Words.{if_then_else_, _is_, run}
-use Rattle.byte.proofs.Tests.{choice}
 use Rattle.unit.specs.declared.Indentation.{Indentation}
 use Rattle.sheet.specs.declared.Found.{Found}
 use Rattle.sheet.specs.declared.Line.{Line}
@@ -18,7 +17,9 @@ use Rattle.sheet.specs.declared.Size.{Size}
 use Rattle.sheet.specs.Bodies.{Indent, Text, Kept, Stray, inFront, lines, isOver, unindented, followed, bodyText}
 use Rattle.sheet.specs.Sheets.{lineKind, Block, Closed, Missing, Open, withLine, told, block}
 use Rattle.sheet.specs.Code.{lineLength, LineEnd, found, offsetOf, isStray, sizeOf}
-use Rattle.sheet.proofs.Inside.{lineKind-inside, run-length}
+use Rattle.sheet.proofs.Lines.{flat, flat-lines}
+use Rattle.sheet.proofs.Inside.{LineCloses, line-inside}
+use Rattle.sheet.proofs.Steps.{offset-length}
 
 -- the lines of a text are its first line and the lines behind it
 first-line : (b : ℕ) (rest : List ℕ)
@@ -107,9 +108,9 @@ module _ (label src : List ℕ) (at : ℕ) (end : Bool) where
 
       pub finding-place : (ind : Indentation) (amount : ℕ) → length src ≤ 65536 → kind ≡ Line.Closes ind amount → i + amount < 2 ^ 64
       finding-place ind amount short c =
-          let l : amount + length label ≤ length (take (next - i) (drop i src)) =
-          rw (← k, c) at (lineKind-inside label end Indentation.None 0 (length (take (next - i) (drop i src))) (take (next - i) (drop i src)) (omega arith)) in
-          omega (arith, line-size src i next h e, e .inside, e .on)
+          let l : LineCloses (length label) (length (take (next - i) (drop i src))) ind amount =
+          rw (← k, c) at (line-inside label end (take (next - i) (drop i src))) in
+          omega (arith, l .inside, line-size src i next h e, e .inside, e .on)
 
       pub finding-open : kind ≡ Line.Undecided → Found.Open ≡ found (block label end at (lines (drop at src)))
       unfolding told found
@@ -130,25 +131,34 @@ pub unindented-parts : (ind : Indent) (n : ℕ) (line : List ℕ)
     → unindented ind n line
     ≡ (if isStray ind line then Stray (n + offsetOf ind line) else Kept (drop (offsetOf ind line) line))
 unfolding unindented isStray offsetOf
-unindented-parts ind n line =
-    go (leb (ind .width) (run (eqb (ind .blank)) line)) (isOver (drop (run (eqb (ind .blank)) line) line))
+unindented-parts ind n line = go (leb (ind .width) (run (eqb (ind .blank)) line)) refl
   where
-    go : (t o : Bool) →
-        (if t then Kept (drop (ind .width) line)
-        else if o then Kept (drop (run (eqb (ind .blank)) line) line)
-        else Stray (n + run (eqb (ind .blank)) line))
-        ≡ (if (if t then false else not o) then Stray (n + (if t then ind .width else run (eqb (ind .blank)) line))
-        else Kept (drop (if t then ind .width else run (eqb (ind .blank)) line) line))
-    go true o = refl
-    go false true = refl
-    go false false = refl
+    blanks : ℕ
+    blanks = run (eqb (ind .blank)) line
 
-pub offset-length : (ind : Indent) (line : List ℕ) → offsetOf ind line ≤ length line
-unfolding offsetOf
-offset-length ind line =
-    choice (λ k. k ≤ length line) (leb (ind .width) (run (eqb (ind .blank)) line)) _ _
-    (λ e. omega (arith, leb-true (ind .width) (run (eqb (ind .blank)) line) e, run-length (eqb (ind .blank)) line))
-    (λ e. run-length (eqb (ind .blank)) line)
+    over : (o : Bool) → (if o then Kept (drop blanks line) else Stray (n + blanks))
+        ≡ (if not o then Stray (n + blanks) else Kept (drop blanks line))
+    over true = refl
+    over false = refl
+
+    go : (t : Bool) → leb (ind .width) blanks ≡ t
+        → (if leb (ind .width) blanks then Kept (drop (ind .width) line)
+        else if isOver (drop blanks line) then Kept (drop blanks line) else Stray (n + blanks))
+        ≡ (if (if leb (ind .width) (min (ind .width) blanks) then false else not (isOver (drop (min (ind .width) blanks) line)))
+        then Stray (n + min (ind .width) blanks) else Kept (drop (min (ind .width) blanks) line))
+    go true e =
+        let z : min (ind .width) blanks ≡ ind .width = omega (arith, leb-true (ind .width) blanks e) in
+        rw (e, z, le-leb (ind .width) (ind .width) (omega arith))
+    go false e =
+        let z : min (ind .width) blanks ≡ blanks = omega (arith, leb-false (ind .width) blanks e) in
+        rw (z, e) (over (isOver (drop blanks line)))
+
+-- without an indentation all is left
+pub flush-body : (ind : Indent) → ind .width ≡ 0 → (n : ℕ) (ls : List (List ℕ)) → bodyText ind n ls ≡ Kept (flat ls)
+unfolding bodyText followed unindented flat
+flush-body ind z n [] = refl
+flush-body ind z n (line ∷ more) =
+    rw (flush-body ind z (n + length line) more, z, le-leb 0 (run (eqb (ind .blank)) line) (omega arith))
 
 -- so many bytes more
 unfoldable pub plus : ℕ → Size → Size
@@ -174,6 +184,11 @@ pub record Stripping (ind : Indent) (body : List ℕ) (at i len : ℕ) : Type 0 
 module _ (blank width : ℕ) (body : List ℕ) (at : ℕ) where
   abbrev ind : Indent
   ind = record { blank = blank; width = width }
+
+  pub stripping-flush : width ≡ 0
+      → Size.Kept (length body - at) ≡ sizeOf (bodyText (record { blank = blank; width = width }) at (lines (drop at body)))
+  unfolding sizeOf
+  stripping-flush e = rw (flush-body ind e at (lines (drop at body)), flat-lines (drop at body), length-drop at body)
 
   pub stripping-first : at ≤ length body → Stripping (record { blank = blank; width = width }) body at at 0
   stripping-first h = record { inside = h; small = omega arith; same = plus-zero _ }
@@ -213,4 +228,4 @@ module _ (blank width : ℕ) (body : List ℕ) (at : ℕ) where
       pub stripping-less : length body - next < length body - i
       stripping-less = omega (arith, e .on, e .inside)
 
-pub ruleset stripping = (stripping-first, stripping-end, stripping-off, stripping-place, stripping-stray, stripping-on, stripping-less)
+pub ruleset stripping = (stripping-flush, stripping-first, stripping-end, stripping-off, stripping-place, stripping-stray, stripping-on, stripping-less)

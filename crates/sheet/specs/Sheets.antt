@@ -18,7 +18,9 @@ use Rattle.byte.specs.Words.{if_then_else_, run, bytes}
 use Rattle.byte.specs.Bytes.{isBlank, isIdentifier}
 use Rattle.unit.specs.declared.Indentation.{Indentation}
 use Rattle.unit.specs.declared.Match.{Match}
+use Rattle.unit.specs.declared.Stop.{Stop}
 use Rattle.unit.specs.Closers.{indented}
+use Rattle.unit.specs.Readings.{Reading}
 use Rattle.sheet.specs.declared.Line.{Line}
 use Rattle.sheet.specs.Bodies.{Text, Kept, Stray, lines, inFront, isBreak, isOver, unindented, followed, bodyText, unbroken}
 
@@ -63,15 +65,9 @@ block label end n [] = if end then Missing n else Open
 block label end n (line ∷ more) =
     told (lineKind label end Indentation.None 0 line) n line (block label end (n + length line) more)
 
--- the value, the indentation and its amount, and the label's place and end; or a refusal and its place; or wait
-pub data Reading : Type 0 where
-  Sheet : List ℕ → Indentation → ℕ → ℕ → ℕ → Reading
-  Refused : ℕ → ℕ → Reading
-  Wait : Reading
-
 unfoldable pub filled : Text → Indentation → ℕ → ℕ → ℕ → Reading
-filled (Kept text) ind amount place after = Sheet (unbroken text) ind amount place after
-filled (Stray p) ind amount place after = Refused strayIndentation p
+filled (Kept text) ind amount place after = Reading.Text (unbroken text) (Stop.Label ind amount) place after
+filled (Stray p) ind amount place after = Reading.Refused strayIndentation p
 
 -- the lines of a body that starts at n, behind which the label stands
 unfoldable pub stripped : ℕ → ℕ → List (List ℕ) → Indentation → ℕ → ℕ → Reading
@@ -81,23 +77,24 @@ stripped size n body Indentation.Space amount place =
     filled (bodyText (record { blank = code " "; width = amount }) n body) Indentation.Space amount place (place + size)
 stripped size n body Indentation.Tab amount place =
     filled (bodyText (record { blank = code "\t"; width = amount }) n body) Indentation.Tab amount place (place + size)
-stripped size n body Indentation.Mixed amount place = Refused invalidDocIndentation place
+stripped size n body Indentation.Mixed amount place = Reading.Refused invalidDocIndentation place
 
 unfoldable pub answered : ℕ → ℕ → Block → Reading
 answered size n (Closed body ind amount place) = stripped size n body ind amount place
-answered size n (Missing place) = Refused unexpectedEndOfFile place
-answered size n Open = Wait
+answered size n (Missing place) = Reading.Refused unexpectedEndOfFile place
+answered size n Open = Reading.Wait
 
 unfoldable pub sheetAt : List ℕ → Bool → ℕ → List ℕ → Reading
 sheetAt label end n xs = answered (length label) n (block label end n (lines xs))
 
 -- worked sheets o and p
-sheet-o : sheetAt (bytes "EOT") true 0 (bytes "  ab\n   c\n\n  EOT") ≡ Sheet (bytes "ab\n c\n") Indentation.Space 2 13 16
+sheet-o : sheetAt (bytes "EOT") true 0 (bytes "  ab\n   c\n\n  EOT")
+    ≡ Reading.Text (bytes "ab\n c\n") (Stop.Label Indentation.Space 2) 13 16
 unfolding sheetAt answered stripped filled block told withLine lineKind judgedLine closingLabel indented isBlank bodyText
     followed unindented unbroken isOver isBreak lines inFront run bytes
 sheet-o = refl
 
-sheet-p : sheetAt (bytes "EOT") true 0 (bytes " a\n  EOT") ≡ Refused 13 1
+sheet-p : sheetAt (bytes "EOT") true 0 (bytes " a\n  EOT") ≡ Reading.Refused 13 1
 unfolding sheetAt answered stripped filled block told withLine lineKind judgedLine closingLabel indented isBlank bodyText
     followed unindented isOver isBreak lines inFront run bytes
 sheet-p = refl

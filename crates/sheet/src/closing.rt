@@ -7,11 +7,11 @@ use unit::Match;
 ghost use mathlib.Core.Path.{_≡_};
 ghost use mathlib.Core.List.{[]};
 ghost use Prim.Native.Nat.{_≤_, _<_};
-ghost use lib.ListN.{length, drop};
+ghost use lib.ListN.{length, take, drop};
 ghost use Rattle.unit.specs.declared.Indentation.{Indentation};
 ghost use Rattle.sheet.specs.Bodies.{lines};
-ghost use Rattle.sheet.specs.Sheets.{closingLabel, judgedLine, lineKind, block};
-ghost use Rattle.sheet.specs.Code.{LineEnd, found};
+ghost use Rattle.sheet.specs.Sheets.{closingLabel, lineKind, block};
+ghost use Rattle.sheet.specs.Code.{LineEnd, indentation, found};
 
 // Where the line at `at` ends, behind its break.
 pub fn line_end(src: &[u8], at: usize) -> usize
@@ -55,14 +55,31 @@ fn closing_label(line: &[u8], at: usize, label: &[u8], end: bool) -> Match
     }
 }
 
-// What the label makes of a line.
-fn judged_as(m: Match, end: bool, ind: Indentation, amount: usize) -> Line
-    ensures { λ r. ⌜ r ≡ judgedLine m end ind amount ⌝ }
+// The kind of the first n bytes of a line, which are blanks.
+fn indentation_of(line: &[u8], n: usize) -> Indentation
+    requires { ⌜ n ≤ length (now line) ⌝ }
+    ensures { λ r. ⌜ r ≡ indentation Indentation.None (take n (now (line .entry))) ⌝ }
 {
+    let mut i = 0;
+    let mut ind = Indentation::None;
+    while i < n {
+        ind = closer::indented_by(ind, line[i]);
+        i += 1;
+    }
+    ind
+}
+
+// What one line is to the block. Only where the label closes is the kind of its blanks asked.
+fn line_kind(line: &[u8], label: &[u8], end: bool) -> Line
+    requires { ⌜ (length (now line) ≤ 65536) × (length (now label) ≤ 64) ⌝ }
+    ensures { λ r. ⌜ r ≡ lineKind (now (label .entry)) end Indentation.None 0 (now (line .entry)) ⌝ }
+{
+    let n = closer::blank_end(line, 0);
+    let m = closing_label(line, n, label, end);
     match m {
         Match::Whole => Line::Closes {
-            indentation: ind,
-            amount,
+            indentation: indentation_of(line, n),
+            amount: n,
         },
         Match::Other => Line::Body,
         Match::Undecided => {
@@ -72,24 +89,6 @@ fn judged_as(m: Match, end: bool, ind: Indentation, amount: usize) -> Line
             Line::Undecided
         }
     }
-}
-
-// What one line is to the block.
-fn line_kind(line: &[u8], label: &[u8], end: bool) -> Line
-    requires { ⌜ (length (now line) ≤ 65536) × (length (now label) ≤ 64) ⌝ }
-    ensures { λ r. ⌜ r ≡ lineKind (now (label .entry)) end Indentation.None 0 (now (line .entry)) ⌝ }
-{
-    let mut i = 0;
-    let mut ind = Indentation::None;
-    while i < line.len() {
-        let b = line[i];
-        if !byte::is_blank(b) {
-            return judged_as(closing_label(line, i, label, end), end, ind, i);
-        }
-        ind = closer::indented_by(ind, b);
-        i += 1;
-    }
-    judged_as(closing_label(line, i, label, end), end, ind, i)
 }
 
 // The first line from `at` on that closes the block.

@@ -20,7 +20,7 @@ use Rattle.byte.proofs.Tests.{&&-left, &&-right, &&-both, choice}
 use Rattle.byte.proofs.Words.{every-take, every-set}
 use Rattle.source.proofs.Cursor.{passed-position, passed-placed}
 use Rattle.state.specs.declared.Frame.{Frame}
-use Rattle.state.specs.declared.Reading.{Reading}
+use Rattle.state.specs.declared.Choices.{Choices}
 use Rattle.state.specs.declared.Session.{Session}
 use Rattle.state.specs.declared.Answer.{Answer}
 use Rattle.state.specs.declared.Turn.{Turn}
@@ -133,6 +133,6 @@ module _ (src : List ℕ) (s : Session) where
   unfolding popped
   pop-stays = gated-stays src (gateRefusal src s) s _ (choice (Stays src s) (ltb 1 (s .depth)) _ _ (λ e. record { good = λ g. left-good src s g (ltb-true _ _ e); tokens = refl; bytes = refl }) (λ e. same-stays src s _))
 
-pub fresh-good : (src : List ℕ) (nowdocs : Reading) → isGood src (freshSession nowdocs) ≡ true
+pub fresh-good : (src : List ℕ) (choices : Choices) → isGood src (freshSession choices) ≡ true
 unfolding isGood isWithin isStack isBottom isFrame every
-fresh-good src nowdocs = rw (le-leb 0 (length src) (omega arith))
+fresh-good src choices = rw (le-leb 0 (length src) (omega arith))

@@ -1,6 +1,7 @@
 -- A session's bounds (document 01, refusal 12), one by one, and what tables may be lent (refusal 11).
---   labelBytes, isLabel   the bytes that a label names; 1 to 64 identifier bytes within the source
+--   labelBytes, noLabel, isLabel   the bytes that a label names; the range of none; 1 to 64 identifier bytes within the source
 --   isFrame               a frame whose label, if it has one, is a label
+--   isScripting           the step's table and the readings want this frame
 --   isBottom              not VarOffset, not LookingForProperty
 --   isStack               the bottom frame may stand there, and each frame up to the depth is one; those above are not looked at
 --   isWithin              position, depth, line and column are within their bounds
@@ -21,6 +22,10 @@ use Rattle.state.specs.declared.Session.{Session}
 abbrev pub labelBytes : List ℕ → Label → List ℕ
 labelBytes src l = take (l .len) (drop (l .start) src)
 
+-- a frame or a mode without a label has this range
+abbrev pub noLabel : Label
+noLabel = record { start = 0; len = 0 }
+
 unfoldable pub isLabel : List ℕ → Label → Bool
 isLabel src l =
     leb 1 (l .len) && leb (l .len) 64 && leb (l .start + l .len) (length src) && every isIdentifier (labelBytes src l)
@@ -35,6 +40,17 @@ isFrame src Frame.ShellExec = true
 isFrame src Frame.LookingForVarname = true
 isFrame src Frame.LookingForProperty = true
 isFrame src Frame.VarOffset = true
+
+unfoldable pub isScripting : Frame → Bool
+isScripting Frame.Scripting = true
+isScripting Frame.Initial = false
+isScripting Frame.DoubleQuote = false
+isScripting Frame.ShellExec = false
+isScripting (Frame.Heredoc label) = false
+isScripting (Frame.Nowdoc label) = false
+isScripting Frame.LookingForVarname = false
+isScripting Frame.LookingForProperty = false
+isScripting Frame.VarOffset = false
 
 unfoldable pub isBottom : Frame → Bool
 isBottom Frame.VarOffset = false

@@ -11,7 +11,7 @@ use Rattle.byte.specs.Words.{if_then_else_}
 use Rattle.source.specs.Cursor.{origin, passed}
 use Rattle.source.specs.declared.Span.{Span}
 use Rattle.state.specs.declared.Frame.{Frame}
-use Rattle.state.specs.declared.Reading.{Reading}
+use Rattle.state.specs.declared.Choices.{Choices}
 use Rattle.state.specs.declared.Session.{Session}
 use Rattle.state.specs.declared.Answer.{Answer}
 use Rattle.state.specs.declared.Turn.{Turn}
@@ -40,7 +40,7 @@ moved s p = record {
   tokens = s .tokens;
   bytes = s .bytes;
   frames = s .frames;
-  nowdocs = s .nowdocs;
+  choices = s .choices;
 }
 
 abbrev pub entered : Session → Frame → Session
@@ -52,7 +52,7 @@ entered s f = record {
   tokens = s .tokens;
   bytes = s .bytes;
   frames = set (s .frames) (s .depth) (record { frame = f });
-  nowdocs = s .nowdocs;
+  choices = s .choices;
 }
 
 -- what stood there stays in the array, above the depth
@@ -65,11 +65,11 @@ left s = record {
   tokens = s .tokens;
   bytes = s .bytes;
   frames = s .frames;
-  nowdocs = s .nowdocs;
+  choices = s .choices;
 }
 
-abbrev pub freshSession : Reading → Session
-freshSession nowdocs = record {
+abbrev pub freshSession : Choices → Session
+freshSession choices = record {
   position = 0;
   line = 1;
   column = 1;
@@ -77,7 +77,7 @@ freshSession nowdocs = record {
   tokens = 0;
   bytes = 0;
   frames = replicate 64 noSlot;
-  nowdocs = nowdocs;
+  choices = choices;
 }
 
 -- the next count bytes are passed

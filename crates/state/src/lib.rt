@@ -41,6 +41,11 @@ pub enum Reading {
     Sheet,
 }
 
+// What the session's owner chose.
+pub struct Choices {
+    pub nowdocs: Reading,
+}
+
 // Where a host is in its script, and how full its tables are. Frames from the depth on mean nothing.
 pub struct Session {
     pub position: u32,
@@ -51,7 +56,7 @@ pub struct Session {
     pub tokens: u32,
     pub bytes: u32,
     pub frames: [Slot; 64],
-    pub nowdocs: Reading,
+    pub choices: Choices,
 }
 
 // What came of a call.
@@ -238,8 +243,8 @@ pub fn gate_with_tables(src: &[u8], list: usize, pool: usize, s: Session) -> u32
 }
 
 // A session before its script: one frame, Initial, at the beginning, with both marks 0.
-pub fn fresh(nowdocs: Reading) -> Session
-    ensures { λ r. ⌜ r ≡ freshSession nowdocs ⌝ }
+pub fn fresh(choices: Choices) -> Session
+    ensures { λ r. ⌜ r ≡ freshSession choices ⌝ }
 {
     Session {
         position: 0,
@@ -251,7 +256,7 @@ pub fn fresh(nowdocs: Reading) -> Session
         frames: [Slot {
             frame: Frame::Initial,
         }; 64],
-        nowdocs,
+        choices,
     }
 }
 

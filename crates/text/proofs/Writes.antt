@@ -21,11 +21,12 @@ use Rattle.unit.specs.declared.TextUnit.{TextUnit}
 use Rattle.unit.specs.Digits.{utf8}
 use Rattle.unit.specs.Units.{unitAt}
 use Rattle.unit.specs.Readings.{Reading, Text, Refused, Wait, onto, taken, afterOf, collected, trimmed, losesBreak, finished, textAt}
-use Rattle.unit.proofs.Inside.{InsideReading, collected-turn, text-inside}
+use Rattle.unit.proofs.Inside.{InsideReading, text-inside}
+use Rattle.unit.proofs.Readings.{collected-turn}
 use Rattle.text.specs.Code.{Here, isPlain, bytesOf, isBreak, lastBreak, valueOf, isWritable, Writable, Measured}
-use Rattle.text.proofs.Points.{unit-writable}
 use Rattle.text.proofs.Runs.{run-after, run-turn, run-length, part-break, loses-plain}
-use Rattle.text.proofs.Scans.{positive, utf8-some, lastBreak-append, lastBreak-any, trimmed-length, text-taken, text-break, unit-turn, unit-text}
+use Rattle.text.proofs.Scans.{positive, utf8-some, lastBreak-append, lastBreak-any, trimmed-length, text-taken}
+use Rattle.text.proofs.Scans.{text-break, unit-turn, unit-text, unit-writable}
 
 -- one unit
 module _ (dst : List ℕ) (at : ℕ) (u : TextUnit) (w : Writable (length dst) at u) where
@@ -294,7 +295,7 @@ module _ (m : Mode) (label : List ℕ) (end : Bool) (src : List ℕ) (at len : �
         unit-room =
             record {
               fits = omega (arith, unit-fits, p .fits, q .size);
-              scalar = rw e (unit-writable m label end i (getD src i 0) (drop (i + 1) src));
+              scalar = unit-writable m label end src i (textFrom-inside m label end src i some) u e;
             }
 
         unit-on : (after : List ℕ) → after ≡ laid dst j (bytesOf u)

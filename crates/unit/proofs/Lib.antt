@@ -1,13 +1,10 @@
 pub mod Stays
 pub mod Stands
-pub mod Lies
+pub mod Readings
 pub mod Inside
 pub mod Openings
 pub mod Opens
 pub mod Demand
-pub mod Stops
 pub mod Manual
 pub mod Differences
 pub mod Literals
-pub mod Progress
-pub mod Copies

@@ -1,18 +1,15 @@
--- What stands at a place of a text, told once for every mode: where a unit goes on, what its value is of, where it ends a text; and what
--- a reading is then. All other laws on units and readings are cases of these two.
---   unit-stands       Stands m n b (n + 1 + length rest) (unitAt m label end n b rest)
---   collected-skip    a reading that has k bytes to pass is the reading from k bytes on
---   collected-turn    a reading is its first unit and the reading from behind that unit
---   text-stands       StandsReading m n (n + length xs) xs (textAt m label end n xs)
+-- What stands at a place of a text, told once for every mode: where a unit goes on, what its value is of, and where it
+-- ends a text.
+--   unit-stands       Stands (isLiteral m) n b (n + 1 + length rest) (unitAt m label end n b rest)
 -- Each law is its definition again, with `if-stands` for a choice. Assumes nothing.
-use Prim.Native.Nat.{ℕ, zero, suc, _+_, _-_, _*_, _≤_, _<_}
+use Prim.Native.Nat.{ℕ, zero, suc, _+_, _*_, _≤_, _<_}
 use Prim.Native.Char.{Char, code}
-use mathlib.Core.Path.{_≡_, refl, sym, ap, _∙_}
+use mathlib.Core.Path.{_≡_, refl, sym, _∙_}
 use mathlib.Core.Bool.{Bool, true, false, _&&_, _||_, false≢true}
 use mathlib.Core.List.{List, [], _∷_}
 use native.Mathlib.Omega.{arith}
 use lib.Dec.{ltb, leb, eqb}
-use lib.ListN.{length, take, drop, length-append}
+use lib.ListN.{length}
 use borrow.Author.Tests.{eqb-true, ltb-true}
 use Rattle.byte.specs.Refusals.{wait}
 use Rattle.byte.specs.Words.{if_then_else_, _is_}
@@ -30,8 +27,7 @@ use Rattle.unit.specs.Escapes.{letterValue, fitted, digits, hex, codePoi
 use Rattle.unit.specs.Interpolations.{follow, variable, name, dollar, brace, findDollar, findBrace}
 use Rattle.unit.specs.Closers.{matched, indented, closer, judged, line}
 use Rattle.unit.specs.Units.{unitAt}
-use Rattle.unit.specs.Readings.{Reading, Text, Refused, Wait, onto, taken, afterOf, collected, trimmed}
-use Rattle.unit.specs.Readings.{losesBreak, finished, textAt, gap}
+use Rattle.unit.specs.Readings.{gap}
 use Rattle.unit.proofs.Stays.{clash}
 
 -- a literal leaves its interpolations to `double_quote`: it enters no frame, and only it may end where it starts
@@ -75,7 +71,7 @@ pub record StopStands (literal : Bool) (n hi : ℕ) (stop : Stop) (from after : 
   pub keeps : literal ≡ true → enters stop ≡ false
 
 -- a refusal, which is not the wait
-pub record FaultStands (n hi number place : ℕ) : Type 0 where
+pub record FaultInside (n hi number place : ℕ) : Type 0 where
   pub told : eqb number wait ≡ false
   pub on : n ≤ place
   pub inside : place ≤ hi
@@ -85,7 +81,7 @@ abbrev pub Stands : Bool → ℕ → ℕ → ℕ → TextUnit → Type 0
 Stands literal n b hi (TextUnit.Byte value after) = ByteStands n b hi value after
 Stands literal n b hi (TextUnit.Point c after) = PointStands n hi c after
 Stands literal n b hi (TextUnit.Ends stop from after) = StopStands literal n hi stop from after
-Stands literal n b hi (TextUnit.Fault number place) = FaultStands n hi number place
+Stands literal n b hi (TextUnit.Fault number place) = FaultInside n hi number place
 Stands literal n b hi TextUnit.Undecided = Unit {0}
 
 abbrev AtMostFour : List ℕ → Type 0
@@ -130,7 +126,7 @@ module _ (literal : Bool) (n b hi : ℕ) where
   passing : {value after : ℕ} → n + 2 ≤ after → after ≤ hi → ByteStands n b hi value after
   passing x y = record { on = omega arith; inside = y; own = λ z. absurd (omega arith) }
 
-  fault : {number place : ℕ} → eqb number wait ≡ false → n ≤ place → place ≤ hi → FaultStands n hi number place
+  fault : {number place : ℕ} → eqb number wait ≡ false → n ≤ place → place ≤ hi → FaultInside n hi number place
   fault k x y = record { told = k; on = x; inside = y }
 
   -- ---- escapes
@@ -150,7 +146,8 @@ module _ (literal : Bool) (n b hi : ℕ) where
       (fitted-stands value p x (omega arith))
 
   -- behind `\u{` and, where there are some, a digit
-  codePoint-stands : (end some : Bool) (value p : ℕ) (xs : List ℕ) → n + 3 ≤ p → (some ≡ true → n + 4 ≤ p) → p + length xs ≤ hi
+  codePoint-stands : (end some : Bool) (value p : ℕ) (xs : List ℕ) → n + 3 ≤ p → (some ≡ true → n + 4 ≤ p)
+      → p + length xs ≤ hi
       → Stands literal n b hi (codePoint end some value p xs)
   unfolding codePoint
   codePoint-stands end some value p [] x w y = if-stands end _ _ (fault refl (omega arith) (omega arith)) tt
@@ -237,27 +234,38 @@ module _ (literal : Bool) (n b hi : ℕ) where
     brace-stands : (xs : List ℕ) → suc n + length xs ≤ hi → code "{" ≡ b → Stands literal n b hi (brace end n xs)
     unfolding brace gap
     brace-stands [] y e = if-stands end _ _ (itself e (omega arith)) tt
-    brace-stands (c ∷ xs) y e = if-stands (c is "$") _ _ (entering refl (omega arith) (omega arith)) (itself e (omega arith))
+    brace-stands (c ∷ xs) y e =
+        if-stands (c is "$") _ _ (entering refl (omega arith) (omega arith)) (itself e (omega arith))
 
   module _ (end : Bool) (own : literal ≡ true) where
     found-stands : n ≤ hi → StopStands literal n hi Stop.Interpolation n n
     unfolding gap
     found-stands y =
-        record { place = omega arith; order = omega arith; inside = y; on = λ e. absurd (false≢true (sym e ∙ own)); keeps = λ e. refl }
+        record {
+          place = omega arith;
+          order = omega arith;
+          inside = y;
+          on = λ e. absurd (false≢true (sym e ∙ own));
+          keeps = λ e. refl;
+        }
 
-    findDollar-stands : (xs : List ℕ) → suc n + length xs ≤ hi → code "$" ≡ b → Stands literal n b hi (findDollar end n xs)
+    findDollar-stands : (xs : List ℕ) → suc n + length xs ≤ hi → code "$" ≡ b
+        → Stands literal n b hi (findDollar end n xs)
     unfolding findDollar
     findDollar-stands [] y e = if-stands end _ _ (itself e (omega arith)) tt
-    findDollar-stands (c ∷ xs) y e = if-stands (c is "{" || isStart c) _ _ (found-stands (omega arith)) (itself e (omega arith))
+    findDollar-stands (c ∷ xs) y e =
+        if-stands (c is "{" || isStart c) _ _ (found-stands (omega arith)) (itself e (omega arith))
 
-    findBrace-stands : (xs : List ℕ) → suc n + length xs ≤ hi → code "{" ≡ b → Stands literal n b hi (findBrace end n xs)
+    findBrace-stands : (xs : List ℕ) → suc n + length xs ≤ hi → code "{" ≡ b
+        → Stands literal n b hi (findBrace end n xs)
     unfolding findBrace
     findBrace-stands [] y e = if-stands end _ _ (itself e (omega arith)) tt
     findBrace-stands (c ∷ xs) y e = if-stands (c is "$") _ _ (found-stands (omega arith)) (itself e (omega arith))
 
   quote-stands : suc n ≤ hi → StopStands literal n hi Stop.Quote n (suc n)
   unfolding gap
-  quote-stands y = record { place = omega arith; order = omega arith; inside = y; on = λ e. omega arith; keeps = λ e. refl }
+  quote-stands y =
+      record { place = omega arith; order = omega arith; inside = y; on = λ e. omega arith; keeps = λ e. refl }
 
   -- ---- closers
 
@@ -302,9 +310,11 @@ module _ (n b : ℕ) (rest : List ℕ) (label : List ℕ) (end : Bool) where
   hi = n + 1 + length rest
 
   -- where b is this byte, the first; else the other
-  at-byte : (literal : Bool) (c : Char) (u v : TextUnit) → (code c ≡ b → Stands literal n b hi u) → Stands literal n b hi v
+  at-byte : (literal : Bool) (c : Char) (u v : TextUnit) → (code c ≡ b → Stands literal n b hi u)
+      → Stands literal n b hi v
       → Stands literal n b hi (if b is c then u else v)
-  at-byte literal c u v x y = choice (Stands literal n b hi) (b is c) u v (λ e. x (sym (eqb-true b (code c) e))) (λ e. y)
+  at-byte literal c u v x y =
+      choice (Stands literal n b hi) (b is c) u v (λ e. x (sym (eqb-true b (code c) e))) (λ e. y)
 
   plain-stands : ByteStands n b hi b (suc n)
   plain-stands = itself true n b hi refl (omega arith)
@@ -316,7 +326,8 @@ module _ (n b : ℕ) (rest : List ℕ) (label : List ℕ) (end : Bool) where
   escaped literal e = escape-stands literal n b hi end e rest (omega arith)
 
   -- `$` and `{` of a mode that enters frames
-  signs : Stands false n b hi (if b is "$" then dollar end n rest else if b is "{" then brace end n rest else TextUnit.Byte b (suc n))
+  signs : Stands false n b hi
+      (if b is "$" then dollar end n rest else if b is "{" then brace end n rest else TextUnit.Byte b (suc n))
   signs =
       at-byte false "$" _ _ (dollar-stands false n b hi end refl rest (omega arith))
       (at-byte false "{" _ _ (brace-stands false n b hi end refl rest (omega arith)) plain-stands)
@@ -334,179 +345,8 @@ module _ (n b : ℕ) (rest : List ℕ) (label : List ℕ) (end : Bool) where
       (at-byte true "\\" _ _ (escaped true)
       (at-byte true "$" _ _ (findDollar-stands true n b hi end refl rest (omega arith))
       (at-byte true "{" _ _ (findBrace-stands true n b hi end refl rest (omega arith)) plain-stands)))
-  unit-stands Mode.DoubleQuote = at-byte false "\"" _ _ (λ e. quoted false) (at-byte false "\\" _ _ (escaped false) signs)
+  unit-stands Mode.DoubleQuote =
+      at-byte false "\"" _ _ (λ e. quoted false) (at-byte false "\\" _ _ (escaped false) signs)
   unit-stands Mode.ShellExec = at-byte false "`" _ _ (λ e. quoted false) signs
   unit-stands Mode.Heredoc = at-byte false "\n" _ _ lined (at-byte false "\\" _ _ (escaped false) signs)
   unit-stands Mode.Nowdoc = at-byte false "\n" _ _ lined plain-stands
-
--- ---- readings
-
-module _ (m : Mode) (label : List ℕ) (end : Bool) where
-  pub collected-skip : (k n : ℕ) (xs : List ℕ) → k ≤ length xs
-      → collected m label end k n xs ≡ collected m label end 0 (n + k) (drop k xs)
-  unfolding collected
-  collected-skip zero n xs h =
-      let z : n ≡ n + 0 = omega arith in
-      ap (λ i. collected m label end 0 i xs) z
-  collected-skip (suc k) n [] h = absurd (omega arith)
-  collected-skip (suc k) n (b ∷ xs) h =
-      let z : suc n + k ≡ n + suc k = omega arith in
-      collected-skip k (suc n) xs (omega arith) ∙ ap (λ i. collected m label end 0 i (drop k xs)) z
-
-  pub collected-turn : (n b : ℕ) (rest : List ℕ) (u : TextUnit) → u ≡ unitAt m label end n b rest
-      → collected m label end 0 n (b ∷ rest) ≡ taken u (collected m label end 0 (afterOf u) (drop (afterOf u - (n + 1)) rest))
-  unfolding collected taken afterOf
-  collected-turn n b rest u e = rw (← e) (go u (rw (← e) at (unit-stands n b rest label end m)))
-    where
-      later : (after : ℕ) → n < after → after ≤ n + 1 + length rest
-          → collected m label end (after - suc n) (suc n) rest ≡ collected m label end 0 after (drop (after - (n + 1)) rest)
-      later after x y =
-          let p : suc n + (after - suc n) ≡ after = omega arith in
-          let q : after - suc n ≡ after - (n + 1) = omega arith in
-          collected-skip (after - suc n) (suc n) rest (omega arith) ∙ rw (p, q)
-
-      go : (u : TextUnit) → Stands (isLiteral m) n b (n + 1 + length rest) u
-          → taken u (collected m label end (afterOf u - suc n) (suc n) rest)
-          ≡ taken u (collected m label end 0 (afterOf u) (drop (afterOf u - (n + 1)) rest))
-      go (TextUnit.Byte value after) x = ap (onto (value ∷ [])) (later after (x .on) (x .inside))
-      go (TextUnit.Point c after) x = ap (onto (utf8 c)) (later after (omega (arith, x .narrow)) (x .inside))
-      go (TextUnit.Ends stop from after) x = refl
-      go (TextUnit.Fault number place) x = refl
-      go TextUnit.Undecided x = refl
-
--- a text that is read from n on, where xs stands: it and the gap behind it end before `from`; where they end there, it is the bytes of xs
-pub record TextStands (literal : Bool) (n hi : ℕ) (xs text : List ℕ) (stop : Stop) (from after : ℕ) : Type 0 where
-  pub fits : n + length text + gap stop ≤ from
-  pub copied : n + length text + gap stop ≡ from → text ≡ take (length text) xs
-  pub order : from ≤ after
-  pub inside : after ≤ hi
-  pub on : literal ≡ false → n < after
-  pub keeps : literal ≡ true → enters stop ≡ false
-
-abbrev pub StandsReading : Bool → ℕ → ℕ → List ℕ → Reading → Type 0
-StandsReading literal n hi xs (Text text stop from after) = TextStands literal n hi xs text stop from after
-StandsReading literal n hi xs (Refused number place) = FaultStands n hi number place
-StandsReading literal n hi xs Wait = Unit {0}
-
-module _ (literal : Bool) (hi : ℕ) where
-  -- a byte before a text that begins k bytes behind it
-  byte-onto : (n b value k : ℕ) (xs : List ℕ) (r : Reading) → (k ≡ 0 → value ≡ b)
-      → StandsReading literal (suc n + k) hi (drop k xs) r → StandsReading literal n hi (b ∷ xs) (onto (value ∷ []) r)
-  unfolding onto
-  byte-onto n b value k xs (Text text stop from after) own x =
-      record {
-        fits = omega (arith, x .fits);
-        copied = same k own x;
-        order = x .order;
-        inside = x .inside;
-        on = λ e. omega (arith, x .fits, x .order);
-        keeps = x .keeps;
-      }
-    where
-      same : (k : ℕ) → (k ≡ 0 → value ≡ b) → TextStands literal (suc n + k) hi (drop k xs) text stop from after
-          → n + suc (length text) + gap stop ≡ from → value ∷ text ≡ b ∷ take (length text) xs
-      same zero own x h = rw (own refl, ← x .copied (omega arith))
-      same (suc k) own x h = absurd (omega (arith, x .fits))
-  byte-onto n b value k xs (Refused number place) own x = record { told = x .told; on = omega (arith, x .on); inside = x .inside }
-  byte-onto n b value k xs Wait own x = tt
-
-  -- fewer bytes before a text than are passed
-  point-onto : (n after : ℕ) (vs xs ys : List ℕ) (r : Reading) → n + length vs < after → StandsReading literal after hi ys r
-      → StandsReading literal n hi xs (onto vs r)
-  unfolding onto
-  point-onto n after vs xs ys (Text text stop from to) h x =
-      record {
-        fits = omega (arith, length-append vs text, x .fits);
-        copied = λ e. absurd (omega (arith, length-append vs text, x .fits));
-        order = x .order;
-        inside = x .inside;
-        on = λ e. omega (arith, x .fits, x .order);
-        keeps = x .keeps;
-      }
-  point-onto n after vs xs ys (Refused number place) h x = record { told = x .told; on = omega (arith, x .on); inside = x .inside }
-  point-onto n after vs xs ys Wait h x = tt
-
-module _ (m : Mode) (label : List ℕ) (end : Bool) (hi : ℕ) where
-  collected-stands : (skip n : ℕ) (xs : List ℕ) → skip ≤ length xs → n + length xs ≤ hi
-      → StandsReading (isLiteral m) (n + skip) hi (drop skip xs) (collected m label end skip n xs)
-  unfolding collected taken afterOf
-  collected-stands skip n [] h y =
-      choice (StandsReading (isLiteral m) (n + skip) hi (drop skip [])) end _ _
-      (λ e. record { told = refl; on = omega arith; inside = omega arith })
-      (λ e. tt)
-  collected-stands (suc k) n (b ∷ xs) h y =
-      let z : suc n + k ≡ n + suc k = omega arith in
-      rw z at (collected-stands k (suc n) xs (omega arith) (omega arith))
-  collected-stands zero n (b ∷ xs) h y =
-      let z : n + 0 ≡ n = omega arith in
-      rw z (go (unitAt m label end n b xs) (unit-stands n b xs label end m) (λ k l. collected-stands k (suc n) xs l (omega arith)))
-    where
-      go : (u : TextUnit) → Stands (isLiteral m) n b (n + 1 + length xs) u
-          → ((k : ℕ) → k ≤ length xs → StandsReading (isLiteral m) (suc n + k) hi (drop k xs) (collected m label end k (suc n) xs))
-          → StandsReading (isLiteral m) n hi (b ∷ xs) (taken u (collected m label end (afterOf u - suc n) (suc n) xs))
-      go (TextUnit.Byte value after) x ih =
-          byte-onto (isLiteral m) hi n b value (after - suc n) xs _ (λ e. x .own (omega (arith, x .on))) (ih (after - suc n) (omega (arith, x .inside)))
-      go (TextUnit.Point c after) x ih =
-          let h : n + length (utf8 c) < suc n + (after - suc n) = omega (arith, x .narrow) in
-          point-onto (isLiteral m) hi n (suc n + (after - suc n)) (utf8 c) (b ∷ xs) (drop (after - suc n) xs) _ h
-          (ih (after - suc n) (omega (arith, x .inside)))
-      go (TextUnit.Ends stop from after) x ih =
-          record {
-            fits = omega (arith, x .place);
-            copied = λ e. refl;
-            order = x .order;
-            inside = omega (arith, x .inside);
-            on = x .on;
-            keeps = x .keeps;
-          }
-      go (TextUnit.Fault number place) x ih = record { told = x .told; on = x .on; inside = omega (arith, x .inside) }
-      go TextUnit.Undecided x ih = tt
-
-pub trimmed-length : (text : List ℕ) → length (trimmed text) ≤ length text
-unfolding trimmed
-trimmed-length [] = omega arith
-trimmed-length (b ∷ []) = choice (λ vs. length vs ≤ 1) (b is "\n") [] (b ∷ []) (λ e. omega arith) (λ e. omega arith)
-trimmed-length (b ∷ c ∷ text) = omega (arith, trimmed-length (c ∷ text))
-
--- a text that is as long as before has lost no break
-trimmed-whole : (text : List ℕ) → length text ≤ length (trimmed text) → trimmed text ≡ text
-unfolding trimmed
-trimmed-whole [] h = refl
-trimmed-whole (b ∷ []) h = go (b is "\n") h
-  where
-    go : (t : Bool) → 1 ≤ length (if t then [] else b ∷ []) → (if t then [] else b ∷ []) ≡ b ∷ []
-    go true h = absurd (omega arith)
-    go false h = refl
-trimmed-whole (b ∷ c ∷ text) h = ap (λ ys. b ∷ ys) (trimmed-whole (c ∷ text) (omega arith))
-
-finished-stands : (literal : Bool) (m : Mode) (n hi : ℕ) (xs : List ℕ) (r : Reading) → StandsReading literal n hi xs r
-    → StandsReading literal n hi xs (finished m r)
-unfolding finished
-finished-stands literal m n hi xs (Text text stop from after) x =
-    choice (λ vs. TextStands literal n hi xs vs stop from after) (losesBreak m stop) _ _
-    (λ e.
-    record {
-      fits = omega (arith, trimmed-length text, x .fits);
-      copied = shorter;
-      order = x .order;
-      inside = x .inside;
-      on = x .on;
-      keeps = x .keeps;
-    })
-    (λ e. x)
-  where
-    shorter : n + length (trimmed text) + gap stop ≡ from → trimmed text ≡ take (length (trimmed text)) xs
-    shorter e =
-        let whole : trimmed text ≡ text = trimmed-whole text (omega (arith, x .fits)) in
-        let long : n + length text + gap stop ≡ from = rw whole at e in
-        rw whole (x .copied long)
-finished-stands literal m n hi xs (Refused number place) x = x
-finished-stands literal m n hi xs Wait x = tt
-
-pub text-stands : (m : Mode) (label : List ℕ) (end : Bool) (n : ℕ) (xs : List ℕ)
-    → StandsReading (isLiteral m) n (n + length xs) xs (textAt m label end n xs)
-unfolding textAt
-text-stands m label end n xs =
-    let z : n + 0 ≡ n = omega arith in
-    finished-stands (isLiteral m) m n (n + length xs) xs _
-    (rw z at (collected-stands m label end (n + length xs) 0 n xs (omega arith) (omega arith)))

@@ -8,14 +8,14 @@ use mathlib.Core.Path.{_≡_, sym, ap, _∙_}
 use mathlib.Core.Bool.{Bool, false}
 use mathlib.Core.List.{List}
 use native.Mathlib.Omega.{arith}
-use lib.ListN.{length, drop, length-drop}
+use lib.ListN.{length, drop}
 use borrow.Author.Tests.{le-leb}
 use Rattle.source.specs.Code.{Reaches}
 use Rattle.source.specs.declared.Span.{Span}
 use Rattle.byte.proofs.Tests.{&&-both}
 use Rattle.byte.proofs.Laid.{laid-nil}
 use Rattle.state.specs.declared.Frame.{Frame}
-use Rattle.state.specs.declared.Reading.{Reading}
+use Rattle.state.specs.declared.Choices.{Choices}
 use Rattle.state.specs.declared.Slot.{Slot}
 use Rattle.state.specs.declared.Session.{Session}
 use Rattle.state.specs.declared.Turn.{Turn}
@@ -24,7 +24,7 @@ use Rattle.state.proofs.Longer.{top-good}
 use Rattle.token.specs.Records.{roomRefusal}
 use Rattle.outcome.specs.Outcomes.{values, limited}
 use Rattle.outcome.specs.Steps.{topFrame, framed, stepOutcome}
-use Rattle.outcome.proofs.Insides.{framed-inside}
+use Rattle.outcome.proofs.StepWays.{framed-ways}
 use Rattle.plan.specs.declared.Plan.{Plan}
 use Rattle.plan.specs.Code.{outcomeOf, Plans, Here}
 use Rattle.modes.specs.Code.{Passes}
@@ -43,7 +43,7 @@ use Rattle.walk.specs.Code.{sessionAt, outcomeAt, movedTo, Standing}
 
 -- ---- the step
 
-module _ (src : List ℕ) (end : Bool) (f : Frame) (nowdocs : Reading) (depth : ℕ) (m : Mark) (l q : List ℕ)
+module _ (src : List ℕ) (end : Bool) (f : Frame) (choices : Choices) (depth : ℕ) (m : Mark) (l q : List ℕ)
     (s : Standing src f m (length l) (length q)) where
   pub step-here : Here src (m .span .position)
   step-here = record { inside = s .marked .cursor .inside; short = s .marked .cursor .short }
@@ -59,14 +59,14 @@ module _ (src : List ℕ) (end : Bool) (f : Frame) (nowdocs : Reading) (depth : 
 
   -- bytes are passed: no piece is written, so there is room
   pub step-passes : (p : Span) (x : Next) → Passes src f (m .span) p → (p .position ≡ m .span .position → ⊥) → x ≡ movedTo m p
-      → Committed src m l q (outcomeAt src end f nowdocs depth (m .span .position)) x l q
+      → Committed src m l q (outcomeAt src end f choices depth (m .span .position)) x l q
   unfolding limited nextOf listAfter poolAfter records values roomRefusal
   step-passes p x o n e =
       let tokens : m .tokens + 0 ≡ m .tokens = omega arith in
       let bytes : m .bytes + 0 ≡ m .bytes = omega arith in
       let places = le-leb (m .tokens) (length l / 8) (s .marked .tokens) in
       let room = le-leb (m .bytes) (length q) (s .marked .bytes) in
-      rw (o .told n nowdocs depth end)
+      rw (o .told n choices depth end)
       (record {
         next = e ∙ rw (tokens, bytes, places, room, ← o .span);
         list = rw (tokens, bytes, places, room) (sym (laid-nil l (m .tokens * 8)));
@@ -74,40 +74,39 @@ module _ (src : List ℕ) (end : Bool) (f : Frame) (nowdocs : Reading) (depth : 
       })
 
   module _ (plan : Plan)
-      (p : Plans src end (framed f src nowdocs depth end (m .span .position) (drop (m .span .position) src)) plan) where
+      (p : Plans src end (framed f src choices depth end (m .span .position) (drop (m .span .position) src)) plan) where
     pub step-commits : Commits src end m plan (length l) (length q)
     step-commits =
-        let n = m .span .position in
-        let whole : n + length (drop n src) ≡ length src = omega (arith, s .marked .cursor .inside, length-drop n src) in
         record {
           marked = s .marked;
           ready = p .ready;
-          inside = rw (p .told) (rw whole at (framed-inside f src nowdocs depth end n (drop n src)));
+          inside =
+              rw (p .told) (framed-ways src depth (m .span .position) end (s .marked .cursor .inside) f choices .lies);
         }
 
     pub step-committed : (x : Next) (l′ q′ : List ℕ)
         → Committed src m l q (limited depth (m .span .position) (outcomeOf src end plan)) x l′ q′
-        → Committed src m l q (outcomeAt src end f nowdocs depth (m .span .position)) x l′ q′
+        → Committed src m l q (outcomeAt src end f choices depth (m .span .position)) x l′ q′
     step-committed x l′ q′ c = rw (p .told) at c
 
 pub ruleset steps = (step-here, step-reaches, step-passes, step-commits, step-committed)
 
-module _ (m : Mark) (depth : ℕ) (frames : List Slot) (nowdocs : Reading) (x : Next) (s : Session)
-    (e : s ≡ sessionAt m depth frames nowdocs) where
+module _ (m : Mark) (depth : ℕ) (frames : List Slot) (choices : Choices) (x : Next) (s : Session)
+    (e : s ≡ sessionAt m depth frames choices) where
   pub turn-turning : 1 ≤ depth → depth ≤ 64 → isFull (x .change) depth ≡ false → Turning s x
   turn-turning low high free = rw e (record { stacked = record { low = low; high = high }; free = free })
 
-  pub turn-made : (r : Turn) → r ≡ turnOf s x → r ≡ turnOf (sessionAt m depth frames nowdocs) x
+  pub turn-made : (r : Turn) → r ≡ turnOf s x → r ≡ turnOf (sessionAt m depth frames choices) x
   turn-made r k = k ∙ ap (λ (z : Session). turnOf z x) e
 
 pub ruleset turns = (turn-turning, turn-made)
 
 -- ---- behind an open gate
 
-module _ (src : List ℕ) (end : Bool) (m : Mark) (depth : ℕ) (frames : List Slot) (nowdocs : Reading) (l q : List ℕ)
-    (gate : lentRefusal src (length l) (length q) (sessionAt m depth frames nowdocs) ≡ 0) where
+module _ (src : List ℕ) (end : Bool) (m : Mark) (depth : ℕ) (frames : List Slot) (choices : Choices) (l q : List ℕ)
+    (gate : lentRefusal src (length l) (length q) (sessionAt m depth frames choices) ≡ 0) where
   abbrev here : Session
-  here = sessionAt m depth frames nowdocs
+  here = sessionAt m depth frames choices
 
   opened : Lent src here (length l) (length q)
   opened = lent-opened src here (length l) (length q) gate
@@ -140,17 +139,17 @@ module _ (src : List ℕ) (end : Bool) (m : Mark) (depth : ℕ) (frames : List S
       step-sound src here l q (record { good = opened .good; tokens = opened .tokens; bytes = opened .bytes }) end
 
   module _ (x : Next) (l′ q′ : List ℕ)
-      (c : Committed src m l q (outcomeAt src end (topFrame here) nowdocs depth (m .span .position)) x l′ q′) where
+      (c : Committed src m l q (outcomeAt src end (topFrame here) choices depth (m .span .position)) x l′ q′) where
     pub place-free : isFull (x .change) depth ≡ false
     place-free =
         rw (c .next)
         (limited-free src m (length l) (length q) depth (m .span .position)
-        (framed (topFrame here) src nowdocs depth end (m .span .position) (drop (m .span .position) src)))
+        (framed (topFrame here) src choices depth end (m .span .position) (drop (m .span .position) src)))
 
     pub place-gives : Gives (stepped src end here l q) (turnOf here x) l′ q′
     unfolding stepped stepOutcome
     place-gives =
-        let o = outcomeAt src end (topFrame here) nowdocs depth (m .span .position) in
+        let o = outcomeAt src end (topFrame here) choices depth (m .span .position) in
         rw gate
         (record {
           turn = ap (turnOf here) (c .next) ∙ sym (settled-next src here l q o);
@@ -165,7 +164,7 @@ module _ (src : List ℕ) (end : Bool) (m : Mark) (depth : ℕ) (frames : List S
     pool-kept = ap length (place-gives .pool) ∙ place-sound .pool
 
     pub place-next : lentRefusal src (length l′) (length q′)
-        (sessionAt (x .mark) (depthAfter (x .change) depth) (framesAfter (x .change) depth frames) nowdocs) ≡ 0
+        (sessionAt (x .mark) (depthAfter (x .change) depth) (framesAfter (x .change) depth frames) choices) ≡ 0
     unfolding tablesFit
     place-next =
         rw (list-kept, pool-kept)

@@ -11,7 +11,7 @@ use Rattle.source.specs.Cursor.{origin}
 use Rattle.source.specs.declared.Span.{Span}
 use Rattle.state.specs.declared.Answer.{Answer}
 use Rattle.state.specs.declared.Frame.{Frame}
-use Rattle.state.specs.declared.Reading.{Reading}
+use Rattle.state.specs.declared.Choices.{Choices}
 use Rattle.state.specs.declared.Slot.{Slot}
 use Rattle.state.specs.declared.Session.{Session}
 use Rattle.state.specs.declared.Turn.{Turn}
@@ -31,9 +31,9 @@ use Rattle.walk.specs.Code.{sessionAt, outcomeAt, Standing}
 use Rattle.walk.proofs.Places.{place-stacked, place-standing, place-free, place-gives, list-kept, pool-kept, place-next}
 
 pub record Walking (most : ℕ) (src : List ℕ) (end : Bool) (s₀ : Session) (l₀ q₀ : List ℕ) (left : ℕ) (m : Mark) (depth : ℕ)
-    (frames : List Slot) (nowdocs : Reading) (l q : List ℕ) : Type 0 where
-  pub same : walked most src end s₀ l₀ q₀ ≡ walked left src end (sessionAt m depth frames nowdocs) l q
-  pub gate : lentRefusal src (length l) (length q) (sessionAt m depth frames nowdocs) ≡ 0
+    (frames : List Slot) (choices : Choices) (l q : List ℕ) : Type 0 where
+  pub same : walked most src end s₀ l₀ q₀ ≡ walked left src end (sessionAt m depth frames choices) l q
+  pub gate : lentRefusal src (length l) (length q) (sessionAt m depth frames choices) ≡ 0
   pub low : 1 ≤ depth
   pub high : depth ≤ 64
   pub list : length l ≡ length l₀
@@ -78,41 +78,41 @@ module _ (src : List ℕ) (end : Bool) (s : Session) (l q : List ℕ) where
       rw (walked-refused most shut origin (omega (arith, h)) a) g
 
 module _ (most : ℕ) (src : List ℕ) (end : Bool) (s₀ : Session) (l₀ q₀ : List ℕ) where
-  pub walking-first : (m : Mark) (depth : ℕ) (frames : List Slot) (nowdocs : Reading)
-      → lentRefusal src (length l₀) (length q₀) (sessionAt m depth frames nowdocs) ≡ 0
-      → Walking most src end (sessionAt m depth frames nowdocs) l₀ q₀ most m depth frames nowdocs l₀ q₀
-  walking-first m depth frames nowdocs gate =
-      let stack = place-stacked src end m depth frames nowdocs l₀ q₀ gate in
+  pub walking-first : (m : Mark) (depth : ℕ) (frames : List Slot) (choices : Choices)
+      → lentRefusal src (length l₀) (length q₀) (sessionAt m depth frames choices) ≡ 0
+      → Walking most src end (sessionAt m depth frames choices) l₀ q₀ most m depth frames choices l₀ q₀
+  walking-first m depth frames choices gate =
+      let stack = place-stacked src end m depth frames choices l₀ q₀ gate in
       record { same = refl; gate = gate; low = stack .low; high = stack .high; list = refl; pool = refl }
 
-  module _ (left : ℕ) (m : Mark) (depth : ℕ) (frames : List Slot) (nowdocs : Reading) (l q : List ℕ)
-      (w : Walking most src end s₀ l₀ q₀ left m depth frames nowdocs l q) where
+  module _ (left : ℕ) (m : Mark) (depth : ℕ) (frames : List Slot) (choices : Choices) (l q : List ℕ)
+      (w : Walking most src end s₀ l₀ q₀ left m depth frames choices l q) where
     abbrev here : Session
-    here = sessionAt m depth frames nowdocs
+    here = sessionAt m depth frames choices
 
     pub walking-standing : Standing src (topFrame here) m (length l) (length q)
-    walking-standing = place-standing src end m depth frames nowdocs l q (w .gate)
+    walking-standing = place-standing src end m depth frames choices l q (w .gate)
 
     pub walking-end : (s : Session) → s ≡ here → left ≤ 0 → Gives (walked most src end s₀ l₀ q₀) (done s) l q
     walking-end s e h = rw (w .same, e) (walk-none src end here l q left (omega (arith, h)))
 
     -- the step has made x
     module _ (h : 0 < left) (x : Next) (l′ q′ : List ℕ)
-        (c : Committed src m l q (outcomeAt src end (topFrame here) nowdocs depth (m .span .position)) x l′ q′) where
+        (c : Committed src m l q (outcomeAt src end (topFrame here) choices depth (m .span .position)) x l′ q′) where
       made : Gives (stepped src end here l q) (turnOf here x) l′ q′
-      made = place-gives src end m depth frames nowdocs l q (w .gate) x l′ q′ c
+      made = place-gives src end m depth frames choices l q (w .gate) x l′ q′ c
 
       answer-same : (a : Answer) → x .answer ≡ a → stepped src end here l q .turn .answer ≡ a
       answer-same a e = ap (λ (t : Turn). t .answer) (sym (made .turn)) ∙ e
 
       pub walking-free : isFull (x .change) depth ≡ false
-      walking-free = place-free src end m depth frames nowdocs l q (w .gate) x l′ q′ c
+      walking-free = place-free src end m depth frames choices l q (w .gate) x l′ q′ c
 
       pub walking-list : length l′ ≡ length l₀
-      walking-list = list-kept src end m depth frames nowdocs l q (w .gate) x l′ q′ c ∙ w .list
+      walking-list = list-kept src end m depth frames choices l q (w .gate) x l′ q′ c ∙ w .list
 
       pub walking-pool : length q′ ≡ length q₀
-      walking-pool = pool-kept src end m depth frames nowdocs l q (w .gate) x l′ q′ c ∙ w .pool
+      walking-pool = pool-kept src end m depth frames choices l q (w .gate) x l′ q′ c ∙ w .pool
 
       module _ (r : Turn) (k : r ≡ turnOf here x) where
         pub walking-finished : x .answer ≡ Answer.Finished → Gives (walked most src end s₀ l₀ q₀) r l′ q′
@@ -127,13 +127,13 @@ module _ (most : ℕ) (src : List ℕ) (end : Bool) (s₀ : Session) (l₀ q₀ 
       -- the place behind a change of frame
       abbrev Behind : Change → Type 0
       Behind change =
-          Walking most src end s₀ l₀ q₀ (left - 1) (x .mark) (depthAfter change depth) (framesAfter change depth frames) nowdocs
+          Walking most src end s₀ l₀ q₀ (left - 1) (x .mark) (depthAfter change depth) (framesAfter change depth frames) choices
           l′ q′
 
       behind : x .answer ≡ Answer.Done → Behind (x .change)
       behind e =
-          let gate = place-next src end m depth frames nowdocs l q (w .gate) x l′ q′ c in
-          let stack = place-stacked src end (x .mark) _ _ nowdocs l′ q′ gate in
+          let gate = place-next src end m depth frames choices l q (w .gate) x l′ q′ c in
+          let stack = place-stacked src end (x .mark) _ _ choices l′ q′ gate in
           let after = walked-on src end here l q left h (answer-same Answer.Done e) in
           record {
             same = rw (made .list, made .pool) (w .same ∙ (rw (← made .turn) at after));
@@ -145,22 +145,22 @@ module _ (most : ℕ) (src : List ℕ) (end : Bool) (s₀ : Session) (l₀ q₀ 
           }
 
       module _ (a : x .answer ≡ Answer.Done) where
-        pub walking-keep : x .change ≡ Change.Keep → Walking most src end s₀ l₀ q₀ (left - 1) (x .mark) depth frames nowdocs l′ q′
+        pub walking-keep : x .change ≡ Change.Keep → Walking most src end s₀ l₀ q₀ (left - 1) (x .mark) depth frames choices l′ q′
         unfolding depthAfter framesAfter
         walking-keep k = subst Behind k (behind a)
 
         pub walking-leave : x .change ≡ Change.Leave
-            → Walking most src end s₀ l₀ q₀ (left - 1) (x .mark) (depth - 1) frames nowdocs l′ q′
+            → Walking most src end s₀ l₀ q₀ (left - 1) (x .mark) (depth - 1) frames choices l′ q′
         unfolding depthAfter framesAfter
         walking-leave k = subst Behind k (behind a)
 
         pub walking-swap : (f : Frame) → x .change ≡ Change.Swap f
-            → Walking most src end s₀ l₀ q₀ (left - 1) (x .mark) depth (set frames (depth - 1) (record { frame = f })) nowdocs l′ q′
+            → Walking most src end s₀ l₀ q₀ (left - 1) (x .mark) depth (set frames (depth - 1) (record { frame = f })) choices l′ q′
         unfolding depthAfter framesAfter
         walking-swap f k = subst Behind k (behind a)
 
         pub walking-enter : (f : Frame) → x .change ≡ Change.Enter f
-            → Walking most src end s₀ l₀ q₀ (left - 1) (x .mark) (depth + 1) (set frames depth (record { frame = f })) nowdocs l′ q′
+            → Walking most src end s₀ l₀ q₀ (left - 1) (x .mark) (depth + 1) (set frames depth (record { frame = f })) choices l′ q′
         unfolding depthAfter framesAfter
         walking-enter f k = subst Behind k (behind a)
 

@@ -11,7 +11,7 @@ use lib.ListN.{drop}
 use Rattle.source.specs.declared.Span.{Span}
 use Rattle.state.specs.declared.Answer.{Answer}
 use Rattle.state.specs.declared.Frame.{Frame}
-use Rattle.state.specs.declared.Reading.{Reading}
+use Rattle.state.specs.declared.Choices.{Choices}
 use Rattle.state.specs.declared.Slot.{Slot}
 use Rattle.state.specs.declared.Session.{Session}
 use Rattle.state.specs.Bounds.{isFrame}
@@ -22,8 +22,8 @@ use Rattle.commit.specs.declared.Mark.{Mark}
 use Rattle.commit.specs.declared.Next.{Next}
 use Rattle.commit.specs.Code.{Marked}
 
-abbrev pub sessionAt : Mark → ℕ → List Slot → Reading → Session
-sessionAt m depth frames nowdocs = record {
+abbrev pub sessionAt : Mark → ℕ → List Slot → Choices → Session
+sessionAt m depth frames choices = record {
   position = m .span .position;
   line = m .span .line;
   column = m .span .column;
@@ -31,11 +31,11 @@ sessionAt m depth frames nowdocs = record {
   tokens = m .tokens;
   bytes = m .bytes;
   frames = frames;
-  nowdocs = nowdocs;
+  choices = choices;
 }
 
-abbrev pub outcomeAt : List ℕ → Bool → Frame → Reading → ℕ → ℕ → Outcome
-outcomeAt src end f nowdocs depth n = limited depth n (framed f src nowdocs depth end n (drop n src))
+abbrev pub outcomeAt : List ℕ → Bool → Frame → Choices → ℕ → ℕ → Outcome
+outcomeAt src end f choices depth n = limited depth n (framed f src choices depth end n (drop n src))
 
 abbrev pub movedTo : Mark → Span → Next
 movedTo m p = record {

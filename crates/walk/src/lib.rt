@@ -4,8 +4,8 @@ use commit::Next;
 use outcome::Change;
 use source::Span;
 use state::Answer;
+use state::Choices;
 use state::Frame;
-use state::Reading;
 use state::Session;
 use state::Slot;
 use state::Turn;
@@ -21,8 +21,8 @@ ghost use Rattle.demands.specs.Walks.{walked};
 ghost use Rattle.walk.specs.Code.{sessionAt, outcomeAt, movedTo, Standing};
 
 // The session that a walk stands at.
-fn session_at(m: Mark, depth: u32, frames: [Slot; 64], nowdocs: Reading) -> Session
-    ensures { λ r. ⌜ r ≡ sessionAt m depth frames nowdocs ⌝ }
+fn session_at(m: Mark, depth: u32, frames: [Slot; 64], choices: Choices) -> Session
+    ensures { λ r. ⌜ r ≡ sessionAt m depth frames choices ⌝ }
 {
     Session {
         position: m.span.position,
@@ -32,16 +32,16 @@ fn session_at(m: Mark, depth: u32, frames: [Slot; 64], nowdocs: Reading) -> Sess
         tokens: m.tokens,
         bytes: m.bytes,
         frames,
-        nowdocs,
+        choices,
     }
 }
 
 // The turn of a step that ends a walk.
-fn turn_at(m: Mark, depth: u32, frames: [Slot; 64], nowdocs: Reading, x: Next) -> Turn
+fn turn_at(m: Mark, depth: u32, frames: [Slot; 64], choices: Choices, x: Next) -> Turn
     requires { ⌜ (1 ≤ depth) × (depth ≤ 64) × (isFull (x .change) depth ≡ false) ⌝ }
-    ensures { λ r. ⌜ r ≡ turnOf (sessionAt m depth frames nowdocs) x ⌝ }
+    ensures { λ r. ⌜ r ≡ turnOf (sessionAt m depth frames choices) x ⌝ }
 {
-    lexer::turned(session_at(m, depth, frames, nowdocs), x)
+    lexer::turned(session_at(m, depth, frames, choices), x)
 }
 
 // What a step comes to that only passes bytes, up to p.
@@ -65,16 +65,16 @@ fn plan_step(
     src: &[u8],
     end: bool,
     f: Frame,
-    nowdocs: Reading,
+    choices: Choices,
     depth: u32,
     m: Mark,
     list: &mut [u32],
     pool: &mut [u8],
 ) -> Next
     requires { ⌜ Standing (now src) f m (length (now list)) (length (now pool)) ⌝ }
-    ensures { λ r. ⌜ Committed (now (src .entry)) m (now (list .entry)) (now (pool .entry)) (outcomeAt (now (src .entry)) end f nowdocs depth (m .span .position)) r (now (list .exit)) (now (pool .exit)) ⌝ }
+    ensures { λ r. ⌜ Committed (now (src .entry)) m (now (list .entry)) (now (pool .entry)) (outcomeAt (now (src .entry)) end f choices depth (m .span .position)) r (now (list .exit)) (now (pool .exit)) ⌝ }
 {
-    let plan = modes::plan_at(src, end, f, nowdocs, depth, m.span.position as usize);
+    let plan = modes::plan_at(src, end, f, choices, depth, m.span.position as usize);
     commit::commit(src, end, m, depth, plan, list, pool)
 }
 
@@ -83,20 +83,20 @@ fn step_at(
     src: &[u8],
     end: bool,
     f: Frame,
-    nowdocs: Reading,
+    choices: Choices,
     depth: u32,
     m: Mark,
     list: &mut [u32],
     pool: &mut [u8],
 ) -> Next
     requires { ⌜ Standing (now src) f m (length (now list)) (length (now pool)) ⌝ }
-    ensures { λ r. ⌜ Committed (now (src .entry)) m (now (list .entry)) (now (pool .entry)) (outcomeAt (now (src .entry)) end f nowdocs depth (m .span .position)) r (now (list .exit)) (now (pool .exit)) ⌝ }
+    ensures { λ r. ⌜ Committed (now (src .entry)) m (now (list .entry)) (now (pool .entry)) (outcomeAt (now (src .entry)) end f choices depth (m .span .position)) r (now (list .exit)) (now (pool .exit)) ⌝ }
 {
     let p = modes::passed(src, f, m.span);
     if p.position != m.span.position {
         return moved(m, p);
     }
-    plan_step(src, end, f, nowdocs, depth, m, list, pool)
+    plan_step(src, end, f, choices, depth, m, list, pool)
 }
 
 // At most `most` steps behind the gate.
@@ -105,7 +105,7 @@ fn walk_on(src: &[u8], end: bool, most: u32, s: Session, list: &mut [u32], pool:
     ensures { λ r. ⌜ Gives (walked most (now (src .entry)) end s (now (list .entry)) (now (pool .entry))) r (now (list .exit)) (now (pool .exit)) ⌝ }
 {
     let mut frames = s.frames;
-    let nowdocs = s.nowdocs;
+    let choices = s.choices;
     let mut depth = s.depth;
     let mut m = Mark {
         span: Span {
@@ -122,15 +122,15 @@ fn walk_on(src: &[u8], end: bool, most: u32, s: Session, list: &mut [u32], pool:
         let top = depth as usize - 1;
         let slot = frames[top];
         let f = slot.frame;
-        let x = step_at(src, end, f, nowdocs, depth, m, list, pool);
+        let x = step_at(src, end, f, choices, depth, m, list, pool);
         let answer = x.answer;
         match answer {
             Answer::Done => {}
             Answer::Finished => {
-                return turn_at(m, depth, frames, nowdocs, x);
+                return turn_at(m, depth, frames, choices, x);
             }
             Answer::Refused { number: _, span: _ } => {
-                return turn_at(m, depth, frames, nowdocs, x);
+                return turn_at(m, depth, frames, choices, x);
             }
         }
         m = x.mark;
@@ -150,7 +150,7 @@ fn walk_on(src: &[u8], end: bool, most: u32, s: Session, list: &mut [u32], pool:
             }
         }
     }
-    let session = session_at(m, depth, frames, nowdocs);
+    let session = session_at(m, depth, frames, choices);
     Turn {
         answer: Answer::Done,
         session,

@@ -4,7 +4,7 @@ use Rattle.byte.specs.Words.{bytes, every, run}
 use Rattle.byte.specs.Bytes.{isDigit, isOctal, isHex, isLetter, isStart, isIdentifier, isBlank}
 use Rattle.source.specs.Cursor.{passedByte, passed}
 use Rattle.byte.specs.Laid.{laid}
-use Rattle.state.specs.Bounds.{isLabel, isFrame, isBottom, isStack, isWithin, isGood, fitsTables}
+use Rattle.state.specs.Bounds.{isLabel, isFrame, isBottom, isStack, isWithin, isGood, fitsTables, isScripting}
 use Rattle.state.specs.Gates.{sourceFits, tablesFit, gateRefusal, lentRefusal}
 use Rattle.token.specs.Records.{roomRefusal}
 use Rattle.unit.specs.Digits.{digitValue, isScalar, utf8}
@@ -20,7 +20,7 @@ use Rattle.outcome.specs.Outcomes.{unlessEmpty, values, limited}
 use Rattle.outcome.specs.Initials.{lower, fullTag, openTag, tag, orLater, tagged, tagKind, tagLength, inlined, initial}
 use Rattle.outcome.specs.Openings.{lineFeed, docBreak, docQuote, docEnd, docName, docStart, docLabel, thirdLess, opening, docFrame}
 use Rattle.outcome.specs.Openings.{opened}
-use Rattle.outcome.specs.Texts.{slice, docKind, quoteKind, stopKind, stopDetail, variableChange, stopChange, texted, sheeted}
+use Rattle.outcome.specs.Texts.{slice, docKind, quoteKind, stopKind, stopDetail, variableChange, stopChange, texted}
 use Rattle.outcome.specs.Texts.{isLeft, literal, numberKind, numbered}
 use Rattle.outcome.specs.Lookings.{named, isBracketed, varname, lookingForVarname, property, arrowHead, questioned, lookingForProperty}
 use Rattle.outcome.specs.Lookings.{varOffset}
@@ -29,7 +29,7 @@ use Rattle.outcome.specs.Scripts.{point, word, closeTag, scripting}
 use Rattle.outcome.specs.Steps.{textMode, nowdoc, framed, stepOutcome, numberOutcome, singleOutcome, doubleOutcome}
 use Rattle.commit.specs.Records.{records}
 use Rattle.lexer.specs.Turns.{framesAfter, depthAfter, settled}
-use Rattle.lexer.specs.Calls.{isScripting, stepped, reading}
+use Rattle.lexer.specs.Calls.{stepped, reading}
 use Rattle.worked.specs.Sheets.{standing, called, tokensIn, found, table, comments}
 use Rattle.worked.specs.Sheets.{AllHold}
 
@@ -38,7 +38,7 @@ unfolding bytes every run isDigit isOctal isHex isLetter isStart isIdentifier is
     isFrame isBottom isStack isWithin isGood fitsTables sourceFits tablesFit gateRefusal lentRefusal roomRefusal
     unlessEmpty values limited lower fullTag openTag tag orLater tagged tagKind tagLength inlined initial lineFeed
     docBreak docQuote docEnd docName docStart docLabel thirdLess opening docFrame opened slice docKind quoteKind
-    stopKind stopDetail variableChange stopChange texted sheeted isLeft literal numberKind numbered named
+    stopKind stopDetail variableChange stopChange texted isLeft literal numberKind numbered named
     isBracketed varname lookingForVarname property arrowHead questioned lookingForProperty varOffset point word
     closeTag scripting textMode nowdoc framed stepOutcome numberOutcome singleOutcome doubleOutcome records
     framesAfter depthAfter settled isScripting stepped reading standing called tokensIn found table digitValue

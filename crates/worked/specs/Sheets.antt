@@ -23,6 +23,7 @@ use Rattle.source.specs.declared.Span.{Span}
 use Rattle.state.specs.declared.Answer.{Answer}
 use Rattle.state.specs.declared.Frame.{Frame}
 use Rattle.state.specs.declared.Reading.{Reading}
+use Rattle.state.specs.declared.Choices.{Choices}
 use Rattle.state.specs.declared.Session.{Session}
 use Rattle.token.specs.Kinds.{inlineHtml, openTagFull, openTagShort, stringPart, variable, endDocStringNone, endDocStringSpace}
 use Rattle.token.specs.Kinds.{literalSingleQuotedString, literalDoubleQuotedString, literalInteger, comment}
@@ -30,7 +31,7 @@ use Rattle.lexer.specs.Turns.{After}
 use Rattle.lexer.specs.Calls.{stepped, readNumber, readSingle, readDouble}
 
 pub data Call : Type 0 where
-  Step : Frame → Reading → Call
+  Step : Frame → Choices → Call
   Number : Call
   Single : Call
   Double : Call
@@ -55,9 +56,16 @@ pub record Sheet : Type 0 where
 
 -- ---- what a host finds
 
+-- nowdoc blocks as the Rust reads them, and as sheets
+abbrev ported : Choices
+ported = record { nowdocs = Reading.Ported }
+
+abbrev asSheets : Choices
+asSheets = record { nowdocs = Reading.Sheet }
+
 -- a session at the beginning with this frame
-unfoldable pub standing : Frame → Reading → Session
-standing f nowdocs = record {
+unfoldable pub standing : Frame → Choices → Session
+standing f choices = record {
   position = 0;
   line = 1;
   column = 1;
@@ -65,15 +73,15 @@ standing f nowdocs = record {
   tokens = 0;
   bytes = 0;
   frames = replicate 64 (record { frame = f });
-  nowdocs = nowdocs;
+  choices = choices;
 }
 
 -- room for three tokens and thirty-two value bytes
 unfoldable pub called : Call → Bool → List ℕ → After
-called (Step f nowdocs) end src = stepped src end (standing f nowdocs) (replicate 24 0) (replicate 32 0)
-called Number end src = readNumber src end (standing Frame.Scripting Reading.Ported) (replicate 24 0) (replicate 32 0)
-called Single end src = readSingle src end (standing Frame.Scripting Reading.Ported) (replicate 24 0) (replicate 32 0)
-called Double end src = readDouble src end (standing Frame.Scripting Reading.Ported) (replicate 24 0) (replicate 32 0)
+called (Step f choices) end src = stepped src end (standing f choices) (replicate 24 0) (replicate 32 0)
+called Number end src = readNumber src end (standing Frame.Scripting ported) (replicate 24 0) (replicate 32 0)
+called Single end src = readSingle src end (standing Frame.Scripting ported) (replicate 24 0) (replicate 32 0)
+called Double end src = readDouble src end (standing Frame.Scripting ported) (replicate 24 0) (replicate 32 0)
 
 -- the first so many tokens of a list, with their values in the pool
 unfoldable pub tokensIn : ℕ → List ℕ → List ℕ → List Written
@@ -122,7 +130,7 @@ closed text =
     ∷ []
 
 abbrev initial : Call
-initial = Step Frame.Initial Reading.Ported
+initial = Step Frame.Initial ported
 
 unfoldable pub table : List Sheet
 table =
@@ -142,35 +150,35 @@ table =
     ∷ row "h" Double true "\\u{110000}\"" (refused invalidUnicodeEscape (at 1 11 10))
     ∷ row "k" Number false "1e" (refused wait origin)
     ∷ row "k" Number false "1e+x" (done 1 (one literalInteger (bytes "1")))
-    ∷ row "l" (Step (label 4 3) Reading.Ported) true "a\n  EOTX"
+    ∷ row "l" (Step (label 4 3) ported) true "a\n  EOTX"
     (done 7
     (record { kind = stringPart; detail = 0; span = origin; value = bytes "a" }
     ∷ record { kind = endDocStringSpace; detail = 2; span = origin; value = bytes "EOT" }
     ∷ []))
-    ∷ row "m" (Step (label 4 3) Reading.Ported) true "a\n \tEOT" (refused invalidDocIndentation (at 2 3 4))
-    ∷ row "n" (Step (Frame.Heredoc (record { start = 3; len = 1 })) Reading.Ported) true "a\n$x;"
+    ∷ row "m" (Step (label 4 3) ported) true "a\n \tEOT" (refused invalidDocIndentation (at 2 3 4))
+    ∷ row "n" (Step (Frame.Heredoc (record { start = 3; len = 1 })) ported) true "a\n$x;"
     (done 4
     (record { kind = stringPart; detail = 0; span = origin; value = bytes "a" }
     ∷ record { kind = variable; detail = 0; span = origin; value = bytes "$x" }
     ∷ []))
-    ∷ row "o" (Step (label 13 3) Reading.Sheet) true "  ab\n   c\n\n  EOT"
+    ∷ row "o" (Step (label 13 3) asSheets) true "  ab\n   c\n\n  EOT"
     (done 16
     (record { kind = stringPart; detail = 0; span = origin; value = bytes "ab\n c\n" }
     ∷ record { kind = endDocStringSpace; detail = 2; span = origin; value = bytes "EOT" }
     ∷ []))
-    ∷ row "q" (Step (label 16 3) Reading.Sheet) true "ab\nEOTstrasse\nc\nEOT;" (done 19 (closed "ab\nEOTstrasse\nc"))
-    ∷ row "r" (Step (label 11 3) Reading.Sheet) true "EOTstrasse\nEOT" (done 14 (closed "EOTstrasse"))
-    ∷ row "s" (Step (label 2 3) Reading.Sheet) true "a\nEOT" (done 5 (closed "a"))
-    ∷ row "t" (Step (label 2 3) Reading.Sheet) false "a\nEOT" (refused wait origin)
-    ∷ row "t" (Step (label 2 3) Reading.Sheet) false "a\nEOT;" (done 5 (closed "a"))
-    ∷ row "t" (Step (label 2 3) Reading.Sheet) false "a\nEOTs" (refused wait origin)
-    ∷ row "u" (Step (label 13 3) Reading.Sheet) true "EOTstrasse\n  EOT" (refused strayIndentation origin)
-    ∷ row "v" (Step (label 13 3) Reading.Sheet) true " \tEOTstrasse\nEOT" (done 16 (closed " \tEOTstrasse"))
-    ∷ row "w" (Step (label 16 3) Reading.Ported) true "ab\nEOTstrasse\nc\nEOT;" (done 6 (closed "ab"))
+    ∷ row "q" (Step (label 16 3) asSheets) true "ab\nEOTstrasse\nc\nEOT;" (done 19 (closed "ab\nEOTstrasse\nc"))
+    ∷ row "r" (Step (label 11 3) asSheets) true "EOTstrasse\nEOT" (done 14 (closed "EOTstrasse"))
+    ∷ row "s" (Step (label 2 3) asSheets) true "a\nEOT" (done 5 (closed "a"))
+    ∷ row "t" (Step (label 2 3) asSheets) false "a\nEOT" (refused wait origin)
+    ∷ row "t" (Step (label 2 3) asSheets) false "a\nEOT;" (done 5 (closed "a"))
+    ∷ row "t" (Step (label 2 3) asSheets) false "a\nEOTs" (refused wait origin)
+    ∷ row "u" (Step (label 13 3) asSheets) true "EOTstrasse\n  EOT" (refused strayIndentation origin)
+    ∷ row "v" (Step (label 13 3) asSheets) true " \tEOTstrasse\nEOT" (done 16 (closed " \tEOTstrasse"))
+    ∷ row "w" (Step (label 16 3) ported) true "ab\nEOTstrasse\nc\nEOT;" (done 6 (closed "ab"))
     ∷ []
 
 abbrev scripting : Call
-scripting = Step Frame.Scripting Reading.Ported
+scripting = Step Frame.Scripting ported
 
 -- a comment of all these bytes is passed
 abbrev passes : String → Found

@@ -6,6 +6,7 @@
 use libc::STDOUT_FILENO;
 use source::Span;
 use state::Answer;
+use state::Choices;
 use state::Frame;
 use state::Label;
 use state::Reading;
@@ -108,18 +109,32 @@ fn print_turn(letter: u8, t: Turn, list: &[u32], pool: &[u8]) {
     io::write_all(STDOUT_FILENO, b"\n");
 }
 
+// Nowdoc blocks as the Rust reads them.
+fn ported() -> Choices {
+    Choices {
+        nowdocs: Reading::Ported,
+    }
+}
+
+// Nowdoc blocks as sheets.
+fn as_sheets() -> Choices {
+    Choices {
+        nowdocs: Reading::Sheet,
+    }
+}
+
 // A session at the beginning with this frame.
-fn standing(f: Frame, nowdocs: Reading) -> Session {
-    let mut s = state::fresh(nowdocs);
+fn standing(f: Frame, choices: Choices) -> Session {
+    let mut s = state::fresh(choices);
     s.frames[0] = Slot { frame: f };
     s
 }
 
 // A step over a text, with room for three tokens and thirty-two value bytes.
-fn step(letter: u8, f: Frame, nowdocs: Reading, src: &[u8], end: bool) {
+fn step(letter: u8, f: Frame, choices: Choices, src: &[u8], end: bool) {
     let mut list = [0u32; 24];
     let mut pool = [0u8; 32];
-    let t = lexer::step(src, end, standing(f, nowdocs), &mut list, &mut pool);
+    let t = lexer::step(src, end, standing(f, choices), &mut list, &mut pool);
     print_turn(letter, t, &list, &pool);
 }
 
@@ -127,7 +142,7 @@ fn step(letter: u8, f: Frame, nowdocs: Reading, src: &[u8], end: bool) {
 fn number(letter: u8, src: &[u8], end: bool) {
     let mut list = [0u32; 24];
     let mut pool = [0u8; 32];
-    let s = standing(Frame::Scripting, Reading::Ported);
+    let s = standing(Frame::Scripting, ported());
     let t = lexer::read_number(src, end, s, &mut list, &mut pool);
     print_turn(letter, t, &list, &pool);
 }
@@ -136,7 +151,7 @@ fn number(letter: u8, src: &[u8], end: bool) {
 fn single(letter: u8, src: &[u8]) {
     let mut list = [0u32; 24];
     let mut pool = [0u8; 32];
-    let s = standing(Frame::Scripting, Reading::Ported);
+    let s = standing(Frame::Scripting, ported());
     let t = lexer::read_single(src, true, s, &mut list, &mut pool);
     print_turn(letter, t, &list, &pool);
 }
@@ -145,17 +160,17 @@ fn single(letter: u8, src: &[u8]) {
 fn double(letter: u8, src: &[u8]) {
     let mut list = [0u32; 24];
     let mut pool = [0u8; 32];
-    let s = standing(Frame::Scripting, Reading::Ported);
+    let s = standing(Frame::Scripting, ported());
     let t = lexer::read_double(src, true, s, &mut list, &mut pool);
     print_turn(letter, t, &list, &pool);
 }
 
 // Sheets a to c: the mode Initial.
 fn initial_sheets() {
-    step(b'a', Frame::Initial, Reading::Ported, b"", true);
-    step(b'b', Frame::Initial, Reading::Ported, b"a<?PHPx", true);
-    step(b'c', Frame::Initial, Reading::Ported, b"<?p", false);
-    step(b'c', Frame::Initial, Reading::Ported, b"<?px", false);
+    step(b'a', Frame::Initial, ported(), b"", true);
+    step(b'b', Frame::Initial, ported(), b"a<?PHPx", true);
+    step(b'c', Frame::Initial, ported(), b"<?p", false);
+    step(b'c', Frame::Initial, ported(), b"<?px", false);
 }
 
 // Sheets d to h: quoted strings.
@@ -186,37 +201,25 @@ fn nowdoc(start: u16) -> Frame {
 // Sheets l to p: text blocks, the last two as sheets.
 fn block_sheets() {
     let x = Label { start: 3, len: 1 };
-    step(b'l', nowdoc(4), Reading::Ported, b"a\n  EOTX", true);
-    step(b'm', nowdoc(4), Reading::Ported, b"a\n \tEOT", true);
-    step(b'n', Frame::Heredoc(x), Reading::Ported, b"a\n$x;", true);
-    step(
-        b'o',
-        nowdoc(13),
-        Reading::Sheet,
-        b"  ab\n   c\n\n  EOT",
-        true,
-    );
-    step(b'p', nowdoc(5), Reading::Sheet, b" a\n  EOT", true);
+    step(b'l', nowdoc(4), ported(), b"a\n  EOTX", true);
+    step(b'm', nowdoc(4), ported(), b"a\n \tEOT", true);
+    step(b'n', Frame::Heredoc(x), ported(), b"a\n$x;", true);
+    step(b'o', nowdoc(13), as_sheets(), b"  ab\n   c\n\n  EOT", true);
+    step(b'p', nowdoc(5), as_sheets(), b" a\n  EOT", true);
 }
 
 // Sheets q to w: a street whose name begins with the label, and the label at the end of a script and of a part. The last is ported.
 fn caption_sheets() {
     let street = b"ab\nEOTstrasse\nc\nEOT;";
-    step(b'q', nowdoc(16), Reading::Sheet, street, true);
-    step(b'r', nowdoc(11), Reading::Sheet, b"EOTstrasse\nEOT", true);
-    step(b's', nowdoc(2), Reading::Sheet, b"a\nEOT", true);
-    step(b't', nowdoc(2), Reading::Sheet, b"a\nEOT", false);
-    step(b't', nowdoc(2), Reading::Sheet, b"a\nEOT;", false);
-    step(b't', nowdoc(2), Reading::Sheet, b"a\nEOTs", false);
-    step(b'u', nowdoc(13), Reading::Sheet, b"EOTstrasse\n  EOT", true);
-    step(
-        b'v',
-        nowdoc(13),
-        Reading::Sheet,
-        b" \tEOTstrasse\nEOT",
-        true,
-    );
-    step(b'w', nowdoc(16), Reading::Ported, street, true);
+    step(b'q', nowdoc(16), as_sheets(), street, true);
+    step(b'r', nowdoc(11), as_sheets(), b"EOTstrasse\nEOT", true);
+    step(b's', nowdoc(2), as_sheets(), b"a\nEOT", true);
+    step(b't', nowdoc(2), as_sheets(), b"a\nEOT", false);
+    step(b't', nowdoc(2), as_sheets(), b"a\nEOT;", false);
+    step(b't', nowdoc(2), as_sheets(), b"a\nEOTs", false);
+    step(b'u', nowdoc(13), as_sheets(), b"EOTstrasse\n  EOT", true);
+    step(b'v', nowdoc(13), as_sheets(), b" \tEOTstrasse\nEOT", true);
+    step(b'w', nowdoc(16), ported(), street, true);
 }
 
 // The mark of an answer to a text that ends behind the label and one byte.
@@ -241,7 +244,7 @@ fn print_mark(b: u8, end: bool) {
     let src = [b'a', b'\n', b'E', b'O', b'T', b];
     let mut list = [0u32; 24];
     let mut pool = [0u8; 32];
-    let s = standing(nowdoc(2), Reading::Sheet);
+    let s = standing(nowdoc(2), as_sheets());
     let t = lexer::step(&src, end, s, &mut list, &mut pool);
     let answer = t.answer;
     let mark = [mark_of(answer)];
@@ -273,7 +276,7 @@ fn behind_label(letter: u8, end: bool) {
 
 // A step over a script's text.
 fn script(letter: u8, src: &[u8], end: bool) {
-    step(letter, Frame::Scripting, Reading::Ported, src, end);
+    step(letter, Frame::Scripting, ported(), src, end);
 }
 
 // Sheets z and A to D: how comments begin and end.

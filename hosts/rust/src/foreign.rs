@@ -6,7 +6,7 @@
 use crate::numbers::layout::{ANSWER, SESSION};
 
 extern "C" {
-    fn puretakoi_fresh(reading: u32, session: *mut u32, session_len: usize) -> u32;
+    fn puretakoi_fresh(choices: u32, session: *mut u32, session_len: usize) -> u32;
     fn puretakoi_walk(
         src: *const u8,
         src_len: usize,
@@ -110,10 +110,10 @@ pub type Numbers = [u32; SESSION];
 /// An answer's numbers.
 pub type Answer = [u32; ANSWER];
 
-/// A fresh session; for a reading that is none, all numbers are 0, which is no session.
-pub fn fresh(reading: u32) -> Numbers {
+/// A fresh session; where a bit is no choice's flag, all numbers are 0, which is no session.
+pub fn fresh(choices: u32) -> Numbers {
     let mut session = [0; SESSION];
-    unsafe { puretakoi_fresh(reading, session.as_mut_ptr(), SESSION) };
+    unsafe { puretakoi_fresh(choices, session.as_mut_ptr(), SESSION) };
     session
 }
 

@@ -1,33 +1,6 @@
-//! Frames of the mode stack, labels and readings, as the numbers of a session tell them.
+//! Frames of the mode stack and labels, as the numbers of a session tell them.
 
 use crate::numbers::choices::*;
-
-/// How nowdoc blocks are read.
-#[derive(Clone, Copy, Debug, PartialEq, Eq, Hash)]
-pub enum Reading {
-    /// As the lexer that was carried over reads them.
-    Ported,
-    /// As a sheet: the closing line's indentation comes off each row, and no letter, digit, `_` or byte from 0x80 on stands
-    /// behind a closing label.
-    Sheet,
-}
-
-impl Reading {
-    pub(crate) fn number(self) -> u32 {
-        match self {
-            Reading::Ported => READING_PORTED,
-            Reading::Sheet => READING_SHEET,
-        }
-    }
-
-    pub(crate) fn of(number: u32) -> Option<Reading> {
-        match number {
-            READING_PORTED => Some(Reading::Ported),
-            READING_SHEET => Some(Reading::Sheet),
-            _ => None,
-        }
-    }
-}
 
 /// A text block's label: a range of the source.
 #[derive(Clone, Copy, Debug, PartialEq, Eq, Hash)]

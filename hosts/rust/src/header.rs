@@ -36,9 +36,14 @@ fn is_of_version(name: &str) -> bool {
     name.starts_with("PURETAKOI_VERSION")
 }
 
-/// The names that the header defines as numbers, but for the version's.
+/// Other names of the choices, which older hosts use.
+fn is_other_name(name: &str) -> bool {
+    name.starts_with("PURETAKOI_READING")
+}
+
+/// The names that the header defines as numbers, but for the version's and other names.
 fn defined() -> Vec<(String, u64)> {
-    let numbers = definitions().filter(|(name, _)| !is_of_version(name));
+    let numbers = definitions().filter(|(name, _)| !is_of_version(name) && !is_other_name(name));
     let mut all: Vec<(String, u64)> =
         numbers.map(|(name, value)| (name.to_string(), value.parse().expect("a constant is a number"))).collect();
     all.sort();
@@ -54,6 +59,17 @@ fn the_version_is_the_crates() {
         ("PURETAKOI_VERSION_MAJOR", env!("CARGO_PKG_VERSION_MAJOR")),
         ("PURETAKOI_VERSION_MINOR", env!("CARGO_PKG_VERSION_MINOR")),
         ("PURETAKOI_VERSION_PATCH", env!("CARGO_PKG_VERSION_PATCH")),
+    ];
+    assert_eq!(found, expected);
+}
+
+#[test]
+fn other_names_are_of_the_same_numbers() {
+    let found: Vec<_> = definitions().filter(|(name, _)| is_other_name(name)).collect();
+    let expected = [
+        ("PURETAKOI_READING", "PURETAKOI_CHOICES"),
+        ("PURETAKOI_READING_PORTED", "0"),
+        ("PURETAKOI_READING_SHEET", "PURETAKOI_CHOICE_SHEETS"),
     ];
     assert_eq!(found, expected);
 }

@@ -1,6 +1,6 @@
 //! Puretakoi for hosts in Rust on x86-64 Linux: the proved reader of PHP scripts behind calls that can't be misused.
 //!
-//! `tokens` gives the tokens of a whole script, `Tokens` one after another and in the reading that is chosen; `Stream`
+//! `tokens` gives the tokens of a whole script, `Tokens` one after another and by choices; `Stream`
 //! reads a script that comes in parts; `Session` is the library's own walk and step, with lent tables. What can't be
 //! taken is refused by its number, and session and tables are then as they were; what the steps of a walk before it
 //! wrote stays. No call panics.
@@ -30,6 +30,7 @@
 
 #![deny(unsafe_code, missing_docs, missing_debug_implementations)]
 
+mod choices;
 mod file;
 #[allow(unsafe_code)]
 mod foreign;
@@ -46,8 +47,9 @@ mod header;
 #[cfg(test)]
 mod words;
 
+pub use choices::{Choices, Reading};
 pub use file::{file_to_list, list_to_file};
-pub use frame::{Frame, Label, Reading};
+pub use frame::{Frame, Label};
 pub use numbers::{kinds, limits, refusals, Kind, Reason};
 pub use record::{records, Record};
 pub use refusal::{Refusal, Span};

@@ -161,7 +161,7 @@ pub(crate) mod layout {
         DEPTH = 3;
         TOKENS = 4;
         BYTES = 5;
-        READING = 6;
+        CHOICES = 6;
         SLOTS = 7;
         SLOT = 3;
         ANSWER = 5;
@@ -181,11 +181,10 @@ pub(crate) mod layout {
     }
 }
 
-/// What stands in a session and an answer: readings, frames, ways.
+/// What stands in a session and an answer: choices, frames, ways.
 pub(crate) mod choices {
     constants! { pub u32:
-        READING_PORTED = 0;
-        READING_SHEET = 1;
+        CHOICE_SHEETS = 1;
         FRAME_INITIAL = 0;
         FRAME_SCRIPTING = 1;
         FRAME_DOUBLE_QUOTE = 2;

@@ -2,8 +2,9 @@
 
 use std::fmt;
 
+use crate::choices::{Choices, Reading};
 use crate::foreign::{self, Answer, Call, Numbers};
-use crate::frame::{Frame, Reading};
+use crate::frame::Frame;
 use crate::numbers::choices::{DONE, FINISHED};
 use crate::numbers::layout::*;
 use crate::numbers::limits::MOST_FRAMES;
@@ -34,7 +35,7 @@ pub enum Progress {
     Finished,
 }
 
-/// Where a script is being read: cursor, mode stack, the fill marks of list and pool, and the reading of nowdoc blocks.
+/// Where a script is being read: cursor, mode stack, the fill marks of list and pool, and its choices.
 #[derive(Clone, PartialEq, Eq, Hash)]
 pub struct Session {
     numbers: Numbers,
@@ -42,8 +43,8 @@ pub struct Session {
 
 impl Session {
     /// A session before its script.
-    pub fn fresh(reading: Reading) -> Session {
-        Session { numbers: foreign::fresh(reading.number()) }
+    pub fn fresh(choices: impl Into<Choices>) -> Session {
+        Session { numbers: foreign::fresh(choices.into().number()) }
     }
 
     /// A session of any numbers: where they are none, every call is refused with 12.
@@ -91,9 +92,14 @@ impl Session {
         self.numbers[BYTES]
     }
 
+    /// What was chosen; none where the numbers are no session.
+    pub fn choices(&self) -> Option<Choices> {
+        Choices::of(self.numbers[CHOICES])
+    }
+
     /// How nowdoc blocks are read; none where the numbers are no session.
     pub fn reading(&self) -> Option<Reading> {
-        Reading::of(self.numbers[READING])
+        self.choices().map(|choices| choices.nowdocs)
     }
 
     /// The frame at a place of the mode stack, 0 for the bottom; none at the depth and above, or where the numbers are no session.
@@ -235,7 +241,7 @@ impl fmt::Debug for Session {
             .field("frames", &frames)
             .field("tokens", &self.tokens())
             .field("bytes", &self.bytes())
-            .field("reading", &self.reading())
+            .field("choices", &self.choices())
             .finish()
     }
 }

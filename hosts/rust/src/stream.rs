@@ -2,7 +2,7 @@
 
 use std::fmt;
 
-use crate::frame::Reading;
+use crate::choices::Choices;
 use crate::numbers::layout::RECORD;
 use crate::numbers::limits::MOST_BYTES;
 use crate::numbers::refusals::{LIST_FULL, OUT_OF_PLACE, POOL_FULL, WAIT};
@@ -64,11 +64,11 @@ pub struct Stream {
 
 impl Stream {
     /// A stream before its script.
-    pub fn new(reading: Reading) -> Stream {
+    pub fn new(choices: impl Into<Choices>) -> Stream {
         Stream {
             source: Vec::new(),
             end: End::More,
-            session: Session::fresh(reading),
+            session: Session::fresh(choices),
             list: vec![0; PLACES * RECORD],
             pool: vec![0; MOST_BYTES],
             behind: None,
@@ -76,8 +76,8 @@ impl Stream {
     }
 
     /// A stream over a whole script, its end announced.
-    pub(crate) fn whole(script: &[u8], reading: Reading) -> Stream {
-        let mut stream = Stream::new(reading);
+    pub(crate) fn whole(script: &[u8], choices: Choices) -> Stream {
+        let mut stream = Stream::new(choices);
         stream.add(script);
         stream.finish();
         stream

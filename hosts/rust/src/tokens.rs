@@ -3,12 +3,12 @@
 use std::iter::FusedIterator;
 use std::vec;
 
-use crate::frame::Reading;
+use crate::choices::{Choices, Reading};
 use crate::refusal::Refusal;
 use crate::stream::{Event, Stream, Token};
 
 /// All tokens of a whole script in the ported reading, as the program `rows` reads it; else its refusal. With `Tokens`
-/// the reading is chosen, and the tokens before a refusal are given.
+/// choices are made, and the tokens before a refusal are given.
 pub fn tokens(script: &[u8]) -> Result<Vec<Token>, Refusal> {
     Tokens::new(script, Reading::Ported).collect()
 }
@@ -22,9 +22,9 @@ pub struct Tokens {
 }
 
 impl Tokens {
-    /// The tokens of a script in a reading.
-    pub fn new(script: &[u8], reading: Reading) -> Tokens {
-        Tokens { stream: Stream::whole(script, reading), read: Vec::new().into_iter(), is_over: false }
+    /// The tokens of a script by these choices.
+    pub fn new(script: &[u8], choices: impl Into<Choices>) -> Tokens {
+        Tokens { stream: Stream::whole(script, choices.into()), read: Vec::new().into_iter(), is_over: false }
     }
 }
 

@@ -1,6 +1,8 @@
 //! Calls on sessions: what they give, and that a refused call leaves everything as it was.
 
-use puretakoi::{kinds, limits, records, refusals, End, Frame, Label, Progress, Reading, Refusal, Session, Span};
+use puretakoi::{
+    kinds, limits, records, refusals, Choices, End, Frame, Label, Progress, Reading, Refusal, Session, Span,
+};
 
 /// Tables that are lent to a call.
 struct Tables {
@@ -98,6 +100,22 @@ fn a_fresh_session() {
         (Some(Reading::Sheet), Some(Frame::Initial), None)
     );
     assert_eq!(Session::fresh(Reading::Ported).reading(), Some(Reading::Ported));
+}
+
+#[test]
+fn choices_are_flags() {
+    for (number, nowdocs) in [(0, Reading::Ported), (1, Reading::Sheet)] {
+        let session = Session::fresh(Choices { nowdocs });
+        assert_eq!((session.numbers()[6], session.choices()), (number, Some(Choices { nowdocs })));
+        assert_eq!(session, Session::fresh(nowdocs));
+    }
+    for number in [2, 3, 1 << 31, u32::MAX] {
+        let mut numbers = *Session::fresh(Reading::Ported).numbers();
+        numbers[6] = number;
+        let mut session = Session::from_numbers(numbers);
+        assert_eq!((session.choices(), session.reading()), (None, None));
+        assert_eq!(session.skip(b"", 0).map_err(|refusal| refusal.number), Err(refusals::BAD_SESSION));
+    }
 }
 
 /// Document 01's sample: `<?php 'a' 12;⏎`.

@@ -11,6 +11,6 @@ write-value-spec =
     (λ c. search (copies, needs)) (λ c κs. search (copies, needs)) (λ c. search needs) (λ c κs. search (texts, needs))
     (λ c. search needs) (λ c. search needs) (λ c. search needs) (λ c κs. search (texts, needs)) (λ c. search needs)
     (λ c. search needs) (λ c. search needs) (λ c. search needs) (λ c κs. search (numbers, needs)) (λ c. search needs)
-    (λ c κs. search (sheets, needs)) (λ c. search needs) (λ c. search needs) (λ c. search needs)
+    (λ c. search (sheets, needs)) (λ c. search needs) (λ c. search needs) (λ c. search needs)
     (λ c κs. search (sheets, needs)) (λ c. search needs) (λ c. search copies) (λ c. search needs) (λ c. search texts)
     (λ c. search needs) (λ c. search numbers) (λ c. search needs) (λ c. search sheets))

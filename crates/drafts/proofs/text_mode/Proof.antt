@@ -9,5 +9,6 @@ pub text-mode-spec : {M : Type 1} → statement M
 unfolding textWork
 text-mode-spec =
     tie.close
-    (tie.spec (λ c κs. search needs) (λ c κs. search (texts, needs)) (λ c. search needs) (λ c κs. search (texts, needs))
-    (λ c. search needs) (λ c. search needs) (λ c. search texts) (λ c. search texts) (λ c. search texts))
+    (tie.spec (λ c κs. search (texts, needs)) (λ c κs. search (texts, needs)) (λ c. search (texts, needs))
+    (λ c κs. search (texts, needs)) (λ c κs. search (texts, needs)) (λ c. search (texts, needs))
+    (λ c. search (texts, needs)) (λ c. search (texts, needs)) (λ c. search (texts, needs)) (λ c. search (texts, needs)))

@@ -7,5 +7,6 @@ use Rattle.drafts.proofs.text_plan.Tie as tie
 pub text-plan-spec : {M : Type 1} → statement M
 text-plan-spec =
     tie.close
-    (tie.spec (λ c κs. search needs) (λ c κs. search needs) (λ c κs. search needs) (λ c κs. search needs)
-    (λ c κs. search needs) (λ c κs. search needs) (λ c. search textPlan-made))
+    (tie.spec (λ c κs. search needs) (λ c κs. search needs)
+    (λ c κs. search needs) (λ c κs. search needs) (λ c κs. search needs)
+    (λ c. search textPlan-made))

@@ -7,5 +7,6 @@ use Rattle.puretakoi.proofs.puretakoi_fresh.Tie as tie
 pub puretakoi-fresh-spec : {M : Type 1} → statement M
 puretakoi-fresh-spec =
     tie.close
-    (tie.spec (λ c. search (begun, needs)) (λ c. search (begun, needs)) (λ c κs. search (begun, needs))
-    (λ c κs. search (begun, needs)) (λ c κs. search (begun, needs)) (λ c. search (begun, needs)) (λ c. search (begun, needs)))
+    (tie.spec (λ c. search (begun, needs)) (λ c κs. search (begun, needs)) (λ c. search (begun, needs))
+    (λ c κs. search (begun, needs)) (λ c κs. search (begun, needs)) (λ c κs. search (begun, needs)) (λ c. search (begun, needs))
+    (λ c. search (begun, needs)))

@@ -1,4 +1,4 @@
--- `sheet::strip_len` meets its contract: the loop keeps `Stripping`. Assumes nothing.
+-- `sheet::strip_len` meets its contract: nothing comes off, or the loop keeps `Stripping`. Assumes nothing.
 use Prim.Native.Nat.{_-_}
 use lib.ListN.{length}
 use borrow.Author.Needs.{needs}
@@ -15,7 +15,10 @@ left body at blank width i₀ len₀ i len = length body - i
 pub strip-len-spec : {M : Type 1} → statement M
 strip-len-spec =
     tie.close
-    (tie.spec Inv left (λ c. search stripping) (λ c κs. search (stripping, needs)) (λ c. search (stripping, needs)) (λ c. search (stripping, needs))
-    (λ c. search (stripping, needs)) (λ c κs. search (stripping, needs)) (λ c. search (stripping, needs)) (λ c. search (stripping, needs)) (λ c. search (stripping, needs))
-    (λ c. search (stripping, needs)) (λ c κs. search (stripping, needs)) (λ c. search stripping) (λ c. search (stripping, needs)) (λ c. search (stripping, needs))
-    (λ c. search (stripping, needs)) (λ c. search stripping) (λ c. search stripping))
+    (tie.spec Inv left (λ c. search (stripping, needs)) (λ c. search (stripping, needs)) (λ c. search (stripping, needs))
+    (λ c κs. search (stripping, needs)) (λ c. search (stripping, needs)) (λ c. search (stripping, needs))
+    (λ c. search (stripping, needs)) (λ c κs. search (stripping, needs)) (λ c. search (stripping, needs))
+    (λ c. search (stripping, needs)) (λ c. search (stripping, needs)) (λ c. search (stripping, needs))
+    (λ c κs. search (stripping, needs)) (λ c. search (stripping, needs)) (λ c. search (stripping, needs))
+    (λ c. search (stripping, needs)) (λ c. search (stripping, needs)) (λ c. search (stripping, needs))
+    (λ c. search (stripping, needs)))

@@ -6,11 +6,11 @@ use Rattle.walk.proofs.walk_on.Statement.{statement}
 use Rattle.walk.proofs.walk_on.Tie as tie
 
 abbrev Inv : tie.InvT-loop
-Inv src end most list₀ pool₀ frames₀ nowdocs depth₀ m₀ left₀ list pool frames depth m left =
-    Walking most src end (sessionAt m₀ depth₀ frames₀ nowdocs) list₀ pool₀ left m depth frames nowdocs list pool
+Inv src end most list₀ pool₀ frames₀ choices depth₀ m₀ left₀ list pool frames depth m left =
+    Walking most src end (sessionAt m₀ depth₀ frames₀ choices) list₀ pool₀ left m depth frames choices list pool
 
 abbrev measure : tie.MeasureT-loop
-measure src end most list₀ pool₀ frames₀ nowdocs depth₀ m₀ left₀ list pool frames depth m left = left
+measure src end most list₀ pool₀ frames₀ choices depth₀ m₀ left₀ list pool frames depth m left = left
 
 pub walk-on-spec : {M : Type 1} → statement M
 walk-on-spec =

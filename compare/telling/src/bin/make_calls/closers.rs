@@ -1,6 +1,6 @@
 //! What stands behind a block's label: each byte, and rows that begin with the label.
 
-use cases::call::READING;
+use cases::call::CHOICES;
 use cases::random::Random;
 use cases::{Call, Function};
 use telling::Teller;
@@ -38,11 +38,11 @@ const CAPTIONS: [&[u8]; 20] = [
 
 pub fn calls(_: &mut Random, _: &mut Teller) -> Vec<Call> {
     let mut calls = Vec::new();
-    for (frame, reading) in BLOCKS {
+    for (frame, choices) in BLOCKS {
         let texts = CAPTIONS.iter().map(|text| text.to_vec()).chain((0..=255).map(behind_label));
         for text in texts {
             let mut call = plain(Function::Step, &[LABEL, b"\n"].concat(), &text, [frame, 0, LABEL.len() as u32]);
-            call.session[READING] = reading;
+            call.session[CHOICES] = choices;
             calls.push(call.clone());
             calls.push(Call { end: 0, ..call });
         }

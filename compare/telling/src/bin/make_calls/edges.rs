@@ -83,9 +83,9 @@ pub fn parts(random: &mut Random, _: &mut Teller) -> Vec<Call> {
         calls.push(call);
     }
     for text in BLOCKS {
-        for (frame, reading) in [(HEREDOC, 0), (NOWDOC, 0), (NOWDOC, 1)] {
+        for (frame, choices) in [(HEREDOC, 0), (NOWDOC, 0), (NOWDOC, 1)] {
             let mut call = plain(Function::Step, b"EO\n", text, [frame, 0, 2]);
-            call.session[cases::call::READING] = reading;
+            call.session[cases::call::CHOICES] = choices;
             calls.push(call);
         }
     }

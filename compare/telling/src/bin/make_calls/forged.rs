@@ -1,6 +1,6 @@
-//! Sessions that no call gave: each number at its bounds and past them by one, and what is no frame, reading or label.
+//! Sessions that no call gave: each number at its bounds and past them by one, and what is no frame, choices or label.
 
-use cases::call::{BYTES, COLUMN, DEPTH, LINE, POSITION, READING, SLOT, SLOTS, TOKENS};
+use cases::call::{BYTES, CHOICES, COLUMN, DEPTH, LINE, POSITION, SLOT, SLOTS, TOKENS};
 use cases::random::Random;
 use cases::{Call, Function};
 use telling::Teller;
@@ -79,7 +79,7 @@ fn changed(called: usize, changes: &[(usize, u32)]) -> Call {
     call
 }
 
-/// Position, line, column, depth, marks and reading. The position is 71 of 73, the list has four places, the pool 20 bytes.
+/// Position, line, column, depth, marks and choices. The position is 71 of 73, the list has four places, the pool 20 bytes.
 fn numbers() -> Vec<Changes> {
     let bounds: [(usize, &[u32]); 7] = [
         (POSITION, &[0, 70, 72, 73, 74, u32::MAX]),
@@ -88,7 +88,7 @@ fn numbers() -> Vec<Changes> {
         (DEPTH, &[0, 1, 2, 4, 64, 65, 66, 256, u32::MAX]),
         (TOKENS, &[0, 3, 4, 5, u32::MAX]),
         (BYTES, &[0, 19, 20, 21, u32::MAX]),
-        (READING, &[0, 1, 2, 3, 256, u32::MAX]),
+        (CHOICES, &[0, 1, 2, 3, 256, u32::MAX]),
     ];
     let mut all = vec![Vec::new()];
     for (place, values) in bounds {

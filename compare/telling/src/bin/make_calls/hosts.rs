@@ -1,6 +1,6 @@
 //! What a host does to a session without reading: fresh, skip, push, pop; and slices that are too short.
 
-use cases::call::{BYTES, READING, SESSION, TOKENS};
+use cases::call::{BYTES, CHOICES, SESSION, TOKENS};
 use cases::random::Random;
 use cases::{Call, Function};
 use telling::Teller;
@@ -41,12 +41,12 @@ pub fn calls(random: &mut Random, _: &mut Teller) -> Vec<Call> {
     calls
 }
 
-/// Readings, lengths of the session and numbers in it.
+/// Choices, lengths of the session and numbers in it.
 fn fresh() -> Vec<Call> {
     let mut calls = Vec::new();
-    for reading in [0, 1, 2, 3, 256, 65_536, u32::MAX as usize] {
+    for choices in [0, 1, 2, 3, 256, 65_536, u32::MAX as usize] {
         for session in [vec![0; SESSION], vec![9; SESSION], vec![u32::MAX; SESSION + 2]] {
-            let call = on(Function::Fresh, &[reading], b"");
+            let call = on(Function::Fresh, &[choices], b"");
             calls.push(Call { session, ..call });
         }
     }
@@ -101,7 +101,7 @@ fn any(function: Function, arguments: Vec<usize>, text: &[u8], random: &mut Rand
     let mut call = varied(plain(function, head, text, top), label, random);
     call.session[TOKENS] = *random.pick(&[&0, &1, &65_538, &u32::MAX]);
     call.session[BYTES] = *random.pick(&[&0, &1, &65_537, &u32::MAX]);
-    call.session[READING] = random.below(2) as u32;
+    call.session[CHOICES] = random.below(2) as u32;
     Call { arguments, ..call }
 }
 

@@ -1,6 +1,6 @@
 //! Calls at the limits: the longest source and label, the deepest stack, the largest tables; and the order of refusals.
 
-use cases::call::{BYTES, DEPTH, LINE, READING, RECORD, TOKENS};
+use cases::call::{BYTES, CHOICES, DEPTH, LINE, RECORD, TOKENS};
 use cases::random::Random;
 use cases::{Call, Function};
 use telling::Teller;
@@ -54,7 +54,7 @@ fn long_sources(length: usize) -> Vec<Call> {
         long(Function::Pop, b"a", b'\n', b"", length, bare(SCRIPTING)),
     ];
     let mut sheet = long(Function::Step, b"E\n", b' ', b"a\n  E", length, block(NOWDOC));
-    sheet.session[READING] = 1;
+    sheet.session[CHOICES] = 1;
     calls.push(sheet);
     let mut skip = long(Function::Skip, b"", b'\n', b"", length, bare(SCRIPTING));
     skip.arguments = vec![length];
@@ -110,11 +110,11 @@ fn labels(length: usize) -> Vec<Call> {
         calls.push(call.clone());
         calls.push(Call { end: 0, ..call });
     }
-    for (frame, reading) in [(HEREDOC, 0), (NOWDOC, 0), (NOWDOC, 1)] {
+    for (frame, choices) in [(HEREDOC, 0), (NOWDOC, 0), (NOWDOC, 1)] {
         for less in [0, 1] {
             let text = [b"\n  a\n  ", &label[less..]].concat();
             let mut call = plain(Function::Step, &label, &text, [frame, 0, length as u32]);
-            call.session[READING] = reading;
+            call.session[CHOICES] = choices;
             calls.push(call.clone());
             calls.push(Call { end: 0, ..call });
         }

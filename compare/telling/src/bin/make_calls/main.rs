@@ -36,7 +36,7 @@ const EDGES: [Group; 9] = [
     ("tables", "list and pool just large enough, and too small by one, in each mode and reading", edges::tables),
     (
         "forged",
-        "sessions at each bound, and past it by one; numbers that are no frame, reading or label",
+        "sessions at each bound, and past it by one; numbers that are no frame, choices or label",
         forged::calls,
     ),
     ("limits", "65,535 to 65,537 bytes, 63 to 65 frames, labels of 64 and 65 bytes, the largest tables", limits::calls),

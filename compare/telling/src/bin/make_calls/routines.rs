@@ -1,6 +1,6 @@
 //! The modes and readings, each with the bytes and pieces that it decides on, and the calls made of them.
 
-use cases::call::READING;
+use cases::call::CHOICES;
 use cases::pieces::{every_text, Pieces, CLOSING_LINES, ESCAPES, INTERPOLATIONS, LINES, SCRIPT};
 use cases::random::Random;
 use cases::{Call, Function};
@@ -14,9 +14,9 @@ pub struct Mode {
     pub name: &'static str,
     pub what: &'static str,
     pub function: Function,
-    /// The top frame's number, and the number of the reading of nowdoc blocks where that matters.
+    /// The top frame's number, and the choices where they matter.
     pub frame: u32,
-    reading: Option<u32>,
+    choices: Option<u32>,
     /// Every text of up to `longest` of these bytes is tried.
     bytes: &'static [u8],
     longest: usize,
@@ -65,7 +65,7 @@ const fn step(
     (bytes, longest): (&'static [u8], usize),
     (pieces, closers): (&'static [Pieces], Pieces),
 ) -> Mode {
-    Mode { name, what, function: Function::Step, frame, reading: None, bytes, longest, pieces, closers }
+    Mode { name, what, function: Function::Step, frame, choices: None, bytes, longest, pieces, closers }
 }
 
 pub const MODES: [Mode; 13] = [
@@ -87,7 +87,7 @@ pub const MODES: [Mode; 13] = [
         (&[LINES, ESCAPES, CLOSING_LINES, INTERPOLATIONS], BREAKS),
     ),
     Mode {
-        reading: Some(0),
+        choices: Some(0),
         ..step(
             ("nowdoc", "closing lines in the ported reading", NOWDOC),
             (b"\n \tEa\r$\\", 2),
@@ -95,7 +95,7 @@ pub const MODES: [Mode; 13] = [
         )
     },
     Mode {
-        reading: Some(1),
+        choices: Some(1),
         ..step(
             ("sheet", "rows, their indentation and closing lines in the sheet reading", NOWDOC),
             (b"\n \tEa\r", 3),
@@ -184,7 +184,7 @@ impl Mode {
         if !sessions::is_bottom(self.frame) {
             put_frames(&mut call, &[bare(SCRIPTING), bare(self.frame)]);
         }
-        call.session[READING] = self.reading.unwrap_or(0);
+        call.session[CHOICES] = self.choices.unwrap_or(0);
         call
     }
 
@@ -199,7 +199,7 @@ impl Mode {
         let text = self.text(&long, random);
         let top = if self.has_label() { [self.frame, at, len as u32] } else { bare(self.frame) };
         let mut call = varied(plain(self.function, &head, &text, top), if len > 1 { 0 } else { label }, random);
-        call.session[READING] = self.reading.unwrap_or(call.session[READING]);
+        call.session[CHOICES] = self.choices.unwrap_or(call.session[CHOICES]);
         call
     }
 

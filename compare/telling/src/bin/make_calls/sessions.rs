@@ -1,6 +1,6 @@
 //! Good sessions around a text: bytes before it, other frames below, marks, and room for whatever the call writes.
 
-use cases::call::{BYTES, COLUMN, DEPTH, LINE, POSITION, READING, RECORD, SESSION, SLOT, SLOTS, TOKENS};
+use cases::call::{BYTES, CHOICES, COLUMN, DEPTH, LINE, POSITION, RECORD, SESSION, SLOT, SLOTS, TOKENS};
 use cases::random::Random;
 use cases::{Call, Function};
 use telling::bytes::{past, START};
@@ -92,7 +92,7 @@ pub fn varied(mut call: Call, label: u32, random: &mut Random) -> Call {
     let mut frames: Vec<Slot> = (0..below).map(|place| frame_below(place, label, random)).collect();
     frames.push(top);
     put_frames(&mut call, &frames);
-    call.session[READING] = random.below(2) as u32;
+    call.session[CHOICES] = random.below(2) as u32;
     if call.function.has_tables() {
         put_marks(&mut call, random.below(4), random.below(6));
         call.list += random.below(RECORD);

@@ -1,6 +1,6 @@
 //! Walks of many steps in one call: each kind of script, each refusal at the first step and behind others, and `most` from 0 on.
 
-use cases::call::{BYTES, DEPTH, POSITION, READING, RECORD, TOKENS};
+use cases::call::{BYTES, CHOICES, DEPTH, POSITION, RECORD, TOKENS};
 use cases::random::Random;
 use cases::{Call, Function, Told};
 use telling::Teller;
@@ -71,9 +71,9 @@ pub fn calls(random: &mut Random, teller: &mut Teller) -> Vec<Call> {
 }
 
 /// A walk of a whole script from a fresh session on, with ample room.
-fn fresh(script: &[u8], reading: u32) -> Call {
+fn fresh(script: &[u8], choices: u32) -> Call {
     let mut call = plain(Function::Walk, b"", script, bare(INITIAL));
-    call.session[READING] = reading;
+    call.session[CHOICES] = choices;
     Call { arguments: vec![HUGE], list: 40 * RECORD, ..call }
 }
 
@@ -130,7 +130,7 @@ fn at_first() -> Vec<Call> {
         Call { list: 65_538 * RECORD, ..call.clone() },
         plain(Function::Walk, b"", b"\\400\"", bare(DOUBLE_QUOTE)),
     ];
-    for (place, number) in [(DEPTH, 0), (DEPTH, 65), (POSITION, 3), (TOKENS, 4), (BYTES, 1000), (READING, 2)] {
+    for (place, number) in [(DEPTH, 0), (DEPTH, 65), (POSITION, 3), (TOKENS, 4), (BYTES, 1000), (CHOICES, 2)] {
         let mut bad = call.clone();
         bad.session[place] = number;
         all.push(bad);

@@ -1,6 +1,6 @@
 -- `modes::passing::is_scripting` meets its contract: each arm of the match is one frame. Assumes nothing.
 use borrow.Author.Needs.{needs}
-use Rattle.modes.specs.Code.{isScripting}
+use Rattle.state.specs.Bounds.{isScripting}
 use Rattle.modes.proofs.Passes.{isScripting-arm}
 use Rattle.modes.proofs.passing.is_scripting.Statement.{statement}
 use Rattle.modes.proofs.passing.is_scripting.Tie as tie

@@ -1,8 +1,8 @@
--- `commit::label_bytes` meets its contract: the range is as long as the label. Assumes nothing.
+-- `plan::label_bytes` meets its contract: the range is as long as the label. Assumes nothing.
 use borrow.Author.Needs.{needs}
-use Rattle.commit.proofs.Values.{labelBytes-part}
-use Rattle.commit.proofs.label_bytes.Statement.{statement}
-use Rattle.commit.proofs.label_bytes.Tie as tie
+use Rattle.plan.proofs.Plans.{labelBytes-part}
+use Rattle.plan.proofs.label_bytes.Statement.{statement}
+use Rattle.plan.proofs.label_bytes.Tie as tie
 
 pub label-bytes-spec : {M : Type 1} → statement M
 label-bytes-spec =
