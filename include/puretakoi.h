@@ -35,7 +35,7 @@ extern "C" {
 #define PURETAKOI_MOST_FRAMES 64    /* of a mode stack */
 #define PURETAKOI_MOST_LABEL 64     /* bytes of a text block's label */
 
-/* ---- A session: 199 numbers. A longer slice is as good; what lies behind is not touched. Between calls a host may set both marks to
+/* ---- A session: 199 numbers. A longer slice is as good; what lies after is not touched. Between calls a host may set both marks to
  * 0: list and pool are then empty. The top frame is session[PURETAKOI_SLOTS + PURETAKOI_SLOT * (session[PURETAKOI_DEPTH] - 1)].
  * Slots above the depth mean nothing; a call may change them. */
 
@@ -51,7 +51,7 @@ extern "C" {
 #define PURETAKOI_SLOT 3      /* numbers of a slot: frame, label start, label length (0, 0 for a frame without a label) */
 
 #define PURETAKOI_CHOICE_SHEETS 1 /* nowdoc blocks are read as sheets: the closing line's indentation comes off each row, and no */
-                                  /* letter, digit, _ or byte from 0x80 on stands behind a closing label; with more announced a */
+                                  /* letter, digit, _ or byte from 0x80 on stands after a closing label; with more announced a */
                                   /* part that ends in one waits. Else they are read as the lexer that was carried over does */
 
 /* Other names of these numbers, which older hosts use. */
@@ -61,13 +61,13 @@ extern "C" {
 
 #define PURETAKOI_FRAME_INITIAL 0              /* inline text up to a tag */
 #define PURETAKOI_FRAME_SCRIPTING 1            /* the script */
-#define PURETAKOI_FRAME_DOUBLE_QUOTE 2         /* a double-quoted string behind its first interpolation */
+#define PURETAKOI_FRAME_DOUBLE_QUOTE 2         /* a double-quoted string after its first interpolation */
 #define PURETAKOI_FRAME_SHELL_EXEC 3           /* a command between backticks */
 #define PURETAKOI_FRAME_HEREDOC 4              /* a heredoc block; its label is a range of the source */
 #define PURETAKOI_FRAME_NOWDOC 5               /* a nowdoc block; its label is a range of the source */
-#define PURETAKOI_FRAME_LOOKING_FOR_VARNAME 6  /* behind ${ */
-#define PURETAKOI_FRAME_LOOKING_FOR_PROPERTY 7 /* at an arrow behind a variable */
-#define PURETAKOI_FRAME_VAR_OFFSET 8           /* between [ and ] behind a variable */
+#define PURETAKOI_FRAME_LOOKING_FOR_VARNAME 6  /* after ${ */
+#define PURETAKOI_FRAME_LOOKING_FOR_PROPERTY 7 /* at an arrow after a variable */
+#define PURETAKOI_FRAME_VAR_OFFSET 8           /* between [ and ] after a variable */
 
 /* ---- An answer: 5 numbers. A longer slice is as good. */
 
@@ -80,13 +80,13 @@ extern "C" {
 
 #define PURETAKOI_DONE 0     /* done: go on */
 #define PURETAKOI_FINISHED 1 /* done, and nothing is left to read: stop. One more step or walk is FINISHED too, and */
-                             /* with Initial on top, as it is behind ?>, writes another InlineHtml without bytes */
+                             /* with Initial on top, as it is after ?>, writes another InlineHtml without bytes */
 #define PURETAKOI_REFUSED 2  /* refused: session, list and pool are as they were; of a walk, as they were before the refused step */
 
 /* ---- A token: 8 numbers of the list. As a file: 32 bytes, little-endian.
  *
  *   kind          value                                                         detail
- *   1             the text; no bytes behind a last ?> or in an empty script     0
+ *   1             the text; no bytes after a last ?> or in an empty script      0
  *   2, 3, 4       the tag as it stands                                          0
  *   5             the text: see below                                           0
  *   6 to 10       its bytes as they stand, as ${ or $name                       0
@@ -103,7 +103,7 @@ extern "C" {
  * there is none.
  *
  * A StringPart and the token that follows it in the same step bear one place, where the step began: so the place of an
- * end of a text block is not its closing line. InlineHtml and the tag behind it bear a place each. */
+ * end of a text block is not its closing line. InlineHtml and the tag after it bear a place each. */
 
 #define PURETAKOI_RECORD 8          /* how many numbers a record has */
 #define PURETAKOI_RECORD_KIND 0     /* which token, below */
@@ -162,13 +162,13 @@ extern "C" {
 uint32_t puretakoi_fresh(uint32_t choices, uint32_t *session, size_t session_len);
 
 /* One step from the cursor on. `end` is 0 where more of the script may come; any other number announces the end. New records and value
- * bytes stand behind the marks: at most two records, and no more value bytes than the step passes, so that 16 numbers and a pool as long
+ * bytes stand from the marks on: at most two records, and no more value bytes than the step passes, so that 16 numbers and a pool as long
  * as the source are room for any step from marks of 0. */
 uint32_t puretakoi_step(const uint8_t *src, size_t src_len, uint32_t end, uint32_t *session, size_t session_len, uint32_t *list,
                         size_t list_len, uint8_t *pool, size_t pool_len, uint32_t *answer, size_t answer_len);
 
 /* At most `most` steps in one call, up to one that is not done: much faster than a call for each. The answer is the last step's, or done.
- * What the steps before it wrote stays: where the walk is refused behind a step that was done, the session stands before the refused one,
+ * What the steps before it wrote stays: where the walk is refused after a step that was done, the session stands before the refused one,
  * and list and pool hold what was read. Where the first step is refused all is as it was; with `most` 0 the answer is done, and neither
  * session nor script is looked at. So after LIST_FULL or POOL_FULL take the tokens, set both marks to 0 and walk on; from marks of 0, 16
  * numbers and a pool as long as the source are room for a step at least. */
@@ -180,12 +180,12 @@ uint32_t puretakoi_read_number(const uint8_t *src, size_t src_len, uint32_t end,
                                uint32_t *list, size_t list_len, uint8_t *pool, size_t pool_len, uint32_t *answer,
                                size_t answer_len);
 
-/* The single-quoted string whose text starts at the cursor, behind its quote. */
+/* The single-quoted string whose text starts at the cursor, after its quote. */
 uint32_t puretakoi_read_single(const uint8_t *src, size_t src_len, uint32_t end, uint32_t *session, size_t session_len,
                                uint32_t *list, size_t list_len, uint8_t *pool, size_t pool_len, uint32_t *answer,
                                size_t answer_len);
 
-/* The double-quoted string whose text starts at the cursor, behind its quote, up to its end or its first interpolation. */
+/* The double-quoted string whose text starts at the cursor, after its quote, up to its end or its first interpolation. */
 uint32_t puretakoi_read_double(const uint8_t *src, size_t src_len, uint32_t end, uint32_t *session, size_t session_len,
                                uint32_t *list, size_t list_len, uint8_t *pool, size_t pool_len, uint32_t *answer,
                                size_t answer_len);

@@ -124,7 +124,7 @@ impl Reader {
 }
 
 /// The kinds that both sides give everywhere: inline text, tags, parts and ends of texts, literals, comments. For names, variables and
-/// punctuation of the script itself the Rust gives tokens and the step none; behind a variable's `[` the scripts have no number.
+/// punctuation of the script itself the Rust gives tokens and the step none; after a variable's `[` the scripts have no number.
 const COMMON: [u32; 15] = [1, 2, 3, 4, 5, 6, 8, 11, 12, 13, 17, 18, 19, 20, 21];
 
 /// Whether both sides accept the script, walked and stepped, whole and in pieces, with the same tokens of the common kinds.

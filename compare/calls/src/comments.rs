@@ -1,5 +1,5 @@
 //! Comments beside the Rust's own `scripting`: each text begins one, or with `#[`. What the library gives is what the Rust reads, but for
-//! three differences: the Rust takes the LF behind a comment, closes `/*/`, and ends an open `/*` with the source.
+//! three differences: the Rust takes the LF after a comment, closes `/*/`, and ends an open `/*` with the source.
 
 use cases::call::{POSITION, RECORD};
 use cases::hex::shown;
@@ -33,7 +33,7 @@ struct Met {
     attribute: u64,
 }
 
-/// Every text of up to `most` bytes behind each start, and random ones.
+/// Every text of up to `most` bytes after each start, and random ones.
 pub fn beside_the_rust(held: &mut Held, most: usize, random: &mut Random) -> Result<(), String> {
     let mut met = Met::default();
     for start in STARTS {
@@ -98,7 +98,7 @@ fn passes_one_byte(told: &Told) -> bool {
         .map_or(false, |(session, records, values)| session[POSITION] == 1 && records.is_empty() && values.is_empty())
 }
 
-/// One token with these bytes, behind which the step ends.
+/// One token with these bytes, after which the step ends.
 fn is_comment(told: &Told, value: &[u8]) -> bool {
     let len = value.len() as u32;
     told.written().map_or(false, |(session, records, values)| {

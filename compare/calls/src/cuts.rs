@@ -16,14 +16,14 @@ const WAYS: usize = 3;
 const MOST_CUTS: usize = 5;
 const WAIT: u32 = 6;
 
-/// A script with more bytes is not cut behind each of them.
+/// A script with more bytes is not cut after each of them.
 const MOST_CUT_EVERYWHERE: usize = 1000;
 
 pub fn cut_scripts(held: &mut Held, count: usize, random: &mut Random) -> Result<(), String> {
     (0..count).try_for_each(|_| cut_script(held, &script(random), random.below(2), random))
 }
 
-/// Walks a script uncut, then cut behind each byte and at random places.
+/// Walks a script uncut, then cut after each byte and at random places.
 pub fn cut_script(held: &mut Held, script: &[u8], choices: usize, random: &mut Random) -> Result<(), String> {
     let walked = walk(held, script, choices)?;
     for way in 0..WAYS {

@@ -20,7 +20,7 @@ const POOL_FULL: u32 = 8;
 const HUGE: usize = u32::MAX as usize;
 const SCRIPTING: u32 = 1;
 
-/// What stands behind a byte that is walked over.
+/// What stands after a byte that is walked over.
 const BEHIND: [&[u8]; 12] = [b"", b";", b"a", b"1", b"'", b"\"", b"{", b"}", b">", b"<<E\n", b".5", b"\n"];
 
 /// How a script is walked: with any number of steps in a call or all, with tables of any size or room for all, and cut where.
@@ -35,7 +35,7 @@ pub fn walks_in_one_call(held: &mut Held, count: usize, random: &mut Random) -> 
     (0..count).try_for_each(|_| leap(held, &script(random), random.below(2), random))
 }
 
-/// Every byte at Scripting behind a step, with a byte behind it that may settle it, as a whole and as a part.
+/// Every byte at Scripting after a step, with a byte after it that may settle it, as a whole and as a part.
 fn every_byte(held: &mut Held) -> Result<(), String> {
     for byte in 0..=255 {
         for behind in BEHIND {
@@ -125,7 +125,7 @@ fn lend_tables(call: &mut Call, script: &[u8], is_any: bool, random: &mut Random
     }
 }
 
-/// A record whose value stands further behind.
+/// A record whose value stands further on.
 fn moved(mut record: [u32; RECORD], by: u32) -> [u32; RECORD] {
     record[5] += by;
     record

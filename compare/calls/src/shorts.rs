@@ -11,7 +11,7 @@ use crate::limits::{standing, top};
 /// What is tried everywhere.
 const BYTES: &[u8] = b"<?phP=a1E_$[]{}->'\"`\\\n\r \t.e+x0u/*#\x80";
 
-/// The text stands behind this, which has the label of text blocks.
+/// The text stands after this, which has the label of text blocks.
 const BEFORE: &[u8] = b"E\n";
 
 /// A function with a frame on top and choices, and the pieces of longer texts.

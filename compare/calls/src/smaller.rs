@@ -58,7 +58,7 @@ pub fn without_bytes(bytes: &[u8], start: usize, width: usize) -> Vec<u8> {
     [&bytes[..start], bytes.get(start + width..).unwrap_or(&[])].concat()
 }
 
-/// A place behind a number of dropped bytes.
+/// A place after a number of dropped bytes.
 pub fn moved(place: usize, start: usize, width: usize) -> usize {
     if place <= start {
         place

@@ -108,7 +108,7 @@ fn write_change(change: &Change, out: &mut Vec<u8>) {
     }
 }
 
-/// The three numbers, each with the mark behind it.
+/// The three numbers, each with the mark after it.
 fn write_span(span: &Span, mark: u8, out: &mut Vec<u8>) {
     write_number(span.line, mark, out);
     write_number(span.column, mark, out);

@@ -26,9 +26,9 @@ pub enum Told {
     Refused { number: u32, span: Span },
     /// A slice is too short: 10 comes back, and nothing at all is written.
     Short,
-    /// The records and value bytes stand behind the marks; session is the whole slice after the call.
+    /// The records and value bytes stand from the marks on; session is the whole slice after the call.
     Done { finished: bool, session: Vec<u32>, records: Vec<[u32; RECORD]>, values: Vec<u8> },
-    /// A walk that is refused behind steps that were done: the refusal, and what these steps wrote.
+    /// A walk that is refused after steps that were done: the refusal, and what these steps wrote.
     Stopped { number: u32, span: Span, session: Vec<u32>, records: Vec<[u32; RECORD]>, values: Vec<u8> },
 }
 

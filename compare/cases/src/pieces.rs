@@ -4,7 +4,7 @@ use crate::random::Random;
 
 pub type Pieces = &'static [&'static [u8]];
 
-/// What pairs of bytes are tried behind: nothing, a backslash, a variable.
+/// What pairs of bytes are tried after: nothing, a backslash, a variable.
 pub const PREFIXES: Pieces = &[b"", b"\\", b"$a"];
 
 /// In a block also a break, and a break and a blank.

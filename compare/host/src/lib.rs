@@ -7,7 +7,7 @@ pub use library::{file_to_list, fresh, list_to_file, make_on, past, peek_identif
 use cases::call::{answer_pattern, list_pattern, pool_pattern};
 use cases::{Call, Given};
 
-/// How many guard items stand before and behind each lent slice.
+/// How many guard items stand before and after each lent slice.
 const GUARDS: usize = 4;
 
 /// Makes the call and gives all that can be seen of it, or names the slice beside which something was written.

@@ -1,4 +1,4 @@
-//! The oracle: the given Rust lexer, unchanged, behind `run`, and the same as text behind `answer_line`.
+//! The oracle: the given Rust lexer, unchanged, after `run`, and the same as text after `answer_line`.
 
 use std::cell::Cell;
 use std::panic;

@@ -109,7 +109,7 @@ impl Tries {
         Tries { reading, case, rust: 0, parts: 0, met: HashMap::new() }
     }
 
-    /// Every text over the alphabets, alone and with the closer behind it.
+    /// Every text over the alphabets, alone and with the closer after it.
     fn short_texts(&mut self, size: &Size) -> Result<(), String> {
         for label in self.reading.labels {
             self.case.label = label.to_vec();
@@ -126,7 +126,7 @@ impl Tries {
         Ok(())
     }
 
-    /// Every byte and pair of bytes behind each prefix.
+    /// Every byte and pair of bytes after each prefix.
     fn pairs(&mut self) -> Result<(), String> {
         self.case.label = self.reading.labels[0].to_vec();
         let closer = (self.reading.closer)(&self.case.label);

@@ -20,7 +20,7 @@ const WAIT: u32 = 6;
 const POOL_FULL: u32 = 8;
 const STRING_PART: u32 = 5;
 
-/// What a buffer holds before a call, and how many of its bytes lie behind the value.
+/// What a buffer holds before a call, and how many of its bytes lie after the value.
 const PATTERN: u8 = 0xa5;
 const SPARE: usize = 3;
 
@@ -28,7 +28,7 @@ const SPARE: usize = 3;
 pub enum Ending {
     /// The text is the only token, also an empty one.
     Literal { kind: u32, change: Change },
-    /// The text is a StringPart, left out when empty, and the stop a token behind it.
+    /// The text is a StringPart, left out when empty, and the stop a token after it.
     Token { kind: u32, change: Change },
 }
 
@@ -59,7 +59,7 @@ pub fn interpolation(stop: u32) -> Option<Ending> {
     Some(Ending::Token { kind, change })
 }
 
-/// Stops of the blocks: the label behind its indentation.
+/// Stops of the blocks: the label after its indentation.
 pub fn label(stop: u32) -> Option<Ending> {
     let kind = match stop {
         LABEL => 11,
@@ -132,12 +132,12 @@ fn value_of(question: Question, len: usize) -> Result<Vec<u8>, String> {
     Ok(room)
 }
 
-/// Line, column and position behind the source's first bytes.
+/// Line, column and position after the source's first bytes.
 pub fn span_at(source: &[u8], position: usize) -> Span {
     span_from(Span { line: 1, column: 1, position: 0 }, &source[..position])
 }
 
-/// The span behind more bytes.
+/// The span after more bytes.
 fn span_from(from: Span, passed: &[u8]) -> Span {
     let breaks = passed.iter().filter(|byte| **byte == b'\n').count();
     let column = match passed.iter().rposition(|byte| *byte == b'\n') {

@@ -18,7 +18,7 @@ const LABEL_BYTES: &[u8] = b"Ea_\x80E9";
 /// Whatever a text ends with here may change what the next piece means.
 const OPEN_ENDS: &[u8] = b"${\\ux";
 
-/// Calls `each` with every byte and every pair of bytes behind each prefix, also with the closer behind them.
+/// Calls `each` with every byte and every pair of bytes after each prefix, also with the closer after them.
 pub fn every_pair<E>(prefixes: &[&[u8]], closer: &[u8], mut each: impl FnMut(&[u8]) -> Result<(), E>) -> Result<(), E> {
     let mut text = Vec::new();
     for prefix in prefixes {

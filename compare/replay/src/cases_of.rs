@@ -45,7 +45,7 @@ fn skipped(case: &Case) -> Answer {
     }
 }
 
-/// Where a session at the case's position stands behind a skip, or the refusal.
+/// Where a session at the case's position stands after a skip, or the refusal.
 fn session_past(case: &Case) -> Result<Span, String> {
     let cursor = cursor_at(case);
     let mut session = vec![0; SESSION];

@@ -41,7 +41,7 @@ const TO_LIST: [(usize, usize, u32); 11] = [
     (63, 65_538 * 8, 11),
 ];
 
-/// Says `ok` or what went wrong; a refused call must leave the room as it was, and no call writes behind the records.
+/// Says `ok` or what went wrong; a refused call must leave the room as it was, and no call writes after the records.
 pub fn all_given() -> bool {
     for (numbers, room, expected) in TO_FILE {
         let list: Vec<u32> = LIST.iter().copied().cycle().take(numbers).collect();
@@ -65,7 +65,7 @@ pub fn all_given() -> bool {
     true
 }
 
-/// Whether a room holds what was to be written, and behind it what stood there before.
+/// Whether a room holds what was to be written, and after it what stood there before.
 fn holds<T: PartialEq>(room: &[T], written: &[T], before: T) -> bool {
     room.starts_with(written) && room[written.len()..].iter().all(|item| *item == before)
 }

@@ -19,7 +19,7 @@ struct Walk {
 }
 
 impl Walk {
-    /// One step; false behind the last.
+    /// One step; false after the last.
     fn step(&mut self, script: &[u8]) -> bool {
         self.text.lend(Function::Step, script, &self.session);
         let from = self.session.span;

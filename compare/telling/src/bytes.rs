@@ -18,7 +18,7 @@ pub fn identifier_run(text: &[u8]) -> usize {
     text.iter().take_while(|byte| is_identifier(**byte)).count()
 }
 
-/// The span behind passed bytes.
+/// The span after passed bytes.
 pub fn past(from: Span, passed: &[u8]) -> Span {
     passed.iter().fold(from, |span, byte| match byte {
         b'\n' => Span { line: span.line + 1, column: 1, position: span.position + 1 },

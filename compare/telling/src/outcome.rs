@@ -92,7 +92,7 @@ impl Text {
         }
     }
 
-    /// A routine of the Rust behind passed bytes. Tokens of a quoted string bear the span of its quote.
+    /// A routine of the Rust after passed bytes. Tokens of a quoted string bear the span of its quote.
     fn routine(&mut self, routine: Routine, passed: usize) -> Outcome {
         self.case.routine = routine;
         self.case.position = passed;

@@ -53,7 +53,7 @@ pub fn sheet(body: &[u8], label: &[u8]) -> Sheet {
     Sheet::Closed { text, blank: indentation.first().copied(), width, end }
 }
 
-/// Whether a line closes the block, by what stands behind its blanks: the label, and then no identifier byte.
+/// Whether a line closes the block, by what stands after its blanks: the label, and then no identifier byte.
 fn closes(rest: &[u8], label: &[u8]) -> bool {
     let behind = rest.strip_prefix(label).map(<[u8]>::first);
     behind.map_or(false, |byte| !byte.map_or(false, |byte| is_identifier(*byte)))

@@ -16,7 +16,7 @@ pub enum Row {
     Comment { count: usize },
     /// Bytes are passed and the stack changes.
     Pass { count: usize, change: Change, label: Label },
-    /// A routine of the Rust runs behind the passed bytes.
+    /// A routine of the Rust runs after the passed bytes.
     Read { passed: usize, routine: Routine },
 }
 

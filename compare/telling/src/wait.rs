@@ -14,7 +14,7 @@ const LONGER: [&[u8]; 31] = [
     b"-1", b"e1", b".1", b"_1", b"*/",
 ];
 
-/// Pairs of these are tried behind what may be a number.
+/// Pairs of these are tried after what may be a number.
 const NUMBER_BYTES: &[u8] = b"1._e+x";
 
 impl Text {

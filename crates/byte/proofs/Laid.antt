@@ -19,7 +19,7 @@ length-laid l i vs h =
     let a : length (take i l) ≡ i = length-take-le i l (omega arith) in
     simp (length-append, length-drop) (omega arith)
 
--- one write and another right behind it are one write of both
+-- one write and another right after it are one write of both
 pub laid-append : (l : List ℕ) (i j : ℕ) (xs ys : List ℕ) → j ≡ i + length xs → i + length xs + length ys ≤ length l → laid (laid l i xs) j ys ≡ laid l i (xs ++ ys)
 unfolding laid
 laid-append l i j xs ys e h =
@@ -58,7 +58,7 @@ module _ (values : ℕ → List ℕ) (n : ℕ) (old : List ℕ) where
   writing-first e = record { inside = omega arith; size = refl; written = sym (rw e (laid-nil old 0)) }
 
   module _ (now : List ℕ) (i : ℕ) (w : Writing values n old now i) where
-    -- a turn writes vs behind what is there
+    -- a turn writes vs after what is there
     pub writing-on : (after : List ℕ) (at : ℕ) (vs : List ℕ) → i < n → at ≡ length (values i) → at + length vs ≤ length old → values (i + 1) ≡ values i ++ vs → after ≡ laid now at vs → Writing values n old after (i + 1)
     writing-on after at vs h place fits more e =
         let m : length (values (i + 1)) ≡ at + length vs = rw more (length-append (values i) vs ∙ rw place) in

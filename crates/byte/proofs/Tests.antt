@@ -1,11 +1,12 @@
--- Laws of tests and of statements: a conjunction, a byte that is none of four, a choice that a test decides, a refusal that was not given, and that
--- a statement `r ≡ ..` has one result. Assumes nothing.
-use Prim.Native.Nat.{ℕ, suc}
+-- Laws of tests and of statements: a conjunction, a byte that is none of four, a choice that a test decides, the
+-- arms of a match, a refusal that was not given, and that a statement `r ≡ ..` has one result. Assumes nothing.
+use Prim.Native.Nat.{ℕ, suc, _+_}
 use mathlib.Core.Path.{_≡_, refl, sym, _∙_}
-use mathlib.Core.Bool.{Bool, true, false, not, _&&_, false≢true}
+use mathlib.Core.Bool.{Bool, true, false, not, _&&_, _||_, false≢true}
 use native.Mathlib.Omega.{arith}
+use native.Mathlib.Numerals.{add-one}
 use lib.Dec.{eqb}
-use borrow.Author.Tests.{not-true}
+use borrow.Author.Tests.{eq-eqb, ne-eqb, not-true}
 use Rattle.byte.specs.Words.{if_then_else_}
 use Rattle.byte.specs.Bytes.{isNoneOf}
 
@@ -48,7 +49,38 @@ pub choice : {A : Type 0} (P : A → Type 0) (t : Bool) (a b : A) → (t ≡ tru
 choice P true a b first other = first refl
 choice P false a b first other = other refl
 
--- where the refusal is 0, its test passed, and so did those behind it
+-- a chain of choices, as the code goes through it: a byte is the choice's, no choice's or a later one's; a flag tells
+module _ {A : Type 0} (r u o : A) where
+  module _ (b v : ℕ) where
+    pub arm-here : b ≡ v → r ≡ u → r ≡ (if eqb b v then u else o)
+    arm-here h e = rw (eq-eqb b v h) e
+
+    pub arm-none : (b ≡ v → ⊥) → r ≡ o → r ≡ (if eqb b v then u else o)
+    arm-none h e = rw (ne-eqb b v h) e
+
+    pub arm-later : (w : ℕ) → b ≡ w → eqb w v ≡ false → r ≡ o → r ≡ (if eqb b v then u else o)
+    arm-later w h k e = rw (h, k) e
+
+    pub either-here : (t : Bool) → b ≡ v → r ≡ u → r ≡ (if eqb b v || t then u else o)
+    either-here t h e = rw (eq-eqb b v h) e
+
+    pub either-none : (t : Bool) → (b ≡ v → ⊥) → r ≡ (if t then u else o) → r ≡ (if eqb b v || t then u else o)
+    either-none t h e = rw (ne-eqb b v h) e
+
+  module _ (flag t : Bool) (f : flag ≡ t) where
+    pub flag-true : flag ≡ true → r ≡ u → r ≡ (if t then u else o)
+    flag-true h e = rw (← f, h) e
+
+    pub flag-false : flag ≡ false → r ≡ o → r ≡ (if t then u else o)
+    flag-false h e = rw (← f, h) e
+
+-- the code adds 1 where a definition takes the next
+pub suc-one : (n : ℕ) → suc n ≡ n + 1
+suc-one n = sym (add-one n)
+
+pub ruleset arms = (arm-here, arm-none, arm-later, either-here, either-none, flag-true, flag-false, suc-one)
+
+-- where the refusal is 0, its test passed, and so did those after it
 pub unrefused : (t : Bool) (later number : ℕ) → (if t then later else suc number) ≡ 0 → (t ≡ true) × (later ≡ 0)
 unrefused true later number e = (refl, e)
 unrefused false later number e = absurd (omega arith)

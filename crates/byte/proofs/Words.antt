@@ -89,7 +89,7 @@ unfolding every
 every-append test [] ys = refl
 every-append test (a ∷ rest) ys = rw (every-append test rest ys) (sym (and-assoc (test a) (every test rest) (every test ys)))
 
--- and one more does where it is stored behind them
+-- and one more does where it is stored after them
 pub every-set : {A : Type 0} (test : A → Bool) (xs : List A) (n : ℕ) (a : A) → every test (take n xs) ≡ true → test a ≡ true → every test (take (n + 1) (set xs n a)) ≡ true
 unfolding every
 every-set test xs n a e f = rw (add-one n) (go (ltb n (length xs)) refl)

@@ -66,7 +66,7 @@ pub fn is_start(b: u8) -> bool
     letter | (b == b'_') | (0x80 <= b)
 }
 
-// What may stand in an identifier behind its start.
+// What may stand in an identifier after its start.
 pub fn is_identifier(b: u8) -> bool
     ensures { λ r. ⌜ r ≡ isIdentifier b ⌝ }
 {

@@ -12,7 +12,7 @@ use borrow.Author.Tests.{eq-eqb, ne-eqb, not-true, not-false}
 use Rattle.byte.specs.Bytes.{isBlank}
 use Rattle.byte.specs.Words.{run}
 use Rattle.source.specs.Code.{RunEnd}
-use Rattle.byte.proofs.Tests.{choice}
+use Rattle.byte.proofs.Tests.{choice, arms}
 use Rattle.byte.proofs.Words.{drop-one}
 use Rattle.unit.specs.declared.Indentation.{Indentation}
 use Rattle.unit.specs.declared.Match.{Match}
@@ -59,61 +59,14 @@ module _ (ind arm : Indentation) (e : ind ≡ arm) where
   pub closer-arm : (size amount n : ℕ) (r : TextUnit) → r ≡ closer size arm amount n → r ≡ closer size ind amount n
   closer-arm size amount n r h = rw e h
 
-module _ (b : ℕ) (h : b ≡ 32) where
-  pub none-space : Indentation.Space ≡ indented Indentation.None b
-  unfolding indented
-  none-space = rw (eq-eqb b 32 h)
+-- and of one on how the label stands there
+pub judged-arm : (m arm : Match) (end : Bool) (n : ℕ) (u r : TextUnit) → m ≡ arm → r ≡ judged arm end n u
+    → r ≡ judged m end n u
+judged-arm m arm end n u r e h = rw e h
 
-  pub space-space : Indentation.Space ≡ indented Indentation.Space b
-  unfolding indented
-  space-space = rw (eq-eqb b 32 h)
+pub ruleset indentations = (indented-arm, arms)
 
-  pub tab-space : Indentation.Mixed ≡ indented Indentation.Tab b
-  unfolding indented
-  tab-space = rw (eq-eqb b 32 h)
-
-module _ (b : ℕ) (h : b ≡ 32 → ⊥) where
-  pub none-tab : Indentation.Tab ≡ indented Indentation.None b
-  unfolding indented
-  none-tab = rw (ne-eqb b 32 h)
-
-  pub space-tab : Indentation.Mixed ≡ indented Indentation.Space b
-  unfolding indented
-  space-tab = rw (ne-eqb b 32 h)
-
-  pub tab-tab : Indentation.Tab ≡ indented Indentation.Tab b
-  unfolding indented
-  tab-tab = rw (ne-eqb b 32 h)
-
-pub mixed-stays : (b : ℕ) → Indentation.Mixed ≡ indented Indentation.Mixed b
-unfolding indented
-mixed-stays b = refl
-
-pub ruleset indentations = (indented-arm, none-space, space-space, tab-space, none-tab, space-tab, tab-tab, mixed-stays)
-
--- a label there, another byte, or the end of the part
-module _ (m arm : Match) (e : m ≡ arm) (end : Bool) (n : ℕ) (u : TextUnit) where
-  pub judged-arm : (r : TextUnit) → r ≡ judged arm end n u → r ≡ judged m end n u
-  judged-arm r h = rw e h
-
-module _ (end : Bool) (n : ℕ) (u : TextUnit) where
-  pub judged-whole : u ≡ judged Match.Whole end n u
-  unfolding judged
-  judged-whole = refl
-
-  pub judged-other : TextUnit.Byte 10 (n + 1) ≡ judged Match.Other end n u
-  unfolding judged
-  judged-other = rw (add-one n)
-
-  pub judged-end : end ≡ true → TextUnit.Byte 10 (n + 1) ≡ judged Match.Undecided end n u
-  unfolding judged
-  judged-end t = rw (t, add-one n)
-
-  pub judged-more : end ≡ false → TextUnit.Undecided ≡ judged Match.Undecided end n u
-  unfolding judged
-  judged-more t = rw t
-
-pub ruleset judgements = (judged-arm, judged-whole, judged-other, judged-end, judged-more)
+pub ruleset judgements = (judged-arm, arms)
 
 pub label-judged : (m m′ : Match) (u u′ r : TextUnit) (end : Bool) (n : ℕ) → m ≡ m′ → u ≡ u′ → r ≡ judged m end n u → r ≡ judged m′ end n u′
 label-judged m m′ u u′ r end n e f g = g ∙ rw (e, f)
@@ -153,7 +106,7 @@ module _ (label src : List ℕ) (end : Bool) (n : ℕ) where
 
 pub ruleset indenting = (indenting-first, indenting-start, indenting-end, indenting-label, indenting-on)
 
--- where the label does not stand behind the blanks, the LF is of the text, whatever the blanks are
+-- where the label does not stand after the blanks, the LF is of the text, whatever the blanks are
 line-other : (label : List ℕ) (end : Bool) (n : ℕ) (ind : Indentation) (amount : ℕ) (xs : List ℕ) → matched label (drop (run isBlank xs) xs) ≡ Match.Other → line label end n ind amount xs ≡ TextUnit.Byte 10 (n + 1)
 unfolding line run judged
 line-other label end n ind amount [] e = rw (e, add-one n)

@@ -1,4 +1,4 @@
-// The closer of a text block in the ported modes: behind an LF, blanks, then the label's bytes, followed by anything at all.
+// The closer of a text block in the ported modes: after an LF, blanks, then the label's bytes, followed by anything at all.
 // Of the Rust: the arm of heredoc and nowdoc that meets an LF. A label has at most 64 bytes, a source at most 65,536.
 use unit::Indentation;
 use unit::Match;
@@ -68,7 +68,7 @@ fn ends_at(ind: Indentation, amount: usize, n: usize, size: usize) -> TextUnit
     }
 }
 
-// A label of `size` bytes at n behind its indentation, which must not be mixed.
+// A label of `size` bytes at n after its indentation, which must not be mixed.
 fn closer_of(size: usize, ind: Indentation, amount: usize, n: usize) -> TextUnit
     requires { ⌜ (size ≤ 64) × (n ≤ 65536) ⌝ }
     ensures { λ r. ⌜ r ≡ closer size ind amount n ⌝ }
@@ -107,7 +107,7 @@ fn judged_as(m: Match, end: bool, n: usize, u: TextUnit) -> TextUnit
     }
 }
 
-// Behind the LF at n and its blanks, at i.
+// After the LF at n and its blanks, at i.
 fn label_at(
     src: &[u8],
     label: &[u8],
@@ -125,7 +125,7 @@ fn label_at(
     judged_as(m, end, n, u)
 }
 
-// The LF at n of a text block, with the indentation of what stands behind it.
+// The LF at n of a text block, with the indentation of what stands after it.
 fn closing_line_at(src: &[u8], label: &[u8], n: usize, end: bool) -> TextUnit
     requires { ⌜ (n < length (now src)) × (length (now src) ≤ 65536) × (length (now label) ≤ 64) ⌝ }
     ensures { λ r. ⌜ r ≡ line (now (label .entry)) end n Indentation.None 0 (drop (n + 1) (now (src .entry))) ⌝ }
@@ -160,7 +160,7 @@ pub fn blank_end(src: &[u8], at: usize) -> usize
     i
 }
 
-// The LF at n of a text block. Only where the label may stand behind its blanks is their kind asked.
+// The LF at n of a text block. Only where the label may stand after its blanks is their kind asked.
 pub fn line_at(src: &[u8], label: &[u8], n: usize, end: bool) -> TextUnit
     requires { ⌜ (n < length (now src)) × (length (now src) ≤ 65536) × (length (now label) ≤ 64) ⌝ }
     ensures { λ r. ⌜ r ≡ line (now (label .entry)) end n Indentation.None 0 (drop (n + 1) (now (src .entry))) ⌝ }

@@ -1,5 +1,5 @@
 -- Comments as the code looks for their ends: run by run.
---   isInner   a byte at which no comment of this kind has its end, whatever comes behind it
+--   isInner   a byte at which no comment of this kind has its end, whatever comes after it
 use Prim.Native.Nat.{ℕ}
 use Prim.Native.Char.{code}
 use mathlib.Core.Bool.{Bool}

@@ -1,4 +1,4 @@
-// Comments at Scripting: `//` and `#` up to LF, `?>` or the end, `/*` through the first `*/` behind it.
+// Comments at Scripting: `//` and `#` up to LF, `?>` or the end, `/*` through the first `*/` after it.
 // Of the Rust: the rows of `scripting` that read comments. Here the LF is not taken, `/*/` is open, and an open `/*` is refused.
 use outcome::Change;
 use outcome::CommentEnd;

@@ -41,7 +41,7 @@ pub advanced-made : (src : List ℕ) (m : Mark) (w : Work) (count len : ℕ) (an
     } ≡ advanced src m w count len
 advanced-made src m w count len answer span a p = rw (a, p)
 
--- pieces up to a place lie up to any behind it
+-- pieces up to a place lie up to any after it
 allInside-wide : (after hi : ℕ) → after ≤ hi → (n : ℕ) (pieces : List Piece) → AllInside n after pieces
     → AllInside n hi pieces
 allInside-wide after hi h n [] all = tt

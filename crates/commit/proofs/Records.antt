@@ -64,7 +64,7 @@ module _ (src : List ℕ) (end : Bool) (m : Mark) (d : Draft) (l q : List ℕ) (
       → DraftPut src m (pieceOf src end d) l q l′ q′
   draft-put l′ q′ t v e h = record { list = h ∙ rw (e, f .ready .size); pool = v }
 
--- the marks behind a draft
+-- the marks after a draft
 abbrev Past : Mark → Draft → Mark
 Past m d = record { span = m .span; tokens = m .tokens + 1; bytes = m .bytes + d .len }
 

@@ -1,4 +1,4 @@
--- The span of a place behind the cursor. Assumes nothing.
+-- The span of a place from the cursor on. Assumes nothing.
 use Prim.Native.Nat.{ℕ, _-_}
 use mathlib.Core.Path.{_≡_, sym}
 use mathlib.Core.List.{List}

@@ -88,19 +88,19 @@ pub record Drawn (src : List ℕ) (p : Span) (d : Draft) : Type 0 where
   pub detail : d .detail ≤ length src
   pub len : d .len ≤ length src
 
--- a draft fits behind the marks
+-- a draft fits from the marks on
 pub record DraftFits (src : List ℕ) (end : Bool) (m : Mark) (d : Draft) (list pool : ℕ) : Type 0 where
   pub drawn : Drawn src (m .span) d
   pub ready : Ready src end d
   pub places : m .tokens * 8 + 8 ≤ list
   pub room : m .bytes + d .len ≤ pool
 
--- list and pool with its record and its value behind the marks
+-- list and pool with its record and its value from the marks on
 pub record DraftPut (src : List ℕ) (m : Mark) (piece : Piece) (l q l′ q′ : List ℕ) : Type 0 where
   pub list : l′ ≡ laid l (m .tokens * 8) (recordOf (tokenOf src (m .span) (m .bytes) piece))
   pub pool : q′ ≡ laid q (m .bytes) (piece .value)
 
--- drafts fit behind the marks
+-- drafts fit from the marks on
 pub record DraftsFit (src : List ℕ) (end : Bool) (m : Mark) (drafts : Drafts) (list pool : ℕ) : Type 0 where
   pub marked : Marked src m list pool
   pub ready : AllReady drafts src end
@@ -109,7 +109,7 @@ pub record DraftsFit (src : List ℕ) (end : Bool) (m : Mark) (drafts : Drafts) 
   pub places : m .tokens + countOf drafts ≤ list / 8
   pub room : m .bytes + totalOf drafts ≤ pool
 
--- list and pool with their records and values behind the marks
+-- list and pool with their records and values from the marks on
 pub record DraftsPut (src : List ℕ) (m : Mark) (pieces : List Piece) (l q l′ q′ : List ℕ) : Type 0 where
   pub list : l′ ≡ laid l (m .tokens * 8) (records src (m .span) (m .bytes) pieces)
   pub pool : q′ ≡ laid q (m .bytes) (values pieces)
@@ -176,7 +176,7 @@ pub record Advances (src : List ℕ) (m : Mark) (w : Work) (count len : ℕ) : T
   pub places : m .tokens + count ≤ 65537
   pub room : m .bytes + len ≤ 65536
 
--- what `commit` asks: the plan can be written, and its outcome lies behind the cursor
+-- what `commit` asks: the plan can be written, and its outcome lies from the cursor on
 pub record Commits (src : List ℕ) (end : Bool) (m : Mark) (plan : Plan) (list pool : ℕ) : Type 0 where
   pub marked : Marked src m list pool
   pub ready : PlanReady plan src end

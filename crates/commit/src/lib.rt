@@ -38,7 +38,7 @@ pub struct Next {
     pub change: Change,
 }
 
-// The span of a place behind the cursor.
+// The span of a place from the cursor on.
 pub fn span_at(src: &[u8], p: Span, place: usize) -> Span
     requires { ⌜ Ahead (now src) p place ⌝ }
     ensures { λ r. ⌜ r ≡ spanAt (now (src .entry)) p place ⌝ }
@@ -97,7 +97,7 @@ fn token_of(src: &[u8], p: Span, start: u32, d: Draft) -> Token
     }
 }
 
-// A draft's value and record, behind the marks.
+// A draft's value and record, from the marks on.
 fn put_draft(src: &[u8], end: bool, m: Mark, d: Draft, list: &mut [u32], pool: &mut [u8])
     requires { ⌜ DraftFits (now src) end m d (length (now list)) (length (now pool)) ⌝ }
     ensures { λ r. ⌜ DraftPut (now (src .entry)) m (pieceOf (now (src .entry)) end d) (now (list .entry)) (now (pool .entry)) (now (list .exit)) (now (pool .exit)) ⌝ }
@@ -129,7 +129,7 @@ fn total(drafts: Drafts) -> usize
     }
 }
 
-// The values and records of two drafts, behind the marks.
+// The values and records of two drafts, from the marks on.
 fn put_two(src: &[u8], end: bool, m: Mark, d: Draft, e: Draft, list: &mut [u32], pool: &mut [u8])
     requires { ⌜ DraftsFit (now src) end m (Drafts.Two d e) (length (now list)) (length (now pool)) ⌝ }
     ensures { λ r. ⌜ DraftsPut (now (src .entry)) m (piecesOf (now (src .entry)) end (Drafts.Two d e)) (now (list .entry)) (now (pool .entry)) (now (list .exit)) (now (pool .exit)) ⌝ }
@@ -144,7 +144,7 @@ fn put_two(src: &[u8], end: bool, m: Mark, d: Draft, e: Draft, list: &mut [u32],
     put_draft(src, end, behind, e, list, pool);
 }
 
-// The values and records of drafts, behind the marks.
+// The values and records of drafts, from the marks on.
 fn put_drafts(src: &[u8], end: bool, m: Mark, drafts: Drafts, list: &mut [u32], pool: &mut [u8])
     requires { ⌜ DraftsFit (now src) end m drafts (length (now list)) (length (now pool)) ⌝ }
     ensures { λ r. ⌜ DraftsPut (now (src .entry)) m (piecesOf (now (src .entry)) end drafts) (now (list .entry)) (now (pool .entry)) (now (list .exit)) (now (pool .exit)) ⌝ }

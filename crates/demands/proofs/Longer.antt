@@ -1,4 +1,4 @@
--- A part and what comes behind it: an outcome within the part makes the same of a session, for the part and for the longer source.
+-- A part and what comes after it: an outcome within the part makes the same of a session, for the part and for the longer source.
 -- Assumes nothing.
 --   settled-append   what an outcome comes to
 --   gate-open        the gate, for a sound session and tables that are not too large

@@ -1,4 +1,4 @@
--- Positions of records never fall: a step writes its records behind the cursor, and the cursor never goes back. Assumes nothing.
+-- Positions of records never fall: a step writes its records from the cursor on, and the cursor never goes back. Assumes nothing.
 --   step-rising     where the records before have positions up to the cursor, so have the records after, up to the cursor after
 --   walk-rising     so from an empty list on, after any number of steps
 use Prim.Native.Nat.{ℕ, zero, suc, _+_, _-_, _*_, _≤_}

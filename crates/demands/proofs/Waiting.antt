@@ -19,10 +19,9 @@ use Rattle.token.specs.Records.{roomRefusal}
 use Rattle.outcome.specs.Outcomes.{Outcome, values}
 use Rattle.outcome.specs.Insides.{Inside}
 use Rattle.outcome.specs.Steps.{topFrame, stepOutcome, numberOutcome, singleOutcome, doubleOutcome}
-use Rattle.outcome.proofs.StepWays.{step-inside, number-readable, single-readable, double-readable}
+use Rattle.outcome.proofs.StepWays.{step-inside}
 use Rattle.outcome.proofs.Demand.{told-waits, refused-waits}
-use Rattle.outcome.proofs.StepDemand.{step-waits, step-never-waits, number-outcome-waits, number-outcome-never-waits}
-use Rattle.outcome.proofs.StepDemand.{single-outcome-waits, single-outcome-never-waits, double-outcome-waits, double-outcome-never-waits}
+use Rattle.outcome.proofs.StepDemand.{step-waits, step-never-waits, Reads, number-reads, single-reads, double-reads}
 use Rattle.commit.specs.Records.{answerOf}
 use Rattle.lexer.specs.Turns.{After, room, settled}
 use Rattle.lexer.specs.Calls.{stepped, reading, readNumber, readSingle, readDouble}
@@ -128,32 +127,22 @@ module _ (part : List ℕ) (s : Session) (l q : List ℕ) (bytes : every isByte 
     unfolding reading
     reading-gives o rest k = rw (open-gate rest k, top)
 
-    pub number-waits-exactly : WaitsExactly (λ xs end. readNumber xs end s l q) (λ xs. numberOutcome xs true s) part
-    number-waits-exactly =
-        calls-exactly (λ xs end. readNumber xs end s l q) (λ xs end. numberOutcome xs end s) part s l q
+    reading-waits-exactly : (outcome : List ℕ → Bool → Session → Outcome) → Reads outcome
+        → WaitsExactly (λ xs end. reading (outcome xs end s) xs s l q) (λ xs. outcome xs true s) part
+    reading-waits-exactly outcome r =
+        calls-exactly (λ xs end. reading (outcome xs end s) xs s l q) (λ xs end. outcome xs end s) part s l q
         (position-inside part s l q h)
         short
-        (λ src end k. number-readable src end s .ways k .lies)
-        (λ rest end k. reading-gives (numberOutcome (part ++ rest) end s) rest k)
-        (number-outcome-waits s part (position-inside part s l q h))
-        (number-outcome-never-waits s part)
+        (λ src end k. r .readable src end s .ways k .lies)
+        (λ rest end k. reading-gives (outcome (part ++ rest) end s) rest k)
+        (r .waits s part (position-inside part s l q h))
+        (r .never part s)
+
+    pub number-waits-exactly : WaitsExactly (λ xs end. readNumber xs end s l q) (λ xs. numberOutcome xs true s) part
+    number-waits-exactly = reading-waits-exactly numberOutcome number-reads
 
     pub single-waits-exactly : WaitsExactly (λ xs end. readSingle xs end s l q) (λ xs. singleOutcome xs true s) part
-    single-waits-exactly =
-        calls-exactly (λ xs end. readSingle xs end s l q) (λ xs end. singleOutcome xs end s) part s l q
-        (position-inside part s l q h)
-        short
-        (λ src end k. single-readable src end s .ways k .lies)
-        (λ rest end k. reading-gives (singleOutcome (part ++ rest) end s) rest k)
-        (single-outcome-waits s part (position-inside part s l q h))
-        (single-outcome-never-waits s part)
+    single-waits-exactly = reading-waits-exactly singleOutcome single-reads
 
     pub double-waits-exactly : WaitsExactly (λ xs end. readDouble xs end s l q) (λ xs. doubleOutcome xs true s) part
-    double-waits-exactly =
-        calls-exactly (λ xs end. readDouble xs end s l q) (λ xs end. doubleOutcome xs end s) part s l q
-        (position-inside part s l q h)
-        short
-        (λ src end k. double-readable src end s .ways k .lies)
-        (λ rest end k. reading-gives (doubleOutcome (part ++ rest) end s) rest k)
-        (double-outcome-waits s part (position-inside part s l q h))
-        (double-outcome-never-waits s part)
+    double-waits-exactly = reading-waits-exactly doubleOutcome double-reads

@@ -1,4 +1,4 @@
--- The positions of records in a list: each step writes its own behind those before, and they never fall.
+-- The positions of records in a list: each step writes its own after those before, and they never fall.
 --   positions   the positions of the first so many records
 --   Rising      numbers that never fall, from one number up to another
 use Prim.Native.Nat.{ℕ, zero, suc, _≤_}

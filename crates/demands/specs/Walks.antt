@@ -3,8 +3,8 @@
 --   walked   at most so many steps
 --   isWait   refusal 6
 --   joined   the script that parts make
---   fed      a script in parts: each part is stepped, with more announced, up to a wait; the next part comes behind it, the session,
---            list and pool as the wait found them; behind the last part the end is announced
+--   fed      a script in parts: each part is stepped, with more announced, up to a wait; the next part comes after it, the session,
+--            list and pool as the wait found them; after the last part the end is announced
 use Prim.Native.Nat.{ℕ, zero, suc}
 use mathlib.Core.Bool.{Bool, true, false}
 use mathlib.Core.List.{List, [], _∷_, _++_}

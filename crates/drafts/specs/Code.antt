@@ -2,7 +2,7 @@
 --   madeDraft     a token whose value is made: its length is known, its bytes are still to be written
 --   textDraft     a text's value: where nothing was escaped it is the source's own bytes
 --   sheetDraft    a sheet's value: its rows up to the closing line, by the closing line's indentation
---   textPlan      a mode's text: its part, if it is not empty, and the token behind it
+--   textPlan      a mode's text: its part, if it is not empty, and the token after it
 --   literalPlan, numberPlan   a quoted string; a number
 --   textWork, literalWork, numberWork   a scan: found, refused, or wait
 use Prim.Native.Nat.{ℕ, _+_, _-_}

@@ -1,5 +1,5 @@
 // The text modes, quoted literals and numbers: a scan measures the text, and its plan says which tokens are written of it.
-// Of the Rust: what double_quote, shell_exec, docstring and nowdoc push behind their loops, and `tokenize_number`.
+// Of the Rust: what double_quote, shell_exec, docstring and nowdoc push after their loops, and `tokenize_number`.
 use number::Literal;
 use outcome::Change;
 use plan::Draft;
@@ -86,7 +86,7 @@ fn stop_detail(stop: Stop) -> usize
     }
 }
 
-// The frame that comes on top behind a variable.
+// The frame that comes on top after a variable.
 fn variable_change(f: Follow) -> Change
     ensures { λ r. ⌜ r ≡ variableChange f ⌝ }
 {

@@ -59,7 +59,7 @@ part n k = place n (field k ∷ [])
 abbrev host : Place
 host = place 3 (deref T′.mir ∷ [])
 
--- a slice is lent on: its pointer, by n, and its length make the slice behind n
+-- a slice is lent on: its pointer, by n, and its length make the slice after n
 abbrev lent : ℕ → ℕ → Ty → Body → Body
 lent from n τ rest =
     seq (assign (whole n) (addrOf (place from (field 0 ∷ deref τ ∷ []))))
@@ -88,7 +88,7 @@ counted-locals =
     sliceTy (listAt (named 2)) ∷ sliceTy (poolAt (named 3)) ∷
     U′.mir ∷ T′.mir ∷ listAt erased ∷ sliceTy (listAt erased) ∷ poolAt erased ∷ sliceTy (poolAt erased) ∷ []
 
--- the host's session behind the count
+-- the host's session after the count
 abbrev counted-host : Place
 counted-host = place 4 (deref T′.mir ∷ [])
 

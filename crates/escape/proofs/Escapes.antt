@@ -9,6 +9,7 @@ use lib.Dec.{eqb, ltb}
 use lib.ListN.{length, getD, drop, drop-of-length-le}
 use borrow.Author.Tests.{eq-eqb, ne-eqb, lt-ltb, le-ltb, le-leb, ltb-false}
 use Rattle.byte.specs.Words.{if_then_else_}
+use Rattle.byte.proofs.Tests.{arms}
 use Rattle.byte.proofs.Words.{drop-one}
 use Rattle.unit.specs.declared.TextUnit.{TextUnit}
 use Rattle.unit.specs.Digits.{digitValue, isScalar}
@@ -47,11 +48,11 @@ module _ (src : List ℕ) (n : ℕ) (end : Bool) (base value : ℕ) where
 
 pub ruleset digit-runs = (digits-past, digits-stop, digits-two, digits-one)
 
--- the place behind the letter and one byte more
+-- the place after the letter and one byte more
 two : (at : ℕ) → at + 1 + 1 ≡ suc (suc at)
 two at = omega arith
 
--- behind `\x`, whose letter stands at `at`
+-- after `\x`, whose letter stands at `at`
 module _ (src : List ℕ) (at : ℕ) (end : Bool) (r : TextUnit) where
   pub hex-past : (u : TextUnit) → length src ≤ at + 1 → u ≡ backslash at → r ≡ last end u → r ≡ hex end at (drop (at + 1) src)
   unfolding hex
@@ -67,17 +68,6 @@ module _ (src : List ℕ) (at : ℕ) (end : Bool) (r : TextUnit) where
     hex-none h f = f ∙ rw (drop-one src (at + 1) inside, ← e, le-ltb digit 16 h)
 
 pub ruleset hexes = (hex-past, hex-digit, hex-none)
-
--- a value in closed braces
-pub closed-point : (code after : ℕ) (flag : Bool) → flag ≡ isScalar code → flag ≡ true
-    → TextUnit.Point code after ≡ (if isScalar code then TextUnit.Point code after else TextUnit.Fault 2 after)
-closed-point code after flag e t = rw (← e, t)
-
-pub closed-fault : (code after : ℕ) (flag : Bool) → flag ≡ isScalar code → flag ≡ false
-    → TextUnit.Fault 2 after ≡ (if isScalar code then TextUnit.Point code after else TextUnit.Fault 2 after)
-closed-fault code after flag e t = rw (← e, t)
-
-pub ruleset closings = (closed-point, closed-fault)
 
 -- all values past the last code point are alike
 isScalar-large : (value : ℕ) → 1114112 ≤ value → isScalar value ≡ false
@@ -133,25 +123,13 @@ module _ (src : List ℕ) (at : ℕ) (end : Bool) where
 
 pub ruleset pointing = (pointing-first, pointing-past, pointing-closed, pointing-fault, pointing-on)
 
--- behind `\u`, whose letter stands at `at`
-module _ (src : List ℕ) (at : ℕ) (end : Bool) (r : TextUnit) where
-  pub braced-past : (u : TextUnit) → length src ≤ at + 1 → u ≡ backslash at → r ≡ last end u → r ≡ braced end at (drop (at + 1) src)
-  unfolding braced
-  braced-past u past e f = rw (drop-of-length-le src past, ← e) f
+-- after `\u`: no byte is left, and the backslash stands for itself; or one is
+pub braced-last : (end : Bool) (at : ℕ) (u r : TextUnit) → u ≡ backslash at → r ≡ last end u → r ≡ last end (backslash at)
+braced-last end at u r e f = rw (← e) f
 
-  module _ (inside : at + 1 < length src) where
-    pub braced-open : getD src (at + 1) 0 ≡ 123 → r ≡ codePoint end false 0 (at + 1 + 1) (drop (at + 1 + 1) src)
-        → r ≡ braced end at (drop (at + 1) src)
-    unfolding braced
-    braced-open h f = f ∙ rw (drop-one src (at + 1) inside, eq-eqb (getD src (at + 1) 0) 123 h, two at)
+pub ruleset bracings = (arms, braced-last, drop-of-length-le, drop-one)
 
-    pub braced-none : (getD src (at + 1) 0 ≡ 123 → ⊥) → r ≡ backslash at → r ≡ braced end at (drop (at + 1) src)
-    unfolding braced
-    braced-none h f = f ∙ rw (drop-one src (at + 1) inside, ne-eqb (getD src (at + 1) 0) 123 h)
-
-pub ruleset bracings = (braced-past, braced-open, braced-none)
-
--- behind a backslash
+-- after a backslash
 module _ (src : List ℕ) (at : ℕ) (end : Bool) where
   pub escape-past : (u r : TextUnit) → length src ≤ at → u ≡ backslash at → r ≡ last end u → r ≡ escape end at (drop at src)
   unfolding escape

@@ -1,4 +1,4 @@
-// Escapes: what a backslash and the bytes behind it stand for, and code points in UTF-8.
+// Escapes: what a backslash and the bytes after it stand for, and code points in UTF-8.
 // Of the Rust: the escapes of its string routines, read by one reader. In the order of unit's definitions, Digits and then Escapes.
 use unit::TextUnit;
 ghost use mathlib.Core.Path.{_≡_};
@@ -151,7 +151,7 @@ fn fitted(value: u32, n: usize) -> TextUnit
     }
 }
 
-// Behind two octal digits with this value.
+// After two octal digits with this value.
 fn octal_third(src: &[u8], n: usize, end: bool, value: u32) -> TextUnit
     requires { ⌜ value < 64 ⌝ }
     ensures { λ r. ⌜ r ≡ digits end 8 1 value n (drop n (now (src .entry))) ⌝ }
@@ -167,7 +167,7 @@ fn octal_third(src: &[u8], n: usize, end: bool, value: u32) -> TextUnit
     fitted(value, n)
 }
 
-// Behind one octal digit with this value.
+// After one octal digit with this value.
 fn octal_second(src: &[u8], n: usize, end: bool, value: u32) -> TextUnit
     requires { ⌜ value < 8 ⌝ }
     ensures { λ r. ⌜ r ≡ digits end 8 2 value n (drop n (now (src .entry))) ⌝ }
@@ -183,7 +183,7 @@ fn octal_second(src: &[u8], n: usize, end: bool, value: u32) -> TextUnit
     fitted(value, n)
 }
 
-// Behind `\x` and one digit with this value.
+// After `\x` and one digit with this value.
 fn hex_second(src: &[u8], n: usize, end: bool, value: u32) -> TextUnit
     requires { ⌜ value < 16 ⌝ }
     ensures { λ r. ⌜ r ≡ digits end 16 1 value n (drop n (now (src .entry))) ⌝ }
@@ -240,7 +240,7 @@ fn closed(code: u32, after: usize) -> TextUnit
     }
 }
 
-// Behind `\u{`.
+// After `\u{`.
 fn code_point_at(src: &[u8], at: usize, end: bool) -> TextUnit
     requires { ⌜ at ≤ length (now src) ⌝ }
     ensures { λ r. ⌜ r ≡ codePoint end false 0 at (drop at (now (src .entry))) ⌝ }
@@ -287,7 +287,7 @@ fn braced_at(src: &[u8], at: usize, end: bool) -> TextUnit
     backslash(at)
 }
 
-// What stands behind the backslash before `at`, in double quotes and heredocs.
+// What stands after the backslash before `at`, in double quotes and heredocs.
 pub fn escape_at(src: &[u8], at: usize, end: bool) -> TextUnit
     requires { ⌜ (at ≤ length (now src)) × (length (now src) ≤ 65536) ⌝ }
     ensures { λ r. ⌜ r ≡ escape end at (drop at (now (src .entry))) ⌝ }

@@ -1,4 +1,4 @@
--- The tag behind a `<` and the first tag of a text, on each way through the code. Assumes nothing.
+-- The tag after a `<` and the first tag of a text, on each way through the code. Assumes nothing.
 use Prim.Native.Nat.{ℕ, suc, _+_, _<_, _≤_}
 use mathlib.Core.Path.{_≡_, refl, sym, _∙_}
 use mathlib.Core.Bool.{Bool, true, false}
@@ -41,7 +41,7 @@ lastTag-more end e = rw e
 
 pub ruleset lastTags = (lastTag-end, lastTag-more)
 
--- the letter a, and the letters behind it
+-- the letter a, and the letters after it
 module _ (a : ℕ) (letters src : List ℕ) (n : ℕ) (end : Bool) where
   pub fullTag-past : (r : Tag) → length src ≤ n → r ≡ lastTag end → r ≡ fullTag end (a ∷ letters) (drop n src)
   unfolding fullTag

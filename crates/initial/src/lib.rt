@@ -31,7 +31,7 @@ fn lower(b: u8) -> u8
     b + 32
 }
 
-// Nothing is left behind `<?` or letters of the full tag.
+// Nothing is left after `<?` or letters of the full tag.
 fn last_tag(end: bool) -> Tag
     ensures { λ r. ⌜ r ≡ if end then Tag.Open OpenTagKind.Short else Tag.Undecided ⌝ }
 {
@@ -41,7 +41,7 @@ fn last_tag(end: bool) -> Tag
     Tag::Undecided
 }
 
-// Behind `<?ph`.
+// After `<?ph`.
 fn third_letter(src: &[u8], at: usize, end: bool) -> Tag
     ensures { λ r. ⌜ r ≡ fullTag end (bytes "p") (drop at (now (src .entry))) ⌝ }
 {
@@ -54,7 +54,7 @@ fn third_letter(src: &[u8], at: usize, end: bool) -> Tag
     Tag::Open(OpenTagKind::Short)
 }
 
-// Behind `<?p`.
+// After `<?p`.
 fn second_letter(src: &[u8], at: usize, end: bool) -> Tag
     ensures { λ r. ⌜ r ≡ fullTag end (bytes "hp") (drop at (now (src .entry))) ⌝ }
 {
@@ -67,7 +67,7 @@ fn second_letter(src: &[u8], at: usize, end: bool) -> Tag
     Tag::Open(OpenTagKind::Short)
 }
 
-// Behind `<?`, where no `=` stands.
+// After `<?`, where no `=` stands.
 fn full_tag(src: &[u8], at: usize, end: bool) -> Tag
     ensures { λ r. ⌜ r ≡ fullTag end (bytes "php") (drop at (now (src .entry))) ⌝ }
 {
@@ -80,7 +80,7 @@ fn full_tag(src: &[u8], at: usize, end: bool) -> Tag
     Tag::Open(OpenTagKind::Short)
 }
 
-// Behind `<?`.
+// After `<?`.
 fn open_tag(src: &[u8], at: usize, end: bool) -> Tag
     ensures { λ r. ⌜ r ≡ openTag end (drop at (now (src .entry))) ⌝ }
 {
@@ -93,7 +93,7 @@ fn open_tag(src: &[u8], at: usize, end: bool) -> Tag
     full_tag(src, at, end)
 }
 
-// Behind a `<`.
+// After a `<`.
 fn tag_at(src: &[u8], at: usize, end: bool) -> Tag
     ensures { λ r. ⌜ r ≡ tag end (drop at (now (src .entry))) ⌝ }
 {

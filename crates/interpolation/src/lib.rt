@@ -12,7 +12,7 @@ ghost use Rattle.unit.specs.declared.TextUnit.{TextUnit};
 ghost use Rattle.unit.specs.Escapes.{last};
 ghost use Rattle.unit.specs.Interpolations.{lastLook, property, arrow, questionArrow, follow, variable, name, dollar, brace, found, findDollar, findBrace};
 
-// Nothing is left behind a name.
+// Nothing is left after a name.
 fn last_look(end: bool) -> Look
     ensures { λ r. ⌜ r ≡ lastLook end ⌝ }
 {
@@ -22,7 +22,7 @@ fn last_look(end: bool) -> Look
     Look::Undecided
 }
 
-// Behind an arrow: a property begins with a start byte.
+// After an arrow: a property begins with a start byte.
 fn property_at(src: &[u8], n: usize, end: bool) -> Look
     ensures { λ r. ⌜ r ≡ property end (drop n (now (src .entry))) ⌝ }
 {
@@ -35,7 +35,7 @@ fn property_at(src: &[u8], n: usize, end: bool) -> Look
     Look::Settled(Follow::Other)
 }
 
-// Behind `-`.
+// After `-`.
 fn arrow_at(src: &[u8], n: usize, end: bool) -> Look
     ensures { λ r. ⌜ r ≡ arrow end (drop n (now (src .entry))) ⌝ }
 {
@@ -48,7 +48,7 @@ fn arrow_at(src: &[u8], n: usize, end: bool) -> Look
     Look::Settled(Follow::Other)
 }
 
-// Behind `?`.
+// After `?`.
 fn question_arrow_at(src: &[u8], n: usize, end: bool) -> Look
     ensures { λ r. ⌜ r ≡ questionArrow end (drop n (now (src .entry))) ⌝ }
 {

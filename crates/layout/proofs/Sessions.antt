@@ -6,7 +6,7 @@ use mathlib.Core.List.{List, [], _∷_, _++_}
 use native.Mathlib.Omega.{arith}
 use native.Mathlib.Numerals.{add-one}
 use native.Mathlib.Nat.{add-zero, add-comm}
-use lib.ListN.{length, getD, take, drop, set, length-append, length-set}
+use lib.ListN.{length, getD, take, drop, set, length-set}
 use lib.Seq.{sets-eq, getD-drop, drop-drop, take-all, take-suc-set}
 use borrow.Author.Tests.{le-leb, lt-leb, eq-eqb, ne-eqb, not-true, not-false}
 use Rattle.byte.specs.Laid.{laid}
@@ -143,7 +143,7 @@ frameNumber-arm f arm r e h = rw e h
 pub labelOf-arm : (f arm : Frame) (r : Label) → f ≡ arm → r ≡ labelOf arm → r ≡ labelOf f
 labelOf-arm f arm r e h = rw e h
 
--- stores one behind the other are one write
+-- stores one after the other are one write
 pub three-laid : (l : List ℕ) (at v0 v1 v2 : ℕ) → at + 3 ≤ length l → set (set (set l at v0) (at + 1) v1) (at + 2) v2 ≡ laid l at (v0 ∷ v1 ∷ v2 ∷ [])
 unfolding laid
 three-laid l at v0 v1 v2 h =
@@ -203,7 +203,7 @@ head-laid l s choices h e = rw e (sets-eq (headNumbers s) l 0 h)
 pub readingFlag-arm : (reading arm : Reading) (r : ℕ) → reading ≡ arm → r ≡ readingFlag arm → r ≡ readingFlag reading
 readingFlag-arm reading arm r e h = rw e h
 
--- the head, and the slots in the rest behind it
+-- the head, and the slots in the rest after it
 pub session-laid : (l m rest : List ℕ) (s : Session) → 199 ≤ length l → m ≡ laid l 0 (headNumbers s)
     → rest ≡ laid (take (length m - 7) (drop 7 m)) 0 (framesNumbers 64 (s .frames))
     → take 7 m ++ (rest ++ drop (length m - 7) (drop 7 m)) ≡ laid l 0 (numbersOf s)

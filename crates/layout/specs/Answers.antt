@@ -2,7 +2,7 @@
 --   answerNumbers, refusalIn   an answer in five numbers, and its refusal alone, or 0
 --   sessionAfter               the session's slice: changed where the call is not refused, and then alone
 --   Turned                     a turn written back: the refusal or 0, and what the two slices hold
---   Stored                     the same where the session's slice is changed by a refusal too: a walk, behind a step that was done
+--   Stored                     the same where the session's slice is changed by a refusal too: a walk, after a step that was done
 use Prim.Native.Nat.{ℕ}
 use mathlib.Core.List.{List, [], _∷_}
 use mathlib.Core.Path.{_≡_}

@@ -277,7 +277,7 @@ pub fn put_turn(t: Turn, session: &mut [u32], answer: &mut [u32]) -> u32
     refusal
 }
 
-// The answer and the session as numbers, behind a step that was done: the session also where the last step is refused. Gives the
+// The answer and the session as numbers, after a step that was done: the session also where the last step is refused. Gives the
 // refusal or 0.
 pub fn put_walk(t: Turn, session: &mut [u32], answer: &mut [u32]) -> u32
     requires { ⌜ (199 ≤ length (now session)) × (5 ≤ length (now answer)) ⌝ }

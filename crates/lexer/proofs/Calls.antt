@@ -1,16 +1,16 @@
 -- Step and the readings on each way through them. Assumes nothing.
 --   Lent, lent-opened   what an open gate tells
---   settles             from a plan to a turn, behind the gate
+--   settles             from a plan to a turn, after the gate
 --   settled-moved, stepped-moved   a step that only passes bytes
---   steps; numbers, singles, doubles   the step; the three readings, told over the outcome that the reading has
+--   steps; readings     the step; the three readings, told over the outcome that the reading has
 use Prim.Native.Nat.{ℕ, _*_, _/_, _≤_}
 use mathlib.Core.Path.{_≡_, refl, sym, ap, _∙_}
 use mathlib.Core.Bool.{Bool, true, false, not, _&&_}
-use mathlib.Core.List.{List, []}
+use mathlib.Core.List.{List}
 use native.Mathlib.Omega.{arith}
 use native.Mathlib.Nat.{add-zero}
 use lib.Dec.{leb}
-use lib.ListN.{length, drop}
+use lib.ListN.{length}
 use borrow.Author.Tests.{leb-true, eq-eqb, ne-eqb, not-true, not-false}
 use Rattle.source.specs.Cursor.{origin}
 use Rattle.source.specs.Code.{Reaches}
@@ -25,15 +25,10 @@ use Rattle.state.specs.Gates.{sourceFits, tablesFit, lentRefusal}
 use Rattle.state.specs.Calls.{spanOf, refused, done, moved}
 use Rattle.state.proofs.Bounds.{Within, isWithin-facts}
 use Rattle.state.proofs.Longer.{top-good}
-use Rattle.token.specs.Kinds.{literalSingleQuotedString, literalDoubleQuotedString}
 use Rattle.token.proofs.Records.{room-enough}
-use Rattle.unit.specs.declared.Mode.{Mode}
-use Rattle.unit.specs.Readings.{textAt}
-use Rattle.number.specs.Numbers.{numberAt}
 use Rattle.outcome.specs.declared.Change.{Change}
 use Rattle.outcome.specs.Outcomes.{Outcome, values, goes, limited}
-use Rattle.outcome.specs.Texts.{literal, numbered}
-use Rattle.outcome.specs.Steps.{topFrame, framed, rest, stepOutcome, numberOutcome, singleOutcome, doubleOutcome}
+use Rattle.outcome.specs.Steps.{topFrame, framed, rest, stepOutcome}
 use Rattle.outcome.proofs.StepWays.{framed-ways, Readable, number-readable, single-readable, double-readable}
 use Rattle.plan.specs.declared.Plan.{Plan}
 use Rattle.plan.specs.Code.{outcomeOf, Plans, Here}
@@ -164,7 +159,7 @@ module _ (src : List ℕ) (s : Session) (l q : List ℕ) where
       let enough = room-enough (length l) (length q) (s .tokens) (s .bytes) 0 0 (omega arith) (omega arith) in
       rw (← enough, laid-nil l (s .tokens * 8), laid-nil q (s .bytes), add-zero (s .tokens), add-zero (s .bytes))
 
-  -- a step that only passes bytes, behind an open gate
+  -- a step that only passes bytes, after an open gate
   pub stepped-moved : lentRefusal src (length l) (length q) s ≡ 0 → (end : Bool) (p : Span) → Passes src (topFrame s) (spanOf s) p
       → (p .position ≡ s .position → ⊥) → stepped src end s l q ≡ movedTo p
   unfolding stepped stepOutcome limited
@@ -262,33 +257,22 @@ module _ (src : List ℕ) (end : Bool) (s : Session) (l q : List ℕ) (o : Outco
 
 -- the plan of a reading can be settled
 module _ (src : List ℕ) (end : Bool) (s : Session) (l q : List ℕ) (shut : ℕ)
-    (e : shut ≡ lentRefusal src (length l) (length q) s) (z : shut ≡ 0) (plan : Plan) where
-  read-settles : (o : Outcome) → Readable src s o → Plans src end o plan → Settles src end s plan (length l) (length q)
-  read-settles o w p = record {
+    (e : shut ≡ lentRefusal src (length l) (length q) s) (z : shut ≡ 0) (o : Outcome) (plan : Plan) where
+  pub read-settles : Plans src end o plan → Readable src s o → Settles src end s plan (length l) (length q)
+  read-settles p w = record {
     gate = sym e ∙ z;
     ready = p .ready;
     inside = rw (p .told) (w .ways (open-here src s l q shut e z .inside) .lies);
   }
 
-  pub number-settles : Plans src end (numbered (s .position) (numberAt end (s .position) (drop (s .position) src))) plan
-      → Settles src end s plan (length l) (length q)
-  unfolding numberOutcome
-  number-settles p = read-settles _ (number-readable src end s) p
-
-  pub single-settles :
-      Plans src end (literal literalSingleQuotedString (s .position) (textAt Mode.Single [] end (s .position) (rest src s))) plan
-      → Settles src end s plan (length l) (length q)
-  unfolding singleOutcome
-  single-settles p = read-settles _ (single-readable src end s) p
-
-  pub double-settles :
-      Plans src end (literal literalDoubleQuotedString (s .position) (textAt Mode.Double [] end (s .position) (rest src s))) plan
-      → Settles src end s plan (length l) (length q)
-  unfolding doubleOutcome
-  double-settles p = read-settles _ (double-readable src end s) p
-
-pub ruleset numbers = (open-stacked, open-here, number-settles, number-readable, read-shut, read-elsewhere, read-gives)
-
-pub ruleset singles = (open-stacked, open-here, single-settles, single-readable, read-shut, read-elsewhere, read-gives)
-
-pub ruleset doubles = (open-stacked, open-here, double-settles, double-readable, read-shut, read-elsewhere, read-gives)
+pub ruleset readings = (
+  open-stacked,
+  open-here,
+  number-readable,
+  single-readable,
+  double-readable,
+  read-settles,
+  read-shut,
+  read-elsewhere,
+  read-gives,
+)

@@ -1,4 +1,4 @@
--- The session behind a step: what `turned` makes of a next is what `settled` says. Assumes nothing.
+-- The session after a step: what `turned` makes of a next is what `settled` says. Assumes nothing.
 use Prim.Native.Nat.{ℕ, _+_, _-_, _<_}
 use mathlib.Core.Path.{_≡_, refl}
 use mathlib.Core.Bool.{Bool, true, false}

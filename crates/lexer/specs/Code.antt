@@ -1,4 +1,4 @@
--- A step as the code has it: `commit` works over numbers and the top frame, and the session is changed once behind it. `settled-next`
+-- A step as the code has it: `commit` works over numbers and the top frame, and the session is changed once after it. `settled-next`
 -- (proofs/Nexts.antt) says that this gives what `settled` says.
 --   markOf     a session's cursor and marks
 --   turnOf     the turn that a next makes of a session

@@ -2,7 +2,7 @@
 --   After       the turn, and what list and pool then hold
 --   changed     a session with another cursor, other marks and a change of frame
 --   refusing    a refusal: session, list and pool are as they were
---   written     an answer: the new records stand behind the list's mark, the new value bytes behind the pool's, and nothing else changes
+--   written     an answer: the new records stand from the list's mark on, the new value bytes from the pool's, and nothing else changes
 --   settled     what contracts cite: 7 for more tokens than places left, then 8 for more value bytes than pool left, after all that
 --               the outcome refuses
 use Prim.Native.Nat.{ℕ, _+_, _-_, _*_}

@@ -44,7 +44,7 @@ fn top_frame(s: Session) -> Frame
     slot.frame
 }
 
-// The session behind a step: other numbers, and the change of frame.
+// The session after a step: other numbers, and the change of frame.
 pub fn turned(mut s: Session, x: Next) -> Turn
     requires { ⌜ Turning s x ⌝ }
     ensures { λ r. ⌜ r ≡ turnOf s x ⌝ }
@@ -76,7 +76,7 @@ pub fn turned(mut s: Session, x: Next) -> Turn
     Turn { answer, session: s }
 }
 
-// A plan becomes a turn, behind the gate.
+// A plan becomes a turn, after the gate.
 fn settle(src: &[u8], end: bool, s: Session, plan: Plan, list: &mut [u32], pool: &mut [u8]) -> Turn
     requires { ⌜ Settles (now src) end s plan (length (now list)) (length (now pool)) ⌝ }
     ensures { λ r. ⌜ Gives (gated (now (src .entry)) s (now (list .entry)) (now (pool .entry)) (settled (now (src .entry)) s (now (list .entry)) (now (pool .entry)) (limited (s .depth) (s .position) (outcomeOf (now (src .entry)) end plan)))) r (now (list .exit)) (now (pool .exit)) ⌝ }
@@ -85,7 +85,7 @@ fn settle(src: &[u8], end: bool, s: Session, plan: Plan, list: &mut [u32], pool:
     turned(s, x)
 }
 
-// A step that only passes bytes: the session at the place behind them.
+// A step that only passes bytes: the session at the place after them.
 fn moved(mut s: Session, p: Span) -> Turn
     ensures { λ r. ⌜ r ≡ done (moved s p) ⌝ }
 {
@@ -116,7 +116,7 @@ pub fn step(src: &[u8], end: bool, s: Session, list: &mut [u32], pool: &mut [u8]
     settle(src, end, s, plan, list, pool)
 }
 
-// The number at the cursor. Refused without Scripting on top (10), behind 11 and 12.
+// The number at the cursor. Refused without Scripting on top (10), after 11 and 12.
 pub fn read_number(src: &[u8], end: bool, s: Session, list: &mut [u32], pool: &mut [u8]) -> Turn
     ensures { λ r. ⌜ Gives (readNumber (now (src .entry)) end s (now (list .entry)) (now (pool .entry))) r (now (list .exit)) (now (pool .exit)) ⌝ }
 {

@@ -38,7 +38,7 @@ use Rattle.modes.proofs.Looks.{name-small}
 -- ---- the rows that look further
 
 module _ (src : List ℕ) (end : Bool) (at : ℕ) where
-  -- nothing is left behind a sign
+  -- nothing is left after a sign
   module _ (past : length src ≤ at + 1) (p r : Plan) (e : p ≡ goesPlan (at + 1) Change.Keep) (f : r ≡ endingPlan end p) where
     pub point-past : Plans src end (point end at (drop (at + 1) src)) r
     unfolding point

@@ -83,7 +83,7 @@ named-inside end k j (b ∷ rest) h = go (isIdentifier b) h (named-inside end (s
     go true e f = omega (arith, f e)
     go false e f = let z : Run.Over j ≡ Run.Over k = e in let y : j ≡ k = cc in omega arith
 
--- the run behind the byte at a place lies within the source
+-- the run after the byte at a place lies within the source
 module _ (src : List ℕ) (end : Bool) (at : ℕ) (h : at < length src) (name : Run) (n : name ≡ named end 1 (drop (at + 1) src)) (k : ℕ)
     (e : name ≡ Run.Over k) where
   pub name-inside : at + k ≤ length src

@@ -168,7 +168,7 @@ module _ (src : List ℕ) (at : ℕ) (here : Here src at) where
 
 pub ruleset passesAts = (passesAt-none, passesAt-word, passesAt-other)
 
--- ---- the place behind
+-- ---- the place after
 
 module _ (src : List ℕ) (f : Frame) (p : Span) where
   pub passes-same : Here src (p .position) → Passes src f p p

@@ -3,7 +3,7 @@
 --   finishedPlan  nothing is left
 --   isOther       a byte of the table's last row, if no identifier starts with it
 --   PassesAt      so many bytes are passed from a place on; 0 tells nothing
---   Passes        r is the place behind such a step; the cursor p itself tells nothing
+--   Passes        r is the place after such a step; the cursor p itself tells nothing
 -- What is told holds of every session with this frame on top, at the announced end or before it.
 use Prim.Native.Nat.{ℕ, _+_, _-_, _≤_}
 use Prim.Native.Char.{code}

@@ -37,7 +37,7 @@ fn is_bracketed(src: &[u8], at: usize) -> bool
     (b == b'[') | (b == b'}')
 }
 
-// A name of `k` bytes behind `${`: before `[` or `}` it is an Identifier.
+// A name of `k` bytes after `${`: before `[` or `}` it is an Identifier.
 fn varname(src: &[u8], at: usize, k: usize, end: bool) -> Plan
     requires { ⌜ (at + k ≤ length (now src)) × (length (now src) ≤ 65536) ⌝ }
     ensures { λ r. ⌜ Plans (now (src .entry)) end (varname at (drop at (now (src .entry))) (Run.Over k)) r ⌝ }
@@ -48,7 +48,7 @@ fn varname(src: &[u8], at: usize, k: usize, end: bool) -> Plan
     plan::goes(at, Change::Swap(Frame::Scripting))
 }
 
-// Behind `${`: a name before `[` or `}`; the top becomes Scripting in any case.
+// After `${`: a name before `[` or `}`; the top becomes Scripting in any case.
 pub fn looking_for_varname(src: &[u8], at: usize, end: bool) -> Plan
     requires { ⌜ Here (now src) at ⌝ }
     ensures { λ r. ⌜ Plans (now (src .entry)) end (lookingForVarname end at (drop at (now (src .entry)))) r ⌝ }
@@ -91,7 +91,7 @@ fn arrow_head(kind: u32, k: usize, src: &[u8], at: usize, end: bool) -> Plan
     no_property(at)
 }
 
-// Behind the `?` at a place.
+// After the `?` at a place.
 fn questioned(src: &[u8], at: usize, end: bool) -> Plan
     requires { ⌜ (at < length (now src)) × (length (now src) ≤ 65536) ⌝ }
     ensures { λ r. ⌜ Plans (now (src .entry)) end (questioned end at (drop at (now (src .entry))) (drop (at + 1) (now (src .entry)))) r ⌝ }
@@ -106,7 +106,7 @@ fn questioned(src: &[u8], at: usize, end: bool) -> Plan
     no_property(at)
 }
 
-// Behind a variable: `?->`, `->`, or a name, with which the frame is left.
+// After a variable: `?->`, `->`, or a name, with which the frame is left.
 pub fn looking_for_property(src: &[u8], at: usize, end: bool) -> Plan
     requires { ⌜ Here (now src) at ⌝ }
     ensures { λ r. ⌜ Plans (now (src .entry)) end (lookingForProperty end at (drop at (now (src .entry)))) r ⌝ }

@@ -66,7 +66,7 @@ fn passed_at(src: &[u8], at: usize) -> usize
     0
 }
 
-// The place behind such a step; the place itself where the step is another.
+// The place after such a step; the place itself where the step is another.
 pub fn passed(src: &[u8], f: Frame, p: Span) -> Span
     requires { ⌜ Here (now src) (p .position) × Reaches p (length (now src)) ⌝ }
     ensures { λ r. ⌜ Passes (now (src .entry)) f p r ⌝ }

@@ -1,14 +1,15 @@
 -- The ways through the code that finds where a number ends, each a law: what the tests and calls on it tell gives the contract.
 -- In the source's order, a `ruleset` for each function or two. Assumes nothing.
 use Prim.Native.Nat.{ℕ, suc, _+_, _-_, _≤_, _<_}
-use mathlib.Core.Path.{_≡_, refl, sym, _∙_}
+use mathlib.Core.Path.{_≡_, sym, _∙_}
 use mathlib.Core.Bool.{Bool, true, false}
-use mathlib.Core.List.{List}
+use mathlib.Core.List.{List, []}
 use native.Mathlib.Omega.{arith}
 use native.Mathlib.Numerals.{add-one}
 use lib.ListN.{length, getD, drop, length-drop, drop-of-length-le}
 use lib.Seq.{drop-drop}
 use borrow.Author.Tests.{eq-eqb, ne-eqb}
+use Rattle.byte.specs.Words.{if_then_else_}
 use Rattle.byte.specs.Bytes.{isDigit}
 use Rattle.byte.proofs.Words.{drop-one}
 use Rattle.number.specs.declared.Ahead.{Ahead}
@@ -21,18 +22,13 @@ use Rattle.number.specs.Numbers.{digits, signed, closing, followed, powe
 use Rattle.number.specs.Numbers.{powerAhead, decided, marked, tail, decimal, prefixed, numberIn, numberAt}
 use Rattle.number.specs.Code.{placeOf, extentOf, closingExtent}
 use Rattle.number.proofs.Values.{DigitsTaken, digits-taken, prefix}
-use Rattle.number.proofs.Runs.{extentOf-closing, extentOf-onto}
+use Rattle.number.proofs.Runs.{place-same, place-clash, extentOf-closing, extentOf-onto}
+use Rattle.number.proofs.Runs.{followed-place, followed-undecided}
 
--- a number that ends where digits do
-pub closing-at : (literal : Literal) (p : Place) (after : ℕ) → p ≡ Place.At after → Extent.Number literal after ≡ closingExtent literal p
-unfolding closingExtent
-closing-at literal p after e = rw e
-
-pub closing-undecided : (literal : Literal) (p : Place) → p ≡ Place.Undecided → Extent.Undecided ≡ closingExtent literal p
-unfolding closingExtent
-closing-undecided literal p e = rw e
-
-pub ruleset closings = (closing-at, closing-undecided)
+-- a number that ends where digits do: an arm of the match on their place
+pub closing-arm : (literal : Literal) (p arm : Place) (r : Extent) → p ≡ arm → r ≡ closingExtent literal arm
+    → r ≡ closingExtent literal p
+closing-arm literal p arm r e h = rw e h
 
 closing-told : (literal : Literal) (d : Digits) (p : Place) (r : Extent) → p ≡ placeOf d → r ≡ closingExtent literal p → r ≡ extentOf (closing literal d)
 closing-told literal d p r e f = rw (extentOf-closing literal d, ← e) f
@@ -77,61 +73,51 @@ pub ruleset exponents = (exponent-past, exponent-some, exponent-none)
 
 pub ruleset tails = (tail-past, tail-point, tail-mark, tail-none)
 
--- digits end within the source, and what stands behind them is the source from there on
-module _ (src : List ℕ) (at : ℕ) (end : Bool) (inside : at ≤ length src) (p : Place) (i : ℕ) (here : p ≡ Place.At i) where
-  record Within (base : Base) (d : Digits) : Type 0 where
-    read : List ℕ
-    same : d ≡ Digits.Read read i
-    low : at ≤ i
-    high : i ≤ length src
+-- digits end within the text
+digits-end : (base : Base) (end : Bool) (n i : ℕ) (xs : List ℕ) (d : Digits) → DigitsTaken base end n xs d
+    → Place.At i ≡ placeOf d → (n ≤ i) × (i ≤ n + length xs)
+unfolding placeOf
+digits-end base end n i xs (Digits.Read ds after) t e =
+    let q : i ≡ after = place-same i after e in
+    (omega (arith, t .place), omega (arith, t .place, t .inside))
+digits-end base end n i xs Digits.Undecided t e = absurd (place-clash i e)
 
-  digits-within : (base : Base) → p ≡ placeOf (digits base end at (drop at src)) → Within base (digits base end at (drop at src))
-  unfolding placeOf
-  digits-within base e = go (digits base end at (drop at src)) (digits-taken base end at (drop at src)) (sym here ∙ e)
-    where
-      go : (d : Digits) → DigitsTaken base end at (drop at src) d → Place.At i ≡ placeOf d → Within base d
-      go (Digits.Read ds after) t e =
-          let z : Place.At i ≡ Place.At after = e in
-          let q : i ≡ after = cc in
-          let size : length (drop at src) ≡ length src - at = length-drop at src in
-          record { read = ds; same = rw q; low = omega (arith, t .place); high = omega (arith, t .place, t .inside) }
-      go Digits.Undecided t e = let z : Place.At i ≡ Place.Undecided = e in absurd (let y : _≡_ {A = ℕ} 0 1 = cc in omega arith)
+-- and what stands after them is the source from there on
+module _ (src : List ℕ) (at : ℕ) (end : Bool) (p : Place) where
+  module _ (inside : at ≤ length src) (i : ℕ) (here : p ≡ Place.At i) where
+    digits-within : (base : Base) → p ≡ placeOf (digits base end at (drop at src))
+        → (at ≤ i) × (i ≤ at + length (drop at src))
+    digits-within base e =
+        digits-end base end at i (drop at src) _ (digits-taken base end at (drop at src)) (sym here ∙ e)
 
-  pub digits-inside : (base : Base) → p ≡ placeOf (digits base end at (drop at src)) → i ≤ length src
-  digits-inside base e = digits-within base e .high
+    pub digits-inside : (base : Base) → p ≡ placeOf (digits base end at (drop at src)) → i ≤ length src
+    digits-inside base e = omega (arith, digits-within base e .1, length-drop at src)
 
-  module _ (r : Extent) (e : p ≡ placeOf (digits Base.Decimal end at (drop at src))) where
-    followed-at : (next : ℕ → List ℕ → Reading) → r ≡ extentOf (next i (drop i src)) → r ≡ extentOf (followed (digits Base.Decimal end at (drop at src)) (λ (after : ℕ). next after (drop (after - at) (drop at src))))
-    unfolding followed
-    followed-at next f =
-        let w = digits-within Base.Decimal e in
-        let place : at + (i - at) ≡ i = omega (arith, w .low) in
-        rw (w .same, extentOf-onto, drop-drop (i - at) at src, place) f
+    module _ (r : Extent) (e : p ≡ placeOf (digits Base.Decimal end at (drop at src))) where
+      followed-at : (next : ℕ → List ℕ → Reading) → r ≡ extentOf (next i (drop i src))
+          → r ≡ extentOf (followed (digits Base.Decimal end at (drop at src))
+          (λ (after : ℕ). next after (drop (after - at) (drop at src))))
+      followed-at next f =
+          let place : at + (i - at) ≡ i = omega (arith, digits-within Base.Decimal e .0) in
+          let behind = followed-place _ (λ (after : ℕ). next after (drop (after - at) (drop at src))) i (sym e ∙ here) in
+          rw (behind, drop-drop (i - at) at src, place) f
 
-    pub fraction-at : r ≡ extentOf (exponent end i (drop i src)) → r ≡ extentOf (fraction end at (drop at src))
+      pub fraction-at : r ≡ extentOf (exponent end i (drop i src)) → r ≡ extentOf (fraction end at (drop at src))
+      unfolding fraction
+      fraction-at f = followed-at (exponent end) f
+
+      pub decimal-at : r ≡ extentOf (tail end i (drop i src)) → r ≡ extentOf (decimal end at (drop at src))
+      unfolding decimal
+      decimal-at f = followed-at (tail end) f
+
+  module _ (cut : p ≡ Place.Undecided) (e : p ≡ placeOf (digits Base.Decimal end at (drop at src))) where
+    pub fraction-undecided : Extent.Undecided ≡ extentOf (fraction end at (drop at src))
     unfolding fraction
-    fraction-at f = followed-at (exponent end) f
+    fraction-undecided = followed-undecided _ _ (sym e ∙ cut)
 
-    pub decimal-at : r ≡ extentOf (tail end i (drop i src)) → r ≡ extentOf (decimal end at (drop at src))
+    pub decimal-undecided : Extent.Undecided ≡ extentOf (decimal end at (drop at src))
     unfolding decimal
-    decimal-at f = followed-at (tail end) f
-
-module _ (src : List ℕ) (at : ℕ) (end : Bool) (p : Place) (e : p ≡ placeOf (digits Base.Decimal end at (drop at src))) (cut : p ≡ Place.Undecided) where
-  followed-undecided : (next : ℕ → Reading) → Extent.Undecided ≡ extentOf (followed (digits Base.Decimal end at (drop at src)) next)
-  unfolding placeOf extentOf followed
-  followed-undecided next = go (digits Base.Decimal end at (drop at src)) (sym cut ∙ e)
-    where
-      go : (d : Digits) → Place.Undecided ≡ placeOf d → Extent.Undecided ≡ extentOf (followed d next)
-      go (Digits.Read ds after) e = let z : Place.Undecided ≡ Place.At after = e in cc
-      go Digits.Undecided e = refl
-
-  pub fraction-undecided : Extent.Undecided ≡ extentOf (fraction end at (drop at src))
-  unfolding fraction
-  fraction-undecided = followed-undecided _
-
-  pub decimal-undecided : Extent.Undecided ≡ extentOf (decimal end at (drop at src))
-  unfolding decimal
-  decimal-undecided = followed-undecided _
+    decimal-undecided = followed-undecided _ _ (sym e ∙ cut)
 
 pub ruleset fractions = (digits-inside, fraction-at, fraction-undecided)
 
@@ -139,27 +125,19 @@ pub ruleset decimals = (digits-inside, decimal-at, decimal-undecided)
 
 -- the looks ahead
 module _ (src : List ℕ) (at : ℕ) (end : Bool) where
-  pub ahead-end : length src ≤ at → end ≡ true → Ahead.No ≡ digitAhead end (drop at src)
-  unfolding digitAhead
-  ahead-end h e = rw (drop-of-length-le src h, e)
-
-  pub ahead-more : length src ≤ at → end ≡ false → Ahead.Undecided ≡ digitAhead end (drop at src)
-  unfolding digitAhead
-  ahead-more h e = rw (drop-of-length-le src h, e)
+  pub ahead-past : (arm : Bool) (r : Ahead) → length src ≤ at → end ≡ arm → r ≡ digitAhead arm []
+      → r ≡ digitAhead end (drop at src)
+  ahead-past arm r h e f = rw (drop-of-length-le src h, e) f
 
   pub power-past : (r : Ahead) → length src ≤ at → r ≡ digitAhead end (drop at src) → r ≡ powerAhead end (drop at src)
   unfolding powerAhead digitAhead
   power-past r h e = rw (drop-of-length-le src h) (rw (drop-of-length-le src h) at e)
 
   module _ (h : at < length src) (flag : Bool) where
-    module _ (f : flag ≡ isDigit (getD src at 0)) where
-      pub ahead-digit : flag ≡ true → Ahead.Yes ≡ digitAhead end (drop at src)
-      unfolding digitAhead
-      ahead-digit t = rw (drop-one src at h, ← f, t)
-
-      pub ahead-other : flag ≡ false → Ahead.No ≡ digitAhead end (drop at src)
-      unfolding digitAhead
-      ahead-other t = rw (drop-one src at h, ← f, t)
+    pub ahead-byte : (arm : Bool) (r : Ahead) → flag ≡ isDigit (getD src at 0) → flag ≡ arm
+        → r ≡ (if arm then Ahead.Yes else Ahead.No) → r ≡ digitAhead end (drop at src)
+    unfolding digitAhead
+    ahead-byte arm r f t e = rw (drop-one src at h, ← f, t) e
 
     module _ (r : Ahead) (f : flag ≡ isSign (getD src at 0)) where
       pub power-sign : flag ≡ true → r ≡ digitAhead end (drop (at + 1) src) → r ≡ powerAhead end (drop at src)
@@ -170,23 +148,15 @@ module _ (src : List ℕ) (at : ℕ) (end : Bool) where
       unfolding powerAhead
       power-bare t e = rw (drop-one src at h, ← f, t, ← drop-one src at h) e
 
-pub ruleset aheads = (ahead-end, ahead-more, ahead-digit, ahead-other, power-past, power-sign, power-bare)
+pub ruleset aheads = (ahead-past, ahead-byte, power-past, power-sign, power-bare)
 
--- an `e` behind whole digits
+-- an `e` after whole digits
 module _ (src : List ℕ) (at : ℕ) (end : Bool) (ahead : Ahead) (f : ahead ≡ powerAhead end (drop (at + 1) src)) where
-  pub marked-some : (r : Extent) → ahead ≡ Ahead.Yes → r ≡ extentOf (power end (at + 1) (drop (at + 1) src)) → r ≡ extentOf (marked end at (drop (at + 1) src))
-  unfolding marked decided
-  marked-some r t e = rw (← f, t, ← add-one at) e
-
-  pub marked-none : ahead ≡ Ahead.No → Extent.Number Literal.Integer at ≡ extentOf (marked end at (drop (at + 1) src))
-  unfolding marked decided extentOf
-  marked-none t = rw (← f, t)
-
-  pub marked-undecided : ahead ≡ Ahead.Undecided → Extent.Undecided ≡ extentOf (marked end at (drop (at + 1) src))
-  unfolding marked decided extentOf
-  marked-undecided t = rw (← f, t)
-
-pub ruleset marks = (marked-some, marked-none, marked-undecided)
+  pub marked-arm : (arm : Ahead) (r : Extent) → ahead ≡ arm
+      → r ≡ extentOf (decided arm (power end (at + 1) (drop (at + 1) src)) (Reading.Number Literal.Integer [] at))
+      → r ≡ extentOf (marked end at (drop (at + 1) src))
+  unfolding marked
+  marked-arm arm r t e = rw (← f, t, ← add-one at) e
 
 -- a base that is named
 module _ (src : List ℕ) (at : ℕ) (end : Bool) (r : Extent) where

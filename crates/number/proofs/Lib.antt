@@ -1,9 +1,6 @@
-pub mod Digits
 pub mod Values
 pub mod Waiting
 pub mod Runs
 pub mod Extents
 pub mod Writing
-pub mod Closing
 pub mod Manual
-pub mod Progress

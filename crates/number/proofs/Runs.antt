@@ -1,7 +1,7 @@
 -- The ways through the code that reads digits: bases, one digit more, a run of digits, a sign and digits. A `ruleset` for each function or
 -- two, in the source's order. Assumes nothing.
 use Prim.Native.Nat.{ℕ, suc, _+_, _-_, _≤_, _<_}
-use mathlib.Core.Path.{_≡_, refl, sym, ap, _∙_}
+use mathlib.Core.Path.{_≡_, refl, sym, _∙_}
 use mathlib.Core.Bool.{Bool, true, false, not, _&&_, _||_}
 use mathlib.Core.List.{List, [], _∷_}
 use native.Mathlib.Omega.{arith}
@@ -13,11 +13,13 @@ use borrow.Author.Tests.{eq-eqb, ne-eqb, not-true, not-false}
 use Rattle.byte.specs.Words.{if_then_else_}
 use Rattle.byte.proofs.Words.{drop-one}
 use Rattle.number.specs.declared.Base.{Base}
+use Rattle.number.specs.declared.Extent.{Extent}
 use Rattle.number.specs.declared.Literal.{Literal}
 use Rattle.number.specs.declared.Place.{Place}
 use Rattle.number.specs.Numbers.{Digits, Reading, isOne, baseNamed, baseOf, isSign, before, last, digitsMore}
-use Rattle.number.specs.Numbers.{digits, signed, onto, closing}
+use Rattle.number.specs.Numbers.{digits, signed, onto, closing, followed}
 use Rattle.number.specs.Code.{placeOf, extentOf, closingExtent, digitWidth, WidthAt, stopped}
+use Rattle.number.proofs.Values.{either}
 
 -- a place and the next in the source
 drop-last : (src : List ℕ) (at : ℕ) → at < length src → length src - at < 2 → drop at src ≡ getD src at 0 ∷ []
@@ -30,8 +32,15 @@ drop-two src at h =
     let next : at + 1 + 1 ≡ at + 2 = omega arith in
     drop-one src at (omega arith) ∙ rw (drop-one src (at + 1) (omega arith), next)
 
+-- a place is one, and is none where it is undecided
+pub place-same : (m n : ℕ) → Place.At m ≡ Place.At n → m ≡ n
+place-same m n e = let z : Place.At m ≡ Place.At n = e in cc
+
+pub place-clash : (n : ℕ) → Place.At n ≡ Place.Undecided → ⊥
+place-clash n e = let z : Place.At n ≡ Place.Undecided = e in let y : _≡_ {A = ℕ} 0 1 = cc in omega arith
+
 -- what comes before leaves the place, and the kind with it
-placeOf-before : (b : ℕ) (d : Digits) → placeOf (before b d) ≡ placeOf d
+pub placeOf-before : (b : ℕ) (d : Digits) → placeOf (before b d) ≡ placeOf d
 unfolding placeOf before
 placeOf-before b (Digits.Read ds after) = refl
 placeOf-before b Digits.Undecided = refl
@@ -45,6 +54,19 @@ pub extentOf-closing : (literal : Literal) (d : Digits) → extentOf (closing li
 unfolding extentOf closing closingExtent placeOf
 extentOf-closing literal (Digits.Read ds after) = refl
 extentOf-closing literal Digits.Undecided = refl
+
+-- a number that goes on after digits ends where it ends from their place on
+pub followed-place : (d : Digits) (next : ℕ → Reading) (i : ℕ) → placeOf d ≡ Place.At i
+    → extentOf (followed d next) ≡ extentOf (next i)
+unfolding placeOf followed
+followed-place (Digits.Read ds after) next i e = rw (place-same after i e) (extentOf-onto ds (next i))
+followed-place Digits.Undecided next i e = absurd (place-clash i (sym e))
+
+pub followed-undecided : (d : Digits) (next : ℕ → Reading) → placeOf d ≡ Place.Undecided
+    → Extent.Undecided ≡ extentOf (followed d next)
+unfolding placeOf followed extentOf
+followed-undecided (Digits.Read ds after) next e = absurd (place-clash after e)
+followed-undecided Digits.Undecided next e = refl
 
 -- an arm of a match on a base
 pub isOne-arm : (base arm : Base) (b : ℕ) (r : Bool) → base ≡ arm → r ≡ isOne arm b → r ≡ isOne base b
@@ -90,16 +112,8 @@ module _ (src : List ℕ) (at : ℕ) where
 
 pub ruleset bases = (baseNamed-binary, baseNamed-octal, baseNamed-hex, baseNamed-none, baseOf-short, baseOf-other, baseOf-zero)
 
-module _ (at : ℕ) (end : Bool) where
-  pub last-end : end ≡ true → Place.At at ≡ placeOf (last end at)
-  unfolding last placeOf
-  last-end e = rw e
-
-  pub last-more : end ≡ false → Place.Undecided ≡ placeOf (last end at)
-  unfolding last placeOf
-  last-more e = rw e
-
-pub ruleset lasts = (last-end, last-more)
+pub last-arm : (at : ℕ) (end arm : Bool) (r : Place) → end ≡ arm → r ≡ placeOf (last arm at) → r ≡ placeOf (last end at)
+last-arm at end arm r e h = rw e h
 
 module _ (src : List ℕ) (at : ℕ) (base : Base) (one : Bool) (h : at < length src) (f : one ≡ isOne base (getD src at 0)) where
   digitWidth-one : (b : ℕ) (xs : List ℕ) → isOne base b ≡ true → digitWidth base (b ∷ xs) ≡ 1
@@ -155,38 +169,35 @@ module _ (src : List ℕ) (at : ℕ) (end : Bool) (h : at < length src) where
 
 pub ruleset stops = (stopped-other, stopped-cut, stopped-lone)
 
--- no digit behind a digit, and one more
-digitsMore-none : (base : Base) (end : Bool) (n : ℕ) (xs : List ℕ) → 0 ≡ digitWidth base xs → digitsMore base end n xs ≡ stopped end n xs
-unfolding digitWidth digitsMore stopped
-digitsMore-none base end n [] e = refl
-digitsMore-none base end n (b ∷ []) e = go (isOne base b) e
-  where
-    go : (one : Bool) → _≡_ {A = ℕ} 0 (if one then 1 else 0) → (if one then before b (digitsMore base end (suc n) []) else if eqb b 95 then last end n else Digits.Read [] n) ≡ (if eqb b 95 then last end n else Digits.Read [] n)
-    go true e = absurd (omega arith)
-    go false e = refl
-digitsMore-none base end n (b ∷ c ∷ xs) e = go (isOne base b) (eqb b 95 && isOne base c) e
-  where
-    go : (one joined : Bool) → _≡_ {A = ℕ} 0 (if one then 1 else if joined then 2 else 0) → (if one then before b (digitsMore base end (suc n) (c ∷ xs)) else if joined then before c (digitsMore base end (suc (suc n)) xs) else Digits.Read [] n) ≡ Digits.Read [] n
-    go true joined e = absurd (omega arith)
-    go false true e = absurd (omega arith)
-    go false false e = refl
+-- after a digit: a digit, a `_` or another byte; after the `_` a digit, another byte or none
+abbrev underscored : Base → Bool → ℕ → List ℕ → Digits
+underscored base end n [] = last end n
+underscored base end n (c ∷ xs) =
+    if isOne base c then before c (digitsMore base end (suc (suc n)) xs) else Digits.Read [] n
 
-digitsMore-some : (base : Base) (end : Bool) (n w : ℕ) (xs : List ℕ) → w ≡ digitWidth base xs → (w ≡ 0 → ⊥) → placeOf (digitsMore base end n xs) ≡ placeOf (digitsMore base end (n + w) (drop w xs))
-unfolding digitWidth digitsMore
-digitsMore-some base end n w [] e h = absurd (h e)
-digitsMore-some base end n w (b ∷ []) e h = go (isOne base b) e
-  where
-    go : (one : Bool) → w ≡ (if one then 1 else 0) → placeOf (if one then before b (digitsMore base end (suc n) []) else if eqb b 95 then last end n else Digits.Read [] n) ≡ placeOf (digitsMore base end (n + w) (drop w (b ∷ [])))
-    go true e = rw (e, add-one n) (placeOf-before b (digitsMore base end (suc n) []))
-    go false e = absurd (h e)
-digitsMore-some base end n w (b ∷ c ∷ xs) e h = go (isOne base b) (eqb b 95 && isOne base c) e
-  where
-    go : (one joined : Bool) → w ≡ (if one then 1 else if joined then 2 else 0) → placeOf (if one then before b (digitsMore base end (suc n) (c ∷ xs)) else if joined then before c (digitsMore base end (suc (suc n)) xs) else Digits.Read [] n) ≡ placeOf (digitsMore base end (n + w) (drop w (b ∷ c ∷ xs)))
-    go true joined e = rw (e, add-one n) (placeOf-before b (digitsMore base end (suc n) (c ∷ xs)))
-    go false true e =
-        let two : n + 2 ≡ suc (suc n) = omega arith in
-        rw (e, two) (placeOf-before c (digitsMore base end (suc (suc n)) xs))
-    go false false e = absurd (h e)
+pub digitsMore-byte : (base : Base) (end : Bool) (n b : ℕ) (xs : List ℕ) → digitsMore base end n (b ∷ xs)
+    ≡ (if isOne base b then before b (digitsMore base end (suc n) xs)
+    else if eqb b 95 then underscored base end n xs
+    else Digits.Read [] n)
+unfolding digitsMore
+digitsMore-byte base end n b [] = refl
+digitsMore-byte base end n b (c ∷ xs) = either (eqb b 95) (λ u. rw u refl) (λ u. rw u refl)
+
+-- no digit after a digit, or one more
+digitsMore-step : (base : Base) (end : Bool) (n : ℕ) (xs : List ℕ) → placeOf (digitsMore base end n xs)
+    ≡ (let w = digitWidth base xs in
+    if eqb w 0 then placeOf (stopped end n xs) else placeOf (digitsMore base end (n + w) (drop w xs)))
+unfolding digitWidth digitsMore stopped
+digitsMore-step base end n [] = refl
+digitsMore-step base end n (b ∷ []) =
+    either (isOne base b) (λ o. rw (o, add-one n) (placeOf-before b (last end (suc n)))) (λ o. rw o refl)
+digitsMore-step base end n (b ∷ c ∷ xs) =
+    either (isOne base b) (λ o. rw (o, add-one n) (placeOf-before b (digitsMore base end (suc n) (c ∷ xs))))
+    (λ o. either (eqb b 95 && isOne base c)
+    (λ j.
+    let two : n + 2 ≡ suc (suc n) = omega arith in
+    rw (o, j, two) (placeOf-before c (digitsMore base end (suc (suc n)) xs)))
+    (λ j. rw (o, j) refl))
 
 -- the digits from `at` on end where those from i on do
 pub record Passing (base : Base) (end : Bool) (src : List ℕ) (at i : ℕ) : Type 0 where
@@ -204,10 +215,13 @@ module _ (base : Base) (end : Bool) (src : List ℕ) (at : ℕ) where
 
     module _ (w : ℕ) (step : WidthAt base src i w) where
       pub passing-stop : (r : Place) → w ≡ 0 → r ≡ placeOf (stopped end i (drop i src)) → r ≡ placeOf (digitsMore base end at (drop at src))
-      passing-stop r h e = e ∙ sym (p .same ∙ ap placeOf (digitsMore-none base end i (drop i src) (sym h ∙ step .told)))
+      passing-stop r h e = e ∙ sym (p .same ∙ digitsMore-step base end i (drop i src) ∙ rw (← step .told, h))
 
       pub passing-on : (w ≡ 0 → ⊥) → Passing base end src at (i + w)
-      passing-on h = record { inside = step .inside; same = p .same ∙ digitsMore-some base end i w (drop i src) (step .told) h ∙ rw (drop-drop w i src) }
+      passing-on h = record {
+        inside = step .inside;
+        same = p .same ∙ digitsMore-step base end i (drop i src) ∙ rw (← step .told, ne-eqb w 0 h, drop-drop w i src);
+      }
 
 pub ruleset passing = (passing-first, passing-end, passing-stop, passing-on)
 

@@ -16,7 +16,7 @@ use Rattle.number.specs.declared.Literal.{Literal}
 use Rattle.number.specs.declared.Scanned.{Scanned}
 use Rattle.number.specs.Numbers.{Reading, baseOf, numberAt, scanned, lowerExponent, spelling, spelled, valueOf}
 use Rattle.number.specs.Code.{extentOf}
-use Rattle.number.proofs.Values.{spelled-append, length-spelled, numberAt-inside, numberAt-value}
+use Rattle.number.proofs.Values.{spelled-append, length-spelled, numberAt-inside, numberAt-extent}
 
 -- one byte more of the text
 module _ (base : Base) (part : List ℕ) (i : ℕ) (h : i < length part) where
@@ -34,77 +34,89 @@ spelled-front base part i =
     let all : spelled base part ≡ spelled base (take i part) ++ spelled base (drop i part) = ap (spelled base) (sym (take-append-drop i part)) ∙ spelled-append base (take i part) (drop i part) in
     omega (arith, ap length all, length-append (spelled base (take i part)) (spelled base (drop i part)))
 
--- the loop that counts
-pub record Counting (part : List ℕ) (len i : ℕ) : Type 0 where
+-- the loop that counts: `len` bytes are kept of the first i
+pub record Counting (base : Base) (part : List ℕ) (len i : ℕ) : Type 0 where
   pub inside : i ≤ length part
   pub small : len ≤ i
-  pub told : len ≡ length (spelled Base.Decimal (take i part))
+  pub told : len ≡ length (spelled base (take i part))
 
-module _ (part : List ℕ) where
-  pub counting-first : Counting part 0 0
+module _ (base : Base) (part : List ℕ) where
+  pub counting-first : Counting base part 0 0
   unfolding spelled
   counting-first = record { inside = omega arith; small = omega arith; told = refl }
 
-  module _ (len i : ℕ) (c : Counting part len i) where
-    pub counting-end : length part ≤ i → len ≡ length (spelled Base.Decimal part)
+  module _ (len i : ℕ) (c : Counting base part len i) where
+    pub counting-end : length part ≤ i → len ≡ length (spelled base part)
     counting-end h = c .told ∙ rw (take-all i part h)
 
     module _ (more : ℕ) (h : i < length part) where
-      pub counting-kept : (getD part i 0 ≡ 95 → ⊥) → more ≡ len + 1 → Counting part more (i + 1)
+      pub counting-kept : (getD part i 0 ≡ 95 → ⊥) → more ≡ len + 1 → Counting base part more (i + 1)
       counting-kept other e =
-          let size : length (spelled Base.Decimal (take i part) ++ (spelling Base.Decimal (getD part i 0) ∷ [])) ≡ length (spelled Base.Decimal (take i part)) + 1 = length-append (spelled Base.Decimal (take i part)) (spelling Base.Decimal (getD part i 0) ∷ []) in
-          record { inside = omega arith; small = omega (arith, c .small); told = rw (spelled-kept Base.Decimal part i h other) (omega (arith, c .told)) }
+          let size = length-append (spelled base (take i part)) (spelling base (getD part i 0) ∷ []) in
+          record {
+            inside = omega arith;
+            small = omega (arith, c .small);
+            told = rw (spelled-kept base part i h other) (omega (arith, c .told, size));
+          }
 
-      pub counting-under : getD part i 0 ≡ 95 → more ≡ len → Counting part more (i + 1)
-      counting-under under e = record { inside = omega arith; small = omega (arith, c .small); told = rw (spelled-under Base.Decimal part i h under) (e ∙ c .told) }
+      pub counting-under : getD part i 0 ≡ 95 → more ≡ len → Counting base part more (i + 1)
+      counting-under under e = record {
+        inside = omega arith;
+        small = omega (arith, c .small);
+        told = rw (spelled-under base part i h under) (e ∙ c .told);
+      }
 
 pub ruleset counting = (counting-first, counting-end, counting-kept, counting-under)
 
--- the loop that writes: j bytes stand at the start
+-- the loop that writes: they stand at the start
 pub record Storing (base : Base) (part old now : List ℕ) (i j : ℕ) : Type 0 where
   pub written : Writing (λ (k : ℕ). spelled base (take k part)) (length part) old now i
-  pub place : j ≡ length (spelled base (take i part))
-  pub small : j ≤ i
+  pub counted : Counting base part j i
 
 module _ (base : Base) (part old : List ℕ) where
+  abbrev kept : ℕ → List ℕ
+  kept k = spelled base (take k part)
+
   pub storing-first : Storing base part old old 0 0
   unfolding spelled
-  storing-first = record { written = writing-first (λ (k : ℕ). spelled base (take k part)) (length part) old refl; place = refl; small = omega arith }
+  storing-first = record { written = writing-first kept (length part) old refl; counted = counting-first base part }
 
   module _ (now : List ℕ) (i j : ℕ) (s : Storing base part old now i j) where
     pub storing-size : length now ≡ length old
     storing-size = s .written .size
 
     pub storing-end : length part ≤ i → now ≡ laid old 0 (spelled base part)
-    storing-end h = writing-end (λ (k : ℕ). spelled base (take k part)) (length part) old now i (s .written) h ∙ rw (take-all (length part) part (omega arith))
+    storing-end h =
+        writing-end kept (length part) old now i (s .written) h ∙ rw (take-all (length part) part (omega arith))
 
     module _ (h : i < length part) where
       pub storing-under : (now′ : List ℕ) (j′ : ℕ) → getD part i 0 ≡ 95 → now′ ≡ now → j′ ≡ j → Storing base part old now′ (i + 1) j′
       storing-under now′ j′ under e f =
           let same = spelled-under base part i h under in
+          let size = ap length e ∙ s .written .size in
           record {
-            written = record { inside = omega arith; size = ap length e ∙ s .written .size; written = e ∙ s .written .written ∙ rw same };
-            place = f ∙ s .place ∙ rw same;
-            small = omega (arith, s .small);
+            written = record { inside = omega arith; size = size; written = e ∙ s .written .written ∙ rw same };
+            counted = counting-under base part j i (s .counted) j′ h under f;
           }
 
       module _ (fits : length (spelled base part) ≤ length old) (other : getD part i 0 ≡ 95 → ⊥) where
         room : j + 1 ≤ length old
         room =
-            let size : length (spelled base (take (i + 1) part)) ≡ length (spelled base (take i part)) + 1 = rw (spelled-kept base part i h other) (length-append (spelled base (take i part)) (spelling base (getD part i 0) ∷ [])) in
-            omega (arith, spelled-front base part (i + 1), s .place)
+            let counted = counting-kept base part j i (s .counted) (j + 1) h other refl in
+            omega (arith, spelled-front base part (i + 1), counted .told)
 
         pub storing-room : j < length now
         storing-room = omega (arith, room, s .written .size)
 
-        pub storing-kept : (now′ : List ℕ) (j′ v : ℕ) → v ≡ spelling base (getD part i 0) → now′ ≡ set now j v → j′ ≡ j + 1 → Storing base part old now′ (i + 1) j′
+        pub storing-kept : (now′ : List ℕ) (j′ v : ℕ) → v ≡ spelling base (getD part i 0) → now′ ≡ set now j v
+            → j′ ≡ j + 1 → Storing base part old now′ (i + 1) j′
         storing-kept now′ j′ v told e f =
-            let more = spelled-kept base part i h other in
-            let size : length (spelled base (take (i + 1) part)) ≡ length (spelled base (take i part)) + 1 = rw more (length-append (spelled base (take i part)) (spelling base (getD part i 0) ∷ [])) in
+            let byte = spelling base (getD part i 0) in
+            let set′ : now′ ≡ laid now j (byte ∷ []) = e ∙ rw told (set-laid now j byte storing-room) in
+            let on = writing-on kept (length part) old now i (s .written) now′ j (byte ∷ []) h in
             record {
-              written = writing-on (λ (k : ℕ). spelled base (take k part)) (length part) old now i (s .written) now′ j (spelling base (getD part i 0) ∷ []) h (s .place) room more (e ∙ rw told (set-laid now j (spelling base (getD part i 0)) storing-room));
-              place = omega (arith, s .place);
-              small = omega (arith, s .small);
+              written = on (s .counted .told) room (spelled-kept base part i h other) set′;
+              counted = counting-kept base part j i (s .counted) j′ h other f;
             }
 
 pub ruleset storing = (storing-first, storing-size, storing-end, storing-under, storing-room, storing-kept)
@@ -126,7 +138,7 @@ pub ruleset lowering = (lower-upper, lower-other)
 module _ (src : List ℕ) (at after : ℕ) where
   pub valueOf-length : (len : ℕ) → len ≡ length (spelled Base.Decimal (take (after - at) (drop at src))) → len ≡ length (valueOf src at after)
   unfolding valueOf
-  valueOf-length len e = e ∙ length-spelled Base.Decimal (baseOf (drop at src)) (take (after - at) (drop at src))
+  valueOf-length len e = e ∙ length-spelled Base.Decimal (baseOf (drop at src)) (take (after - at) (drop at src)) .0
 
   module _ (base : Base) (e : base ≡ baseOf (drop at src)) where
     pub valueOf-room : (n : ℕ) → length (valueOf src at after) ≤ n → length (spelled base (take (after - at) (drop at src))) ≤ n
@@ -150,28 +162,19 @@ module _ (src : List ℕ) (at : ℕ) (end : Bool) (extent : Extent) (e : extent 
       go Reading.Wait e = refl
 
   module _ (literal : Literal) (after : ℕ) (f : extent ≡ Extent.Number literal after) where
-    record Found : Type 0 where
-      value : List ℕ
-      same : numberAt end at (drop at src) ≡ Reading.Number literal value after
-
-    found : Found
-    unfolding extentOf
-    found = go (numberAt end at (drop at src)) refl (sym f ∙ e)
-      where
-        go : (r : Reading) → numberAt end at (drop at src) ≡ r → Extent.Number literal after ≡ extentOf r → Found
-        go (Reading.Number kind value place) q e = let z : Extent.Number literal after ≡ Extent.Number kind place = e in record { value = value; same = q ∙ cc }
-        go Reading.Wait q e = let z : Extent.Number literal after ≡ Extent.Undecided = e in absurd (let y : _≡_ {A = ℕ} 0 1 = cc in omega arith)
+    found : numberAt end at (drop at src) ≡ Reading.Number literal (valueOf src at after) after
+    unfolding valueOf
+    found = numberAt-extent end at (drop at src) literal after (sym e ∙ f)
 
     pub scan-low : at ≤ after
-    scan-low = numberAt-inside end at (drop at src) literal (found .value) after (found .same) .0
+    scan-low = numberAt-inside end at (drop at src) literal _ after found .0
 
     pub scan-high : at ≤ length src → after ≤ length src
-    scan-high h =
-        let size : length (drop at src) ≡ length src - at = length-drop at src in
-        omega (arith, numberAt-inside end at (drop at src) literal (found .value) after (found .same) .1)
+    scan-high h = omega (arith, numberAt-inside end at (drop at src) literal _ after found .1, length-drop at src)
 
-    pub scan-number : (len : ℕ) → len ≡ length (valueOf src at after) → Scanned.Number literal after len ≡ scanned (numberAt end at (drop at src))
-    unfolding scanned valueOf
-    scan-number len g = rw (found .same, g, numberAt-value end at (drop at src) literal (found .value) after (found .same))
+    pub scan-number : (len : ℕ) → len ≡ length (valueOf src at after)
+        → Scanned.Number literal after len ≡ scanned (numberAt end at (drop at src))
+    unfolding scanned
+    scan-number len g = rw (found, g)
 
 pub ruleset scans = (scan-wait, scan-low, scan-high, scan-number)

@@ -1,7 +1,7 @@
 -- What the parts of the code tell of a reading: where it ends, and its kind, but no value.
 --   placeOf, extentOf   digits and a number told so
 --   closingExtent       a number that ends where digits do
---   digitWidth, WidthAt how many bytes the next digit takes, behind another: 2 with a `_` before it, 0 where none stands
+--   digitWidth, WidthAt how many bytes the next digit takes, after another: 2 with a `_` before it, 0 where none stands
 --   stopped             digits that end at a byte that is none: a `_` that the part ends with may still stand between two
 use Prim.Native.Nat.{ℕ, _+_, _≤_}
 use mathlib.Core.Bool.{Bool, _&&_}

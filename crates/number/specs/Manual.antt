@@ -1,6 +1,6 @@
 -- Number literals as the PHP manual has them ("Integers" and "Floating point numbers", the formal structure at the end of "Syntax").
 -- Written without the manual's pages at hand (docs/DECISIONS.md, 32).
---   grouped            [d]*(_[d]+)*, where d are the bytes that pass a test; in front, or behind a digit
+--   grouped            [d]*(_[d]+)*, where d are the bytes that pass a test; in front, or after a digit
 --   isLnum, maybeLnum  LNUM, [0-9]+(_[0-9]+)*; the same or nothing
 --   IntegerLiteral     decimal, hexadecimal, octal, binary
 --   Dnum, FloatLiteral DNUM; DNUM or EXPONENT_DNUM

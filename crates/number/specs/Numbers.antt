@@ -1,8 +1,8 @@
 -- Number literals as the Rust reads them (document 01, "Number", sheets i, j, k), told over the rest of the text.
 --   isOne, baseOf          the digits of a base; the base that a literal's first two bytes name
 --   digits, digitsMore     digits with one `_` between two of them: the bytes of the value, and the place after
---   signed, exponent, fraction   behind the `e`; behind a point and its digits; behind the point
---   tail, decimal          behind whole digits; a decimal literal
+--   signed, exponent, fraction   after the `e`; after a point and its digits; after the point
+--   tail, decimal          after whole digits; a decimal literal
 --   numberAt               the number at the head of a text: its kind, its value and the place after it
 --   scanned                what a scan tells of it: the value by its length
 --   spelled, valueOf       a literal's text as a value has it: no `_`, and `e` for `E` (proofs/Values.antt: it is the value)
@@ -38,7 +38,7 @@ isOne Base.Octal b = isOctal b
 isOne Base.Decimal b = isDigit b
 isOne Base.Hex b = isHex b
 
--- the base that the letter behind a 0 names
+-- the base that the letter after a 0 names
 unfoldable pub baseNamed : ℕ → Base
 baseNamed b =
     if b is "b" || b is "B" then Base.Binary
@@ -66,7 +66,7 @@ before b Digits.Undecided = Digits.Undecided
 unfoldable pub last : Bool → ℕ → Digits
 last end n = if end then Digits.Read [] n else Digits.Undecided
 
--- behind a digit: one `_` between two digits is skipped
+-- after a digit: one `_` between two digits is skipped
 unfoldable pub digitsMore : Base → Bool → ℕ → List ℕ → Digits
 digitsMore base end n [] = last end n
 digitsMore base end n (b ∷ []) =
@@ -82,7 +82,7 @@ unfoldable pub digits : Base → Bool → ℕ → List ℕ → Digits
 digits base end n [] = last end n
 digits base end n (b ∷ rest) = if isOne base b then before b (digitsMore base end (suc n) rest) else Digits.Read [] n
 
--- behind the `e`: a sign, then digits, each taken even with nothing behind
+-- after the `e`: a sign, then digits, each taken even with nothing after
 unfoldable pub signed : Bool → ℕ → List ℕ → Digits
 signed end n [] = last end n
 signed end n (b ∷ rest) =
@@ -98,16 +98,16 @@ unfoldable pub closing : Literal → Digits → Reading
 closing literal (Digits.Read ds after) = Reading.Number literal ds after
 closing literal Digits.Undecided = Reading.Wait
 
--- digits, then what stands behind them
+-- digits, then what stands after them
 unfoldable pub followed : Digits → (ℕ → Reading) → Reading
 followed (Digits.Read ds after) next = onto ds (next after)
 followed Digits.Undecided next = Reading.Wait
 
--- the exponent, which is stored as `e`, from behind its letter on
+-- the exponent, which is stored as `e`, after its letter
 unfoldable pub power : Bool → ℕ → List ℕ → Reading
 power end n rest = onto (code "e" ∷ []) (closing Literal.Float (signed end n rest))
 
--- behind a point and its digits: an exponent, bare or not
+-- after a point and its digits: an exponent, bare or not
 unfoldable pub exponent : Bool → ℕ → List ℕ → Reading
 exponent end n [] = closing Literal.Float (last end n)
 exponent end n (b ∷ rest) = if isExponent b then power end (suc n) rest else Reading.Number Literal.Float [] n
@@ -131,11 +131,11 @@ decided Ahead.Yes some none = some
 decided Ahead.No some none = none
 decided Ahead.Undecided some none = Reading.Wait
 
--- an `e` at n, behind whole digits: it makes a float only where digits follow
+-- an `e` at n, after whole digits: it makes a float only where digits follow
 unfoldable pub marked : Bool → ℕ → List ℕ → Reading
 marked end n rest = decided (powerAhead end rest) (power end (suc n) rest) (Reading.Number Literal.Integer [] n)
 
--- behind whole digits: a point makes a float; else it is an integer
+-- after whole digits: a point makes a float; else it is an integer
 unfoldable pub tail : Bool → ℕ → List ℕ → Reading
 tail end n [] = closing Literal.Integer (last end n)
 tail end n (b ∷ rest) =
@@ -146,7 +146,7 @@ tail end n (b ∷ rest) =
 unfoldable pub decimal : Bool → ℕ → List ℕ → Reading
 decimal end n xs = followed (digits Base.Decimal end n xs) (λ (after : ℕ). tail end after (drop (after - n) xs))
 
--- behind 0b, 0o, 0x: both bytes are taken even with no digit behind
+-- after 0b, 0o, 0x: both bytes are taken even with no digit after
 unfoldable pub prefixed : Base → Bool → ℕ → List ℕ → Reading
 prefixed base end n xs = onto (take 2 xs) (closing Literal.Integer (digits base end (suc (suc n)) (drop 2 xs)))
 

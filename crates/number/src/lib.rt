@@ -69,7 +69,7 @@ fn is_one(base: Base, b: u8) -> bool
     }
 }
 
-// The base that the letter behind a 0 names.
+// The base that the letter after a 0 names.
 fn base_named(b: u8) -> Base
     ensures { λ r. ⌜ r ≡ baseNamed b ⌝ }
 {
@@ -122,7 +122,7 @@ fn last_place(at: usize, end: bool) -> Place
     Place::Undecided
 }
 
-// How many bytes the next digit takes, behind another: 2 with a `_` before it, 0 where none stands.
+// How many bytes the next digit takes, after another: 2 with a `_` before it, 0 where none stands.
 fn digit_width(src: &[u8], at: usize, base: Base) -> usize
     requires { ⌜ at < length (now src) ⌝ }
     ensures { λ r. ⌜ WidthAt base (now (src .entry)) at r ⌝ }
@@ -156,7 +156,7 @@ fn digits_stop(src: &[u8], at: usize, end: bool) -> Place
     Place::At(at)
 }
 
-// Where the digits behind a digit end.
+// Where the digits after a digit end.
 fn digits_more_end(src: &[u8], at: usize, end: bool, base: Base) -> Place
     requires { ⌜ at ≤ length (now src) ⌝ }
     ensures { λ r. ⌜ r ≡ placeOf (digitsMore base end at (drop at (now (src .entry)))) ⌝ }
@@ -218,7 +218,7 @@ fn power_extent(src: &[u8], at: usize, end: bool) -> Extent
     closing_extent(Literal::Float, signed_end(src, at, end))
 }
 
-// A float from behind its point's digits on: an exponent is taken, bare or not.
+// A float after its point's digits: an exponent is taken, bare or not.
 fn exponent_extent(src: &[u8], at: usize, end: bool) -> Extent
     requires { ⌜ at ≤ length (now src) ⌝ }
     ensures { λ r. ⌜ r ≡ extentOf (exponent end at (drop at (now (src .entry)))) ⌝ }
@@ -232,7 +232,7 @@ fn exponent_extent(src: &[u8], at: usize, end: bool) -> Extent
     closing_extent(Literal::Float, Place::At(at))
 }
 
-// A float from behind its point on.
+// A float after its point.
 fn fraction_extent(src: &[u8], at: usize, end: bool) -> Extent
     requires { ⌜ at ≤ length (now src) ⌝ }
     ensures { λ r. ⌜ r ≡ extentOf (fraction end at (drop at (now (src .entry)))) ⌝ }
@@ -275,7 +275,7 @@ fn power_ahead(src: &[u8], at: usize, end: bool) -> Ahead
     digit_ahead(src, at, end)
 }
 
-// An `e` behind whole digits: it makes a float only where digits follow.
+// An `e` after whole digits: it makes a float only where digits follow.
 fn marked_extent(src: &[u8], at: usize, end: bool) -> Extent
     requires { ⌜ at < length (now src) ⌝ }
     ensures { λ r. ⌜ r ≡ extentOf (marked end at (drop (at + 1) (now (src .entry)))) ⌝ }
@@ -291,7 +291,7 @@ fn marked_extent(src: &[u8], at: usize, end: bool) -> Extent
     }
 }
 
-// A number from behind its whole digits on.
+// A number after its whole digits.
 fn tail_extent(src: &[u8], at: usize, end: bool) -> Extent
     requires { ⌜ at ≤ length (now src) ⌝ }
     ensures { λ r. ⌜ r ≡ extentOf (tail end at (drop at (now (src .entry)))) ⌝ }

@@ -21,7 +21,7 @@ lastOpening-more end e = rw e
 
 pub ruleset lastOpenings = (lastOpening-end, lastOpening-more)
 
--- behind a label of this range
+-- after a label of this range
 module _ (src : List ℕ) (n : ℕ) (end : Bool) (start len : ℕ) where
   module _ (past : length src ≤ n) (r : Opening) (e : r ≡ lastOpening end) where
     pub lineFeed-past : (kind : DocStringKind) → r ≡ lineFeed kind start len end n (drop n src)
@@ -83,7 +83,7 @@ pub ruleset docQuotes = (docQuote-past, docQuote-here, docQuote-other)
 
 pub ruleset docEnds = (docEnd-heredoc, docEnd-nowdoc)
 
--- the label from its second byte on, which stands at n: what is left from i on decides, behind len bytes
+-- the label from its second byte on, which stands at n: what is left from i on decides, after len bytes
 pub record Naming (src : List ℕ) (n : ℕ) (end : Bool) (kind : DocStringKind) (start i len : ℕ) : Type 0 where
   pub inside : i ≤ length src
   pub short : len ≤ 64

@@ -50,7 +50,7 @@ fn line_feed(
     Opening::Other
 }
 
-// Behind the label: LF, or CR and LF.
+// After the label: LF, or CR and LF.
 fn doc_break(
     src: &[u8],
     n: usize,
@@ -70,7 +70,7 @@ fn doc_break(
     line_feed(src, n, end, kind, start, len)
 }
 
-// Behind a label in quotes.
+// After a label in quotes.
 fn doc_quote(src: &[u8], n: usize, end: bool, start: usize, len: usize) -> Opening
     ensures { λ r. ⌜ r ≡ docQuote start len end n (drop n (now (src .entry))) ⌝ }
 {
@@ -83,7 +83,7 @@ fn doc_quote(src: &[u8], n: usize, end: bool, start: usize, len: usize) -> Openi
     Opening::Other
 }
 
-// Behind the label of either block.
+// After the label of either block.
 fn doc_end(
     src: &[u8],
     n: usize,
@@ -100,7 +100,7 @@ fn doc_end(
     }
 }
 
-// Behind the label's first byte, which stands at `start`.
+// After the label's first byte, which stands at `start`.
 fn doc_name(src: &[u8], n: usize, end: bool, kind: DocStringKind, start: usize) -> Opening
     requires { ⌜ n ≤ length (now src) ⌝ }
     ensures { λ r. ⌜ r ≡ docName kind start 1 end n (drop n (now (src .entry))) ⌝ }
@@ -133,7 +133,7 @@ fn doc_start(src: &[u8], n: usize, end: bool, kind: DocStringKind) -> Opening
     Opening::Other
 }
 
-// Behind `<<<`.
+// After `<<<`.
 fn doc_label(src: &[u8], n: usize, end: bool) -> Opening
     ensures { λ r. ⌜ r ≡ docLabel end n (drop n (now (src .entry))) ⌝ }
 {
@@ -146,7 +146,7 @@ fn doc_label(src: &[u8], n: usize, end: bool) -> Opening
     doc_start(src, n, end, DocStringKind::Heredoc)
 }
 
-// Behind `<<`.
+// After `<<`.
 fn third_less(src: &[u8], n: usize, end: bool) -> Opening
     ensures { λ r. ⌜ r ≡ thirdLess end n (drop n (now (src .entry))) ⌝ }
 {
@@ -159,7 +159,7 @@ fn third_less(src: &[u8], n: usize, end: bool) -> Opening
     Opening::Other
 }
 
-// Behind `<`.
+// After `<`.
 fn opening_at(src: &[u8], n: usize, end: bool) -> Opening
     ensures { λ r. ⌜ r ≡ opening end n (drop n (now (src .entry))) ⌝ }
 {

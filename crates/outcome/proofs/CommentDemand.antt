@@ -1,6 +1,6 @@
 -- Demand 3 for comments: `slash-answers`, `hash-answers`, from any position on. Assumes nothing.
 -- A wait's two continuations: of a line's comment the end and one byte more, which it takes; of an open `/*` the end, where it is
--- refused, and `*/`; behind a lone `/` the end and another; behind a lone `#` the end and `[`.
+-- refused, and `*/`; after a lone `/` the end and another; after a lone `#` the end and `[`.
 use mathlib.Core.Path.{_≡_, refl, sym, ap, _∙_}
 use mathlib.Core.Bool.{Bool, true, false, _&&_, _||_, false≢true}
 use mathlib.Core.List.{List, [], _∷_, _++_}
@@ -64,7 +64,7 @@ commentEnd-stays kind k (b ∷ next ∷ rest) more h =
     rw (ends-next kind b next rest more)
     (if-stays (ends kind b (next ∷ rest)) (λ z. refl) (commentEnd-stays kind (suc k) (next ∷ rest) more) h)
 
--- behind a part that has no end, bytes that make none of its last one
+-- after a part that has no end, bytes that make none of its last one
 module _ (kind : CommentKind) (more : List ℕ) (apart : (b : ℕ) → ends kind b more ≡ ends kind b []) where
   ends-seam : (b : ℕ) (rest : List ℕ) → ends kind b (rest ++ more) ≡ ends kind b rest
   ends-seam b [] = apart b
@@ -114,7 +114,7 @@ module _ (n : ℕ) where
   commented-append kind k part more CommentEnd.Undecided x = refl
 
 module _ (n p : ℕ) where
-  -- with the end, or with what comes behind the part
+  -- with the end, or with what comes after the part
   abbrev Comment : CommentKind → ℕ → List ℕ → List ℕ → List ℕ → Outcome
   Comment kind k xs rest more = commentAt kind k true n (xs ++ more) (rest ++ more)
 

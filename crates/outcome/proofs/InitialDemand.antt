@@ -173,7 +173,7 @@ openTag-splits [] k = record { more = bytes "php"; more-bytes = refl; now = refl
 openTag-splits (b ∷ xs) k =
     if-waits TagSplits (b is "=") (λ e. open-told) (fullTag-splits (bytes "php") (b ∷ xs) refl refl) k
 
--- nothing stands behind the `<`, or a tag has begun
+-- nothing stands after the `<`, or a tag has begun
 data TagOpens (f : List ℕ → Tag) (xs : List ℕ) : Type 0 where
   bare : xs ≡ [] → TagOpens f xs
   begun : TagSplits f → TagOpens f xs

@@ -1,5 +1,5 @@
 -- Demand 3 for runs of identifier bytes and for the modes LookingForVarname, LookingForProperty and VarOffset. Assumes nothing.
---   named-stays, named-cut, named-told   a run that is told stays; one that is not goes on behind the part; at the end it is told
+--   named-stays, named-cut, named-told   a run that is told stays; one that is not goes on after the part; at the end it is told
 --   lookingForVarname-demands, lookingForProperty-demands, varOffset-demands   the modes, from any position on
 use mathlib.Core.Path.{_≡_, refl, ap, _∙_}
 use mathlib.Core.Bool.{Bool, true, false}
@@ -94,7 +94,7 @@ varname-append n part rest (Run.Over k) h =
     rw (drop-append-le k part rest a, bracketed-append (drop k part) rest b, take-append-le k part rest a)
 varname-append n part rest Run.Undecided h = refl
 
--- the name as it stands, or a brace behind it
+-- the name as it stands, or a brace after it
 varname-answers : (p n b : ℕ) (xs : List ℕ)
     → Answers p (varname n (b ∷ xs) (named false 1 xs)) (λ c. varname n (b ∷ (xs ++ c)) (named true 1 (xs ++ c)))
 unfolding varname named isBracketed limited every isIdentifier isStart isLetter isDigit bytes

@@ -1,4 +1,4 @@
--- The label of a text block that opens: `opening-label`, 1 to 64 identifier bytes of the source, and the block's break behind it.
+-- The label of a text block that opens: `opening-label`, 1 to 64 identifier bytes of the source, and the block's break after it.
 -- Assumes nothing.
 use Prim.Native.Nat.{ℕ, zero, suc, _+_, _-_, _≤_, _<_}
 use mathlib.Core.Path.{_≡_, refl, ap, subst, _∙_}

@@ -27,7 +27,7 @@ module _ (n hi : ℕ) where
         all = (record { low = omega arith; high = omega arith; detail = omega arith }, tt);
       }
 
-  -- a part that is left out where it is empty, and a piece behind it
+  -- a part that is left out where it is empty, and a piece after it
   pub parted-inside : (kind after : ℕ) (value : List ℕ) (p : Piece) → n ≤ p .place → p .place ≤ after
       → p .detail ≤ after → n + (length value + length (p .value)) ≤ after → after ≤ hi
       → ToldInside n hi (unlessEmpty kind n value ++ p ∷ []) after

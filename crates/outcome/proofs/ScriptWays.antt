@@ -19,7 +19,7 @@ use Rattle.token.specs.Kinds.{inlineHtml, comment}
 use Rattle.unit.specs.declared.Mode.{Mode}
 use Rattle.unit.specs.Readings as unit
 use Rattle.unit.proofs.Inside as unit-inside
-use Rattle.number.proofs.Progress.{digit-passes, point-passes}
+use Rattle.number.proofs.Values.{digit-passes, point-passes}
 use Rattle.outcome.specs.declared.Change.{Change}
 use Rattle.outcome.specs.declared.CommentEnd.{CommentEnd}
 use Rattle.outcome.specs.declared.CommentKind.{CommentKind}

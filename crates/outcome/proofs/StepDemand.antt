@@ -2,12 +2,13 @@
 --   step-waits          with more announced a step waits exactly when two continuations of the source get different
 --                       outcomes; else every longer source gets the same
 --   step-never-waits    with the end announced no step waits
---   number-outcome-.., single-outcome-.., double-outcome-..   the same of the readings, wherever the cursor stands
+--   Reads, number-reads, single-reads, double-reads   the same of the readings, wherever the cursor stands, and that
+--                       they are readable; number-, single-, double-outcome-waits say demand 3 alone
 use mathlib.Core.Path.{_≡_, refl, ap}
 use mathlib.Core.Bool.{Bool, true, false}
 use mathlib.Core.List.{List, [], _++_}
 use Prim.Native.Nat.{ℕ, _≤_}
-use lib.ListN.{length, drop}
+use lib.ListN.{length}
 use lib.Seq.{drop-append-le}
 use Rattle.byte.specs.Words.{every}
 use Rattle.byte.specs.Demand.{isByte, Waits}
@@ -27,7 +28,7 @@ use Rattle.outcome.specs.Outcomes.{Outcome, limited}
 use Rattle.outcome.specs.Texts.{literal, numbered}
 use Rattle.outcome.specs.Steps.{topFrame, framed, rest, stepOutcome, numberOutcome, singleOutcome, doubleOutcome}
 use Rattle.outcome.proofs.Demand.{waits-along, Demands, mode-waits, limited-waits, limited-told}
-use Rattle.outcome.proofs.StepWays.{label-some}
+use Rattle.outcome.proofs.StepWays.{label-some, Readable, number-readable, single-readable, double-readable}
 use Rattle.outcome.proofs.InitialDemand.{initial-demands}
 use Rattle.outcome.proofs.LookingDemand.{lookingForVarname-demands, lookingForProperty-demands, varOffset-demands}
 use Rattle.outcome.proofs.ScriptDemand.{scripting-demands}
@@ -111,59 +112,55 @@ module _ (part : List ℕ) (s : Session) (b : every isByte part ≡ true) (good 
 
 -- ---- the readings
 
--- of what is left behind the cursor, whatever is read of it
-module _ (mode : Bool → List ℕ → Outcome) (n : ℕ) (d : Demands n mode) where
-  behind-waits : (part : List ℕ) → n ≤ length part
-      → Waits Outcome.Wait (λ xs. mode false (drop n xs)) (λ xs. mode true (drop n xs)) part
-  behind-waits part h =
-      waits-along Outcome.Wait _ _ (λ xs. mode false (drop n xs)) (λ xs. mode true (drop n xs)) (drop n part) part refl
-      (λ more. ap (mode true) (drop-append-le n part more h))
-      (mode-waits n mode d (drop n part))
+-- demand 3 of a reading's outcome, wherever the cursor stands
+abbrev OutcomeWaits : (List ℕ → Bool → Session → Outcome) → Session → Type 0
+OutcomeWaits outcome s = (part : List ℕ) → s .position ≤ length part
+    → Waits Outcome.Wait (λ xs. outcome xs false s) (λ xs. outcome xs true s) part
 
-module _ (s : Session) where
-  abbrev numberAs : Bool → List ℕ → Outcome
-  numberAs end xs = numbered (s .position) (numberAt end (s .position) xs)
+-- what the calls ask of a reading: it enters no frame, lies within the source and waits as it should
+pub record Reads (outcome : List ℕ → Bool → Session → Outcome) : Type 0 where
+  pub readable : (src : List ℕ) (end : Bool) (s : Session) → Readable src s (outcome src end s)
+  pub waits : (s : Session) → OutcomeWaits outcome s
+  pub never : (src : List ℕ) (s : Session) → outcome src true s ≡ Outcome.Wait → ⊥
 
-  number-demands : Demands (s .position) numberAs
-  number-demands = numbered-demands (s .position) (s .position) (s .position)
+-- of what is left from the cursor on, whatever is read of it
+module _ (read : ℕ → Bool → List ℕ → Outcome) (d : (n : ℕ) → Demands n (read n)) where
+  rest-reads : ((src : List ℕ) (end : Bool) (s : Session) → Readable src s (read (s .position) end (rest src s)))
+      → Reads (λ src end s. read (s .position) end (rest src s))
+  rest-reads readable =
+      record {
+        readable = readable;
+        waits = λ s part h.
+            waits-along Outcome.Wait _ _ (λ xs. read (s .position) false (rest xs s))
+            (λ xs. read (s .position) true (rest xs s)) (rest part s) part refl
+            (λ more. ap (read (s .position) true) (drop-append-le (s .position) part more h))
+            (mode-waits (s .position) (read (s .position)) (d (s .position)) (rest part s));
+        never = λ src s e. d (s .position) .told (rest src s) e;
+      }
 
-  pub number-outcome-waits : (part : List ℕ) → s .position ≤ length part
-      → Waits Outcome.Wait (λ xs. numberOutcome xs false s) (λ xs. numberOutcome xs true s) part
-  unfolding numberOutcome
-  number-outcome-waits part h = behind-waits numberAs (s .position) number-demands part h
+pub number-reads : Reads numberOutcome
+unfolding numberOutcome
+number-reads = rest-reads (λ n end xs. numbered n (numberAt end n xs)) (λ n. numbered-demands n n n) number-readable
 
-  pub number-outcome-never-waits : (src : List ℕ) → numberOutcome src true s ≡ Outcome.Wait → ⊥
-  unfolding numberOutcome
-  number-outcome-never-waits src e = number-demands .told (rest src s) e
+pub single-reads : Reads singleOutcome
+unfolding singleOutcome
+single-reads =
+    rest-reads (λ n end xs. literal literalSingleQuotedString n (textAt Mode.Single [] end n xs))
+    (λ n. literal-demands literalSingleQuotedString n Mode.Single refl tt n n)
+    single-readable
 
-  abbrev singleAs : Bool → List ℕ → Outcome
-  singleAs end xs = literal literalSingleQuotedString (s .position) (textAt Mode.Single [] end (s .position) xs)
+pub double-reads : Reads doubleOutcome
+unfolding doubleOutcome
+double-reads =
+    rest-reads (λ n end xs. literal literalDoubleQuotedString n (textAt Mode.Double [] end n xs))
+    (λ n. literal-demands literalDoubleQuotedString n Mode.Double refl tt n n)
+    double-readable
 
-  single-demands : Demands (s .position) singleAs
-  single-demands =
-      literal-demands literalSingleQuotedString (s .position) Mode.Single refl tt (s .position) (s .position)
+pub number-outcome-waits : (s : Session) → OutcomeWaits numberOutcome s
+number-outcome-waits = number-reads .waits
 
-  pub single-outcome-waits : (part : List ℕ) → s .position ≤ length part
-      → Waits Outcome.Wait (λ xs. singleOutcome xs false s) (λ xs. singleOutcome xs true s) part
-  unfolding singleOutcome
-  single-outcome-waits part h = behind-waits singleAs (s .position) single-demands part h
+pub single-outcome-waits : (s : Session) → OutcomeWaits singleOutcome s
+single-outcome-waits = single-reads .waits
 
-  pub single-outcome-never-waits : (src : List ℕ) → singleOutcome src true s ≡ Outcome.Wait → ⊥
-  unfolding singleOutcome
-  single-outcome-never-waits src e = single-demands .told (rest src s) e
-
-  abbrev doubleAs : Bool → List ℕ → Outcome
-  doubleAs end xs = literal literalDoubleQuotedString (s .position) (textAt Mode.Double [] end (s .position) xs)
-
-  double-demands : Demands (s .position) doubleAs
-  double-demands =
-      literal-demands literalDoubleQuotedString (s .position) Mode.Double refl tt (s .position) (s .position)
-
-  pub double-outcome-waits : (part : List ℕ) → s .position ≤ length part
-      → Waits Outcome.Wait (λ xs. doubleOutcome xs false s) (λ xs. doubleOutcome xs true s) part
-  unfolding doubleOutcome
-  double-outcome-waits part h = behind-waits doubleAs (s .position) double-demands part h
-
-  pub double-outcome-never-waits : (src : List ℕ) → doubleOutcome src true s ≡ Outcome.Wait → ⊥
-  unfolding doubleOutcome
-  double-outcome-never-waits src e = double-demands .told (rest src s) e
+pub double-outcome-waits : (s : Session) → OutcomeWaits doubleOutcome s
+double-outcome-waits = double-reads .waits

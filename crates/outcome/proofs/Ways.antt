@@ -27,8 +27,7 @@ use Rattle.unit.specs.declared.Stop.{Stop}
 use Rattle.unit.specs.Readings as unit
 use Rattle.unit.proofs.Inside as unit-inside
 use Rattle.number.specs.Numbers as number
-use Rattle.number.proofs.Values.{numberAt-inside, numberAt-shorter}
-use Rattle.number.proofs.Progress as number-progress
+use Rattle.number.proofs.Values.{Passes, numberAt-inside, numberAt-shorter}
 use Rattle.outcome.specs.declared.Change.{Change}
 use Rattle.outcome.specs.declared.Run.{Run}
 use Rattle.outcome.specs.Outcomes.{Piece, Outcome, piece}
@@ -183,11 +182,11 @@ module _ {src : List ℕ} {n : ℕ} (a : Asked src n) where
   literal-ways kind m unit.Wait h on x = waits
 
   pub numbered-ways : (end : Bool) (xs : List ℕ) → n + length xs ≤ length src
-      → (a .Moving → number-progress.Passes n (number.numberAt end n xs)) → Way (numbered n (number.numberAt end n xs))
+      → (a .Moving → Passes n (number.numberAt end n xs)) → Way (numbered n (number.numberAt end n xs))
   unfolding numbered
   numbered-ways end xs h on = go (number.numberAt end n xs) refl on
     where
-      go : (r : number.Reading) → number.numberAt end n xs ≡ r → (a .Moving → number-progress.Passes n r)
+      go : (r : number.Reading) → number.numberAt end n xs ≡ r → (a .Moving → Passes n r)
           → Way (numbered n r)
       go (number.Reading.Number kind value after) e on =
           let inside = numberAt-inside end n xs kind value after e in

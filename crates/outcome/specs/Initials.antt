@@ -1,6 +1,6 @@
 -- The mode Initial (document 01, "Rules easily misread"): inline text up to the first tag. The tags: `<?php` in any letter case, then
 -- `<?=`, then `<?`. With no tag left InlineHtml is written even when empty, and the mode stays.
---   fullTag, openTag, tag   behind `<?` and letters of `php`; behind `<?`; behind `<`
+--   fullTag, openTag, tag   after `<?` and letters of `php`; after `<?`; after `<`
 --   tagged                  the first tag from n on
 --   initial                 what contracts cite: the text before the tag, if there is some, and the tag with its own span
 -- `end` says that the text is all there.
@@ -37,7 +37,7 @@ unfoldable pub tag : Bool → List ℕ → Tag
 tag end [] = if end then Tag.None else Tag.Undecided
 tag end (b ∷ rest) = if b is "?" then openTag end rest else Tag.None
 
--- what stands at the `<` at n, or else the first tag behind it
+-- what stands at the `<` at n, or else the first tag after it
 unfoldable pub orLater : Tag → ℕ → Tagged → Tagged
 orLater (Tag.Open kind) n later = Tagged.At kind n
 orLater Tag.None n later = later

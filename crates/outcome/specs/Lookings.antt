@@ -1,7 +1,7 @@
 -- The modes LookingForVarname, LookingForProperty and VarOffset (document 01, "Modes", "Step", refusal 5), and runs of identifier bytes.
 --   named                how many identifier bytes come, where so many are passed
---   lookingForVarname    behind `${`: a name before `[` or `}` is an Identifier; the top becomes Scripting in any case
---   lookingForProperty   behind a variable: `?->`, `->`, or a name, with which the frame is left; else 5, at the cursor
+--   lookingForVarname    after `${`: a name before `[` or `}` is an Identifier; the top becomes Scripting in any case
+--   lookingForProperty   after a variable: `?->`, `->`, or a name, with which the frame is left; else 5, at the cursor
 --   varOffset            in `$a[..]`: one byte is passed, and at `]` the frame is left; nothing left is 1
 -- n is the position of the text's head, `end` says that the text is all there.
 use Prim.Native.Nat.{ℕ, suc, _+_}
@@ -49,7 +49,7 @@ arrowHead kind k end n xs [] = ending end (Outcome.Refused noProperty n)
 arrowHead kind k end n xs (b ∷ rest) =
     if b is ">" then token kind n xs (suc k) Change.Keep else Outcome.Refused noProperty n
 
--- behind a `?`
+-- after a `?`
 unfoldable pub questioned : Bool → ℕ → List ℕ → List ℕ → Outcome
 questioned end n xs [] = ending end (Outcome.Refused noProperty n)
 questioned end n xs (b ∷ rest) = if b is "-" then arrowHead questionArrow 2 end n xs rest else Outcome.Refused noProperty n

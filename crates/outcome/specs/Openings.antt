@@ -1,10 +1,10 @@
 -- The opening of a text block (document 01, the row `<<<'L'` or `<<<L`, then LF or CRLF): L is an identifier of 1 to 64 bytes, and
 -- its run is looked at no further than the 65th. n is the position of the text's head, `end` says that the text is all there.
---   docBreak, lineFeed   behind the label: LF, or CR and LF
---   docQuote             behind a label in quotes
+--   docBreak, lineFeed   after the label: LF, or CR and LF
+--   docQuote             after a label in quotes
 --   docName, docStart    in the label, so long already; at its first byte
---   docLabel             behind `<<<`
---   opening              behind the first `<`
+--   docLabel             after `<<<`
+--   opening              after the first `<`
 --   opened               what contracts cite: the step at that `<`
 use Prim.Native.Nat.{ℕ, suc}
 use mathlib.Core.Bool.{Bool, true}

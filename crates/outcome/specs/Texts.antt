@@ -2,7 +2,7 @@
 --   slice        the bytes of xs, which starts at n, from one place up to another
 --   docKind      the kind of an EndDocString by its indentation
 --   stopKind, stopDetail, stopChange   what ends a text in a mode: the token's kind and detail, and the change of frame
---   texted       a mode's text: its part, if it is not empty, and the token behind it; both bear the span where the call began
+--   texted       a mode's text: its part, if it is not empty, and the token after it; both bear the span where the call began
 --   literal      a quoted string: closed, it is one token; before an interpolation its part, empty or not
 --   numbered     a number
 use Prim.Native.Nat.{ℕ, _-_}

@@ -45,7 +45,7 @@ pub enum DocStringKind {
     Nowdoc,
 }
 
-// What stands at a `<` of a script: a block opens, with its label's range and the place behind its break; or it is another byte.
+// What stands at a `<` of a script: a block opens, with its label's range and the place after its break; or it is another byte.
 pub enum Opening {
     Block {
         kind: DocStringKind,

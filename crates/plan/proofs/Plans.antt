@@ -84,7 +84,7 @@ module _ (src : List ℕ) (end : Bool) where
   pub ending-plans : (o : Outcome) (p : Plan) → Plans src end o p → Plans src end (ending end o) (endingPlan end p)
   ending-plans o p h = either-plans end o Outcome.Wait p Plan.Wait h wait-plans
 
-  -- a sign is passed; nothing is left behind it
+  -- a sign is passed; nothing is left after it
   module _ (at : ℕ) (r : Plan) where
     pub sign-plans : r ≡ goesPlan (at + 1) Change.Keep → Plans src end (goes (suc at) Change.Keep) r
     sign-plans e = rw (e, add-one at) (goes-plans (suc at) Change.Keep)
@@ -94,7 +94,7 @@ module _ (src : List ℕ) (end : Bool) where
     last-sign-plans p e f =
         rw (f, e, add-one at) (ending-plans (goes (suc at) Change.Keep) (goesPlan (suc at) Change.Keep) (goes-plans (suc at) Change.Keep))
 
--- a part, if it is not empty, and the token behind it
+-- a part, if it is not empty, and the token after it
 module _ (src : List ℕ) (end : Bool) (part d : Draft) (after : ℕ) (change : Change) where
   parted-value : (value : List ℕ) → made src end part ≡ value → part .detail ≡ 0 → Ready src end part → Ready src end d
       → Plans src end (Outcome.Told (unlessEmpty (part .kind) (part .place) value ++ pieceOf src end d ∷ []) after change false)

@@ -128,7 +128,7 @@ pub fn ending(end: bool, p: Plan) -> Plan
     Plan::Wait
 }
 
-// A text's part, if it is not empty, and the token behind it.
+// A text's part, if it is not empty, and the token after it.
 pub fn parted(part: Draft, draft: Draft, after: usize, change: Change) -> Plan
     ensures { λ r. ⌜ r ≡ partedPlan part draft after change ⌝ }
 {

@@ -158,7 +158,7 @@ fn scanned(mode: u32, src: &[u8], label: &[u8], at: usize, end: u32) -> Scanned
     text::scan_text(mode_of(mode), src, label, at, end != 0)
 }
 
-// A text from `at` on: what ended it and how long its value is. With `end` 0, more may come behind the source.
+// A text from `at` on: what ended it and how long its value is. With `end` 0, more may come after the source.
 #[no_mangle]
 pub extern "C" fn puretakoi_probe_text(
     mode: u32,
@@ -233,7 +233,7 @@ fn counted(s: number::Scanned) -> Probed
     }
 }
 
-// A number from `at` on: its kind, the place behind it and how long its value is.
+// A number from `at` on: its kind, the place after it and how long its value is.
 #[no_mangle]
 pub extern "C" fn puretakoi_probe_number(src: &[u8], at: usize, end: u32) -> Probed
     ensures { λ r. ⌜ r ≡ askedNumber (now (src .entry)) at end ⌝ }

@@ -4,7 +4,7 @@
 --   Crossed               the refusal or 0, and what the slices of session and answer hold, for a call with a turn
 --   Called                the same with list and pool, for the step and the readings
 --   Stepped, NumberRead, SingleRead, DoubleRead   these four: the numbers read, the call, the numbers written back
---   WalkedOn              a walk behind a step that was done: the session is written back, refused or not
+--   WalkedOn              a walk after a step that was done: the session is written back, refused or not
 --   walkSession, WalkCalled, Walked   the walk: where no step is taken, or the first is refused, the session stays
 --   freshRefusal, Begun   a fresh session
 --   Filed                 a record file or a list: the refusal or 0, and what the lent slice holds

@@ -100,7 +100,7 @@ pub extern "C" fn puretakoi_step(
     layout::put_turn(t, session, answer)
 }
 
-// A walk on from a session, behind a step that was done: what it comes to is written back, refused or not.
+// A walk on from a session, after a step that was done: what it comes to is written back, refused or not.
 fn walk_on(
     src: &[u8],
     end: bool,

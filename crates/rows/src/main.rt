@@ -8,7 +8,7 @@ use state::Answer;
 use state::Choices;
 use state::Reading;
 
-// A number, and a byte behind it.
+// A number, and a byte after it.
 fn print_number(n: u32, after: u8) {
     io::print_decimal(STDOUT_FILENO, n as u64);
     let sign = [after];
@@ -59,7 +59,7 @@ fn is_full(number: u32) -> bool {
 }
 
 // Walks to the script's end; where a table is full the rows are printed and both are emptied, and they have room for any step. A step that
-// is done moves the cursor on or is the one behind a `${`, so there are no more than two to a byte.
+// is done moves the cursor on or is the one after a `${`, so there are no more than two to a byte.
 fn print_script(src: &[u8]) {
     let mut list = [0u32; 2048];
     let mut pool = [0u8; 16384];
@@ -92,7 +92,7 @@ fn print_script(src: &[u8]) {
     }
 }
 
-// Whether standard input can't be read: behind its last byte a read fails, and does not end.
+// Whether standard input can't be read: after its last byte a read fails, and does not end.
 fn is_unreadable() -> bool {
     let mut space = [0u8; 1];
     libc::read(STDIN_FILENO, &mut space) < 0

@@ -44,7 +44,7 @@ unbroken-break (b ∷ c ∷ d ∷ rest) = omega (arith, unbroken-break (c ∷ d 
 lf-cr : (b : ℕ) → (b is "\n") ≡ true → (b is "\r") ≡ false
 lf-cr b h = other-byte (λ x. x is "\n") (code "\r") b refl h
 
--- behind a line, what follows decides
+-- after a line, what follows decides
 breakOf-line : (cr : Bool) (line : List ℕ) (b : ℕ) (rest : List ℕ) → isLine line ≡ true
     → breakOf cr (line ++ (b ∷ rest)) ≡ breakOf false (b ∷ rest)
 unfolding breakOf isLine

@@ -1,8 +1,8 @@
 -- Request P1, law by law: what follows a label decides whether it closes. Assumes nothing.
 --   label-ends       a label at the announced end closes
 --   label-waits      with more announced it waits
---   label-settled    one byte behind it settles it, whether or not more is announced
---   behind-label     worked sheets x and y: what the reading says for each byte behind the label EOT
+--   label-settled    one byte after it settles it, whether or not more is announced
+--   behind-label     worked sheets x and y: what the reading says for each byte after the label EOT
 use Prim.Native.Nat.{ℕ}
 use mathlib.Core.Path.{_≡_, refl}
 use mathlib.Core.Bool.{Bool, true, false}
@@ -43,7 +43,7 @@ one-line : (b : ℕ) → lines (b ∷ []) ≡ (b ∷ []) ∷ []
 unfolding lines inFront
 one-line b = choice (λ ls. ls ≡ (b ∷ []) ∷ []) (b is "\n") _ _ (λ e. refl) (λ e. refl)
 
--- a row, and the label with one byte behind it: an identifier byte makes that a row, too, and no line closes
+-- a row, and the label with one byte after it: an identifier byte makes that a row, too, and no line closes
 pub behind-label : (end : Bool) (b : ℕ)
     → sheetAt (bytes "EOT") end 0 (bytes "a\nEOT" ++ b ∷ [])
     ≡ (if isIdentifier b then (if end then Reading.Refused 1 6 else Reading.Wait)

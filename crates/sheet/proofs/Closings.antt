@@ -1,7 +1,7 @@
 -- What one line is to the block, with more announced and with the end announced.
 --   closingLabel-bounded   a closing label is the ported one, and what follows it
 --   lineKind-stays   what is told of a line stays
---   lineKind-open    a line that is not told is one of the body, if the end is announced there or behind one identifier byte more
+--   lineKind-open    a line that is not told is one of the body, if the end is announced there or after one identifier byte more
 --   lineKind-told    a line with a break is told
 --   lineKind-ended   with the end announced every line is told
 -- Assumes nothing.
@@ -28,7 +28,7 @@ use Rattle.sheet.proofs.Lines.{hasBreak}
 
 -- ---- the ported label, and what follows it
 
--- a label that stands there closes by what stands behind it
+-- a label that stands there closes by what stands after it
 unfoldable pub bounded : Match → Match → Match
 bounded Match.Whole behind = behind
 bounded Match.Other behind = Match.Other
@@ -83,7 +83,7 @@ judgedLine-undecided Match.Undecided ind amount e = refl
 
 -- ---- what is not told
 
--- a byte behind the label tells
+-- a byte after the label tells
 byte-told : {A : Type 0} (t : Bool) → (if t then Match.Other else Match.Whole) ≡ Match.Undecided → A
 byte-told true z = clash cc
 byte-told false z = clash cc

@@ -3,7 +3,7 @@
 --   sheet-never-waits   with the end announced the reading doesn't wait
 --   sheet-endings       a wait has two continuations apart by their endings: the empty one and one identifier byte
 -- What is told of a line stays, and a line with a break is told (Closings). So an open block misses its closing line where the
--- text ends or, if that is behind the whole label, where it ends with one identifier byte more. Assumes nothing.
+-- text ends or, if that is after the whole label, where it ends with one identifier byte more. Assumes nothing.
 use Prim.Native.Nat.{ℕ, _+_}
 use mathlib.Core.Logic.{_⊎_, inl, inr, ⊎-elim}
 use mathlib.Core.Path.{_≡_, refl, ap, sym, _∙_}
@@ -78,14 +78,14 @@ module _ (label : List ℕ) (h : Label label) where
   block-stays n (alike {line} c) k =
       told-stays n line _ _ _ _ (line-alike line) (λ z. block-stays (n + length line) c z) k
 
-  -- a line of the body, and behind it none that closes
+  -- a line of the body, and after it none that closes
   missed : (n : ℕ) (line : List ℕ) (later : List (List ℕ)) → lineKind label true Indentation.None 0 line ≡ Line.Body
       → block label true (n + length line) later ≡ Missing (n + length line + total later)
       → block label true n (line ∷ later) ≡ Missing (n + (length line + total later))
   unfolding block told withLine
   missed n line later q e = rw (q, e) (ap Missing (omega arith))
 
-  -- an open block misses its closing line where the text ends, or behind one identifier byte more
+  -- an open block misses its closing line where the text ends, or after one identifier byte more
   block-open : (n : ℕ) {ls ls′ : List (List ℕ)} → Grown ls ls′ → block label false n ls ≡ Open
       → (block label true n ls ≡ Missing (n + total ls)) ⊎ (block label true n ls′ ≡ Missing (n + total ls′))
   unfolding block told withLine total
@@ -184,7 +184,7 @@ module _ (label : List ℕ) (h : Label label) (n : ℕ) where
       let z : q ≡ n + total (lines xs) = rw m at (block-stands label true n (lines-lined xs)) in
       omega (arith, total-lines xs)
 
-  -- an open block is refused where the text ends, or behind one identifier byte more
+  -- an open block is refused where the text ends, or after one identifier byte more
   sheet-open : (part : List ℕ) → sheetAt label false n part ≡ Reading.Wait
       → (sheetAt label true n part ≡ Reading.Refused 1 (n + length part))
       ⊎ (sheetAt label true n (part ++ oneMore) ≡ Reading.Refused 1 (n + length (part ++ oneMore)))

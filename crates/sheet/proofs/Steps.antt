@@ -46,7 +46,7 @@ module _ (src : List ℕ) (at n : ℕ) (h : at < length src) (r : RunEnd isNoBre
 
 pub ruleset lineEnds = (lineEnd-break, lineEnd-end)
 
--- behind the label: an identifier byte, another byte, or the end of the part
+-- after the label: an identifier byte, another byte, or the end of the part
 module _ (line : List ℕ) (at : ℕ) (end : Bool) where
   pub behind-end : length line ≤ at → end ≡ true → Match.Whole ≡ closingLabel [] end (drop at line)
   unfolding closingLabel

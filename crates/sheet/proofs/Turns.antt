@@ -21,7 +21,7 @@ use Rattle.sheet.proofs.Lines.{flat, flat-lines}
 use Rattle.sheet.proofs.Inside.{LineCloses, line-inside}
 use Rattle.sheet.proofs.Steps.{offset-length}
 
--- the lines of a text are its first line and the lines behind it
+-- the lines of a text are its first line and the lines after it
 first-line : (b : ℕ) (rest : List ℕ)
     → lines (b ∷ rest) ≡ take (lineLength (b ∷ rest)) (b ∷ rest) ∷ lines (drop (lineLength (b ∷ rest)) (b ∷ rest))
 unfolding lines lineLength inFront

@@ -24,7 +24,7 @@ use Rattle.unit.specs.Readings.{Reading}
 use Rattle.sheet.specs.declared.Line.{Line}
 use Rattle.sheet.specs.Bodies.{Text, Kept, Stray, lines, inFront, isBreak, isOver, unindented, followed, bodyText, unbroken}
 
--- the label against what is left of a line behind its blanks
+-- the label against what is left of a line after its blanks
 unfoldable pub closingLabel : List ℕ → Bool → List ℕ → Match
 closingLabel [] end [] = if end then Match.Whole else Match.Undecided
 closingLabel [] end (b ∷ rest) = if isIdentifier b then Match.Other else Match.Whole
@@ -37,7 +37,7 @@ judgedLine Match.Whole end ind amount = Line.Closes ind amount
 judgedLine Match.Other end ind amount = Line.Body
 judgedLine Match.Undecided end ind amount = if end then Line.Body else Line.Undecided
 
--- behind so many blanks
+-- after so many blanks
 unfoldable pub lineKind : List ℕ → Bool → Indentation → ℕ → List ℕ → Line
 lineKind label end ind amount [] = judgedLine (closingLabel label end []) end ind amount
 lineKind label end ind amount (b ∷ rest) =
@@ -69,7 +69,7 @@ unfoldable pub filled : Text → Indentation → ℕ → ℕ → ℕ → Reading
 filled (Kept text) ind amount place after = Reading.Text (unbroken text) (Stop.Label ind amount) place after
 filled (Stray p) ind amount place after = Reading.Refused strayIndentation p
 
--- the lines of a body that starts at n, behind which the label stands
+-- the lines of a body that starts at n, after which the label stands
 unfoldable pub stripped : ℕ → ℕ → List (List ℕ) → Indentation → ℕ → ℕ → Reading
 stripped size n body Indentation.None amount place =
     filled (bodyText (record { blank = code " "; width = 0 }) n body) Indentation.None amount place (place + size)

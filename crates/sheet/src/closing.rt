@@ -13,7 +13,7 @@ ghost use Rattle.sheet.specs.Bodies.{lines};
 ghost use Rattle.sheet.specs.Sheets.{closingLabel, lineKind, block};
 ghost use Rattle.sheet.specs.Code.{LineEnd, indentation, found};
 
-// Where the line at `at` ends, behind its break.
+// Where the line at `at` ends, after its break.
 pub fn line_end(src: &[u8], at: usize) -> usize
     requires { ⌜ at < length (now src) ⌝ }
     ensures { λ r. ⌜ LineEnd (now (src .entry)) at r ⌝ }
@@ -25,7 +25,7 @@ pub fn line_end(src: &[u8], at: usize) -> usize
     n
 }
 
-// What stands behind a label that may close: another byte than an identifier's, or the announced end.
+// What stands after a label that may close: another byte than an identifier's, or the announced end.
 fn behind_label(line: &[u8], at: usize, end: bool) -> Match
     requires { ⌜ at ≤ length (now line) ⌝ }
     ensures { λ r. ⌜ r ≡ closingLabel [] end (drop at (now (line .entry))) ⌝ }
@@ -42,7 +42,7 @@ fn behind_label(line: &[u8], at: usize, end: bool) -> Match
     Match::Undecided
 }
 
-// The label from `at` on, and no identifier byte behind it.
+// The label from `at` on, and no identifier byte after it.
 fn closing_label(line: &[u8], at: usize, label: &[u8], end: bool) -> Match
     requires { ⌜ (at ≤ length (now line)) × (length (now line) ≤ 65536) × (length (now label) ≤ 64) ⌝ }
     ensures { λ r. ⌜ r ≡ closingLabel (now (label .entry)) end (drop at (now (line .entry))) ⌝ }

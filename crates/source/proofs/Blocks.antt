@@ -59,7 +59,7 @@ noneOf-or hit w x y z b = go hit (eqb b w) (eqb b x) (eqb b y) (eqb b z)
 
 pub ruleset meeting = (meeting-first, meeting-end, meeting-on, noBreak-or, noneOf-or)
 
--- where the first n pass, a run is n longer than the one behind them
+-- where the first n pass, a run is n longer than the one after them
 run-every : (test : ℕ → Bool) (xs : List ℕ) (n : ℕ) → n ≤ length xs → every test (take n xs) ≡ true → run test xs ≡ n + run test (drop n xs)
 unfolding run every
 run-every test xs zero h e = omega arith

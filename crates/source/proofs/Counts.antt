@@ -131,7 +131,7 @@ module _ (part : List ℕ) where
 
 pub ruleset walkingBack = (unbroken-first, unbroken-block, unbroken-on, lineStart-here, lineStart-none)
 
--- no second start stands further on: the byte before it would be an LF behind the first
+-- no second start stands further on: the byte before it would be an LF after the first
 later : (part : List ℕ) (r r′ : ℕ) → LineStart part r → LineStart part r′ → r < r′ → ⊥
 unfolding isNoBreak
 later part r r′ s t h =
@@ -169,7 +169,7 @@ passed-line p (b ∷ xs) = passed-line (passedByte p b) xs ∙ go (eqb b 10) (pa
     go true q e f = omega (arith, e refl)
     go false q e f = rw (f refl)
 
--- the cursor behind an LF
+-- the cursor after an LF
 passed-break : (p : Span) (xs : List ℕ) → passed p (xs ++ 10 ∷ []) ≡ record { line = p .line + breaks (xs ++ 10 ∷ []); column = 1; position = p .position + length (xs ++ 10 ∷ []) }
 unfolding passed passedByte breaks
 passed-break p xs =

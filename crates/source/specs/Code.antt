@@ -41,7 +41,7 @@ pub record Unbroken (part : List ℕ) (i : ℕ) : Type 0 where
   pub inside : i ≤ length part
   pub clear : every isNoBreak (drop i part) ≡ true
 
--- r is where a part's last line starts: behind its last LF, or at 0 where it has none
+-- r is where a part's last line starts: after its last LF, or at 0 where it has none
 pub record LineStart (part : List ℕ) (r : ℕ) : Type 0 where
   pub last : Unbroken part r
   pub behind : 0 < r → getD part (r - 1) 0 ≡ 10

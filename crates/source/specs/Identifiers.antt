@@ -1,4 +1,4 @@
--- The identifier at a place (document 01, "Identifiers"): a start byte and the identifier bytes behind it.
+-- The identifier at a place (document 01, "Identifiers"): a start byte and the identifier bytes after it.
 --   identifierLength   its length at the head of a text; 0 where there is none
 --   identifierAt       its bytes at a place of the source, a part of the source itself; empty where there is none
 use Prim.Native.Nat.{ℕ, suc}

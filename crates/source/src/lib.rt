@@ -175,7 +175,7 @@ fn last_block(part: &[u8]) -> usize
     i
 }
 
-// The place behind the last LF of a part; 0 where there is none.
+// The place after the last LF of a part; 0 where there is none.
 fn line_start(part: &[u8]) -> usize
     ensures { λ r. ⌜ LineStart (now (part .entry)) r ⌝ }
 {

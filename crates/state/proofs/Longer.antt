@@ -1,5 +1,5 @@
 -- What holds of a session over a part of the source holds over a longer source. Assumes nothing.
---   labelBytes-append, isLabel-append, isFrame-append, good-append   more text behind
+--   labelBytes-append, isLabel-append, isFrame-append, good-append   more text after
 --   every-part      a part of a list whose members pass a test
 --   top-good        the top frame of a good session is a frame
 use Prim.Native.Nat.{ℕ, zero, suc, _+_, _-_, _≤_, _<_}

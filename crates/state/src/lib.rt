@@ -37,7 +37,7 @@ pub struct Slot {
 pub enum Reading {
     // As the Rust reads them.
     Ported,
-    // As a sheet: the closing line's indentation comes off each row, and no identifier byte stands behind a closing label.
+    // As a sheet: the closing line's indentation comes off each row, and no identifier byte stands after a closing label.
     Sheet,
 }
 

@@ -1,5 +1,4 @@
 pub mod Lines
-pub mod Modes
 pub mod Runs
 pub mod Scans
 pub mod Writes

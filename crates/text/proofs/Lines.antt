@@ -9,7 +9,7 @@ use lib.ListN.{length, getD, drop}
 use borrow.Author.Tests.{eqb-true, not-false}
 use Rattle.byte.specs.Bytes.{isBlank, isNoBreak}
 use Rattle.source.specs.Code.{RunEnd}
-use Rattle.byte.proofs.Tests.{choice}
+use Rattle.byte.proofs.Tests.{choice, arm-here}
 use Rattle.unit.specs.declared.Indentation.{Indentation}
 use Rattle.unit.specs.declared.Match.{Match}
 use Rattle.unit.specs.declared.Mode.{Mode}
@@ -21,7 +21,6 @@ use Rattle.unit.specs.Units.{unitAt}
 use Rattle.unit.specs.Readings.{Reading, Text, Refused, Wait, afterOf, losesBreak, textAt}
 use Rattle.text.specs.declared.Scanned.{Scanned}
 use Rattle.text.specs.Code.{isPlain, bytesOf, valueLength, ended, unclosed, measured}
-use Rattle.text.proofs.Modes.{nowdoc-line}
 use Rattle.text.proofs.Runs.{run-after, runEnd-stop}
 use Rattle.text.proofs.Scans.{behind, Scanning, scanning-first, scanning-end, unit-stop, unit-on, run-on}
 
@@ -114,7 +113,8 @@ module _ (label : List ℕ) (end : Bool) (src : List ℕ) (at : ℕ) where
         break = eqb-true (getD src n 0) 10 (not-false (eqb (getD src n 0) 10) (runEnd-stop isNoBreak src i n p h))
 
         unit : u ≡ unitAt Mode.Nowdoc label end n (getD src n 0) (drop (n + 1) src)
-        unit = nowdoc-line label end n (getD src n 0) (drop (n + 1) src) u break e
+        unfolding unitAt
+        unit = arm-here u _ _ (getD src n 0) 10 break e
 
         pub lining-stop : (r : Scanned) → width ≡ 0 → r ≡ ended Mode.Nowdoc (n - at) false u
             → r ≡ measured (textAt Mode.Nowdoc label end at (drop at src))

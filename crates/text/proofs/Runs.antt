@@ -14,6 +14,7 @@ use Rattle.source.specs.Code.{RunEnd}
 use Rattle.byte.proofs.Tests.{choice, none-of}
 use Rattle.unit.specs.declared.Mode.{Mode}
 use Rattle.unit.specs.declared.Stop.{Stop}
+use Rattle.unit.specs.declared.TextUnit.{TextUnit}
 use Rattle.unit.specs.Interpolations.{plain}
 use Rattle.unit.specs.Units.{unitAt}
 use Rattle.unit.specs.Readings.{Reading, Text, Refused, Wait, onto, taken, afterOf, collected, losesBreak}
@@ -22,6 +23,11 @@ use Rattle.text.specs.Code.{isPlain, lastBreak}
 -- one mode's run is that of its arm
 pub plain-arm : (m arm : Mode) (src : List ℕ) (at r : ℕ) → m ≡ arm → RunEnd (isPlain arm) src at r → RunEnd (isPlain m) src at r
 plain-arm m arm src at r e h = rw e h
+
+-- and so is what stands at a place; a mode that has no label does not look at it
+pub unit-arm : (m arm : Mode) (label : List ℕ) (end : Bool) (n b : ℕ) (rest : List ℕ) (r : TextUnit) → m ≡ arm
+    → r ≡ unitAt arm label end n b rest → r ≡ unitAt m label end n b rest
+unit-arm m arm label end n b rest r e h = rw e h
 
 -- the unit of a byte that stands for itself
 plain-unit : (m : Mode) (label : List ℕ) (end : Bool) (n b : ℕ) (rest : List ℕ) → isPlain m b ≡ true
@@ -56,9 +62,9 @@ onto-cons b vs (Text text stop from after) = refl
 onto-cons b vs (Refused number place) = refl
 onto-cons b vs Wait = refl
 
--- a reading is the run at its start, and the reading from behind the run
+-- a reading is the run at its start, and the reading from after the run
 module _ (m : Mode) (label : List ℕ) (end : Bool) where
-  -- the reading from k bytes behind n on
+  -- the reading from k bytes after n on
   abbrev from : ℕ → List ℕ → ℕ → Reading
   from n xs k = collected m label end 0 (n + k) (drop k xs)
 
@@ -105,7 +111,7 @@ module _ (m : Mode) (label : List ℕ) (end : Bool) where
     pub run-length : length (take (n - i) (drop i src)) ≡ n - i
     run-length = length-take-le (n - i) (drop i src) (omega (arith, length-drop i src, p .inside))
 
--- the byte behind a run does not pass its test
+-- the byte after a run does not pass its test
 run-stop : (test : ℕ → Bool) (xs : List ℕ) → run test xs < length xs → test (getD xs (run test xs) 0) ≡ false
 unfolding run
 run-stop test [] = λ h. absurd (omega arith)

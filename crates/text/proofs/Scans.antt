@@ -135,7 +135,7 @@ trimmed-length (b ∷ c ∷ rest) = go (lastBreak (c is "\n") rest) (trimmed-len
     go true e = omega arith
     go false e = omega arith
 
--- a reading measured behind len bytes of text
+-- a reading measured after len bytes of text
 unfoldable pub behind : Mode → ℕ → Bool → Reading → Scanned
 behind m len broken (Text text stop from after) = Scanned.Text (valueLength m (len + length text) (lastBreak broken text) stop) stop from after
 behind m len broken (Refused number place) = Scanned.Refused number place
@@ -178,7 +178,7 @@ utf8-break broken c = choice Same (ltb c 0x80) _ _ (λ e. refl) (λ e. choice Sa
     high : ltb c 0x80 ≡ false → (0x80 + c % 64 is "\n") ≡ (c is "\n")
     high e = ne-eqb (0x80 + c % 64) 10 (λ z. omega arith) ∙ sym (ne-eqb c 10 (λ z. omega (arith, ltb-false c 0x80 e)))
 
--- a unit that is text: its bytes come before what is read behind it, and it is a break or not
+-- a unit that is text: its bytes come before what is read after it, and it is a break or not
 pub text-taken : (u : TextUnit) (later : Reading) → (length (bytesOf u) ≡ 0 → ⊥) → taken u later ≡ onto (bytesOf u) later
 unfolding taken bytesOf
 text-taken (TextUnit.Byte value after) later h = refl
@@ -231,7 +231,7 @@ ended-taken m len broken (TextUnit.Ends stop from after) later h =
 ended-taken m len broken (TextUnit.Fault number place) later h = refl
 ended-taken m len broken TextUnit.Undecided later h = refl
 
--- one unit of the source: where it lies, and what is read behind it
+-- one unit of the source: where it lies, and what is read after it
 module _ (m : Mode) (label : List ℕ) (end : Bool) (src : List ℕ) (i : ℕ) (h : i < length src) (u : TextUnit) (e : u ≡ unitAt m label end i (getD src i 0) (drop (i + 1) src)) where
   pub unit-turn : i < afterOf u → collected m label end 0 i (drop i src) ≡ taken u (collected m label end 0 (afterOf u) (drop (afterOf u) src))
   unit-turn on =
@@ -305,7 +305,7 @@ module _ (m : Mode) (label : List ℕ) (end : Bool) (src : List ℕ) (at : ℕ) 
               ∙ rw (run-turn m label end src i n p, behind-onto m len broken bytes (collected m label end 0 n (drop n src)), run-length m label end src i n p);
         }
 
-  -- a turn: the run from i to n, and the unit behind it
+  -- a turn: the run from i to n, and the unit after it
   module _ (i len : ℕ) (broken : Bool) (s : Scanning m label end src at i len broken) (n : ℕ) (p : RunEnd (isPlain m) src i n) where
     passed : Scanning m label end src at n (len + (n - i)) (lastBreak broken (take (n - i) (drop i src)))
     passed = run-on i len broken s n p

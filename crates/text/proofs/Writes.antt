@@ -342,7 +342,7 @@ module _ (m : Mode) (label : List ℕ) (end : Bool) (src : List ℕ) (at len : �
         pub putting-size : j + (n - i) ≤ len
         putting-size = omega (arith, run-fits, run-size)
 
-  -- a turn: the run from i to n, and the unit behind it
+  -- a turn: the run from i to n, and the unit after it
   module _ (dst : List ℕ) (i j : ℕ) (q : Putting m label end src at len old dst i j) (h : j < len)
       (n : ℕ) (e : RunEnd (isPlain m) src i n) (run : List ℕ) (f : run ≡ laid dst j (take (n - i) (drop i src))) where
     behind : Putting m label end src at len old run n (j + (n - i))

@@ -1,6 +1,6 @@
 -- A text reading as the code has it: measured first, and then written.
 --   Here          a place of a source that is not too long
---   isPlain       a byte that stands for itself in a mode: its unit is that byte, whatever comes behind it
+--   isPlain       a byte that stands for itself in a mode: its unit is that byte, whatever comes after it
 --   bytesOf       the bytes of the value that a unit is
 --   isBreak       a unit that is a break, also one from an escape
 --   lastBreak     of bytes: whether the last of them is a break

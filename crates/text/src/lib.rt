@@ -50,7 +50,7 @@ fn width_of(u: TextUnit) -> usize
     }
 }
 
-// The place behind a unit that is text.
+// The place after a unit that is text.
 fn after_of(u: TextUnit) -> usize
     ensures { λ r. ⌜ r ≡ afterOf u ⌝ }
 {
@@ -185,7 +185,7 @@ fn last_break(src: &[u8], i: usize, n: usize, broken: bool) -> bool
     src[n - 1] == b'\n'
 }
 
-// The text from `at` on: each turn passes a run of bytes that stand for themselves, and the unit behind it.
+// The text from `at` on: each turn passes a run of bytes that stand for themselves, and the unit after it.
 fn scan_units(m: Mode, src: &[u8], label: &[u8], at: usize, end: bool) -> Scanned
     requires { ⌜ (at ≤ length (now src)) × (length (now src) ≤ 65536) × (length (now label) ≤ 64) ⌝ }
     ensures { λ r. ⌜ r ≡ measured (textAt m (now (label .entry)) end at (drop at (now (src .entry)))) ⌝ }

@@ -64,7 +64,7 @@ pub struct Token {
     pub len: u32,
 }
 
-// Whether `count` records and `len` value bytes fit behind the marks: 7, 8, or 0 where they do. To be asked before any write.
+// Whether `count` records and `len` value bytes fit from the marks on: 7, 8, or 0 where they do. To be asked before any write.
 pub fn room(list: usize, pool: usize, tokens: u32, bytes: u32, count: u32, len: u32) -> u32
     ensures { λ r. ⌜ r ≡ roomRefusal list pool tokens bytes count len ⌝ }
 {

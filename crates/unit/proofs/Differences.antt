@@ -1,6 +1,6 @@
 -- Where a text reading answers otherwise than PHP or its manual, on the smallest inputs: this reading's answer, and with the
 -- ending `-manual` what the manual's tables (specs/Manual.antt) say of the same escape. What PHP 8 does stands in the comment.
--- A block's label is E, and its text begins behind the line of the opening label. Assumes nothing.
+-- A block's label is E, and its text begins after the line of the opening label. Assumes nothing.
 use mathlib.Core.Path.{_≡_, refl}
 use mathlib.Core.Bool.{true}
 use mathlib.Core.List.{[], _∷_}

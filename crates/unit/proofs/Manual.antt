@@ -1,6 +1,6 @@
 -- The reader of escapes says what the PHP manual's tables say:
 --   escape-manual        in double quotes, where octal digits write less than 256
---   escape-overflow      where they write more, it is refusal 3 behind the digits: the manual lets the number overflow
+--   escape-overflow      where they write more, it is refusal 3 after the digits: the manual lets the number overflow
 --   quoteEscape-manual   in single quotes
 -- Digits and code points first, then the tables, entry by entry; `if-both` goes down a reader and an entry at once.
 -- Assumes nothing.
@@ -33,11 +33,11 @@ if-both P false x y = y refl
 
 -- ---- digits
 
--- u says the number that ds write behind the value, told at n
+-- u says the number that ds write after the value, told at n
 abbrev Written : ℕ → ℕ → ℕ → ℕ → TextUnit → List ℕ → Type 0
 Written p base value n u ds = number base value ds < 256 → says p u ≡ Means (number base value ds ∷ []) (n - p + length ds)
 
--- u refuses it, behind them
+-- u refuses it, after them
 abbrev Overflows : ℕ → ℕ → ℕ → TextUnit → List ℕ → Type 0
 Overflows base value n u ds = 256 ≤ number base value ds → u ≡ TextUnit.Fault 3 (n + length ds)
 
@@ -110,7 +110,7 @@ codePoint-end true true p value n = refl
 codePoint-end true false p value n = refl
 codePoint-end false s p value n = refl
 
--- what stands behind the digits that come first
+-- what stands after the digits that come first
 abbrev behind : List ℕ → List ℕ
 behind xs = drop (length (allDigits 16 xs)) xs
 
@@ -193,7 +193,7 @@ braced-says p b (c ∷ xs) h =
     (λ e. codePoint-whole p xs ∙ codeOf-else (allDigits 16 xs) _ itself)
     (λ e. backslash-says p))
 
--- behind the letters
+-- after the letters
 numbers-say : (p b : ℕ) (xs : List ℕ) → number 8 0 (digitsOf 8 3 (b ∷ xs)) < 256
     → says p
     (if ltb (digitValue b) 8 then digits true 8 2 (digitValue b) (suc p) xs

@@ -97,7 +97,7 @@ u-plainly b h = plainly (λ x. x is "u") refl refl refl refl refl refl refl b h
 
 -- ---- what two continuations show, of the text from p on which f looks at
 
--- a byte of the value with only quiet bytes behind, or a fault at the text's end
+-- a byte of the value with only quiet bytes after, or a fault at the text's end
 pub data Falls (ys : List ℕ) : TextUnit → ℕ → Type 0 where
   byte : {value after place : ℕ} → Quiet ys → Falls ys (TextUnit.Byte value after) place
   fault : {number place : ℕ} → Falls ys (TextUnit.Fault number place) place
@@ -128,7 +128,7 @@ pub data Opening (p : ℕ) (xs : List ℕ) (f : List ℕ → TextUnit) : Type 0 
   closes : {value after : ℕ} (more : List ℕ) → every isByte more ≡ true → Quiet xs → f xs ≡ TextUnit.Byte value after
       → Final (f (xs ++ more)) → Opening p xs f
 
--- behind a byte that is text, too
+-- after a byte that is text, too
 abbrev pub Passed : ℕ → ℕ → List ℕ → (List ℕ → TextUnit) → Type 0
 Passed b p xs f = Plainly b × Opening p xs f
 

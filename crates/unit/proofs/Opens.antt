@@ -120,7 +120,7 @@ quoteEscape-waits p (b ∷ xs) k =
 
 -- ---- interpolations
 
--- behind a name: nothing of it, or a property
+-- after a name: nothing of it, or a property
 record LookSplits (xs : List ℕ) (g : List ℕ → Look) : Type 0 where
   more : List ℕ
   more-bytes : every isByte more ≡ true

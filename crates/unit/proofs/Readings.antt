@@ -1,7 +1,7 @@
 -- What a reading is, told once for every mode: where it lies, which bytes its text is, that it goes on, and which
 -- frames it may enter.
 --   collected-skip    a reading that has k bytes to pass is the reading from k bytes on
---   collected-turn    a reading is its first unit and the reading from behind that unit
+--   collected-turn    a reading is its first unit and the reading from after that unit
 --   text-stands       StandsReading (isLiteral m) n (n + length xs) xs (textAt m label end n xs)
 --   text-copied       a text is the source's own bytes where it has as many as were passed
 -- Assumes nothing.
@@ -73,7 +73,7 @@ StandsReading literal n hi xs (Refused number place) = FaultInside n hi number p
 StandsReading literal n hi xs Wait = Unit {0}
 
 module _ (literal : Bool) (hi : ℕ) where
-  -- a byte before a text that begins k bytes behind it
+  -- a byte before a text that begins k bytes after it
   byte-onto : (n b value k : ℕ) (xs : List ℕ) (r : Reading) → (k ≡ 0 → value ≡ b)
       → StandsReading literal (suc n + k) hi (drop k xs) r → StandsReading literal n hi (b ∷ xs) (onto (value ∷ []) r)
   unfolding onto

@@ -62,7 +62,7 @@ pub record PointStands (n hi c after : ℕ) : Type 0 where
   pub inside : after ≤ hi
   pub small : c < 0x110000
 
--- a stop stands behind its gap
+-- a stop stands after its gap
 pub record StopStands (literal : Bool) (n hi : ℕ) (stop : Stop) (from after : ℕ) : Type 0 where
   pub place : n + gap stop ≡ from
   pub order : from ≤ after
@@ -145,7 +145,7 @@ module _ (literal : Bool) (n b hi : ℕ) where
       (digits-stands end base left (value * base + digitValue c) (suc p) xs (omega arith) (omega arith))
       (fitted-stands value p x (omega arith))
 
-  -- behind `\u{` and, where there are some, a digit
+  -- after `\u{` and, where there are some, a digit
   codePoint-stands : (end some : Bool) (value p : ℕ) (xs : List ℕ) → n + 3 ≤ p → (some ≡ true → n + 4 ≤ p)
       → p + length xs ≤ hi
       → Stands literal n b hi (codePoint end some value p xs)

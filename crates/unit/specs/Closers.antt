@@ -1,9 +1,9 @@
--- The closer of a text block, as the Rust has it (document 01, "Rules easily misread"): behind an LF, blanks, then the label's bytes,
+-- The closer of a text block, as the Rust has it (document 01, "Rules easily misread"): after an LF, blanks, then the label's bytes,
 -- followed by anything at all. The LF before a closer is not of the text.
 --   matched     the label against the text
 --   indented    an indentation and one blank more
---   closer      a label behind its indentation; spaces mixed with tabs are refusal 4, at the label
---   line        behind an LF: blanks, then the label; else the LF is of the text
+--   closer      a label after its indentation; spaces mixed with tabs are refusal 4, at the label
+--   line        after an LF: blanks, then the label; else the LF is of the text
 use Prim.Native.Nat.{ℕ, suc, _+_}
 use Prim.Native.Char.{code}
 use mathlib.Core.Bool.{Bool}
@@ -31,7 +31,7 @@ indented Indentation.Space b = if b is " " then Indentation.Space else Indentati
 indented Indentation.Tab b = if b is " " then Indentation.Mixed else Indentation.Tab
 indented Indentation.Mixed b = Indentation.Mixed
 
--- a label of so many bytes at n, behind its indentation
+-- a label of so many bytes at n, after its indentation
 unfoldable pub closer : ℕ → Indentation → ℕ → ℕ → TextUnit
 closer size Indentation.None amount n = TextUnit.Ends (Stop.Label Indentation.None amount) n (n + size)
 closer size Indentation.Space amount n = TextUnit.Ends (Stop.Label Indentation.Space amount) n (n + size)
@@ -44,7 +44,7 @@ judged Match.Whole end n u = u
 judged Match.Other end n u = plain (code "\n") n
 judged Match.Undecided end n u = last end (plain (code "\n") n)
 
--- behind the LF at n and so many blanks
+-- after the LF at n and so many blanks
 unfoldable pub line : List ℕ → Bool → ℕ → Indentation → ℕ → List ℕ → TextUnit
 line label end n ind amount [] = judged (matched label []) end n (closer (length label) ind amount (suc n + amount))
 line label end n ind amount (b ∷ rest) =

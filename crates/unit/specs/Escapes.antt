@@ -1,9 +1,9 @@
--- The one reader of escapes, as the Rust has it (document 01, "Rules easily misread"): what a backslash and the bytes behind it
--- stand for. p is the place behind the backslash, n the place of the next byte; `end` says that the text is all there.
+-- The one reader of escapes, as the Rust has it (document 01, "Rules easily misread"): what a backslash and the bytes after it
+-- stand for. p is the place after the backslash, n the place of the next byte; `end` says that the text is all there.
 --   letters      `\n \r \t \v \e \f \\ \$ \"`, each with its byte
---   digits       one to three octal digits, one or two hex digits; an octal number over 255 is refusal 3 behind its digits
+--   digits       one to three octal digits, one or two hex digits; an octal number over 255 is refusal 3 after its digits
 --   hex          `\x` and a digit or two
---   codePoint    `\u{..}`: leading zeros are free; what is no code point is refusal 2 there, or behind its brace
+--   codePoint    `\u{..}`: leading zeros are free; what is no code point is refusal 2 there, or after its brace
 --   escape       in double quotes and heredocs; any other backslash stands for itself
 --   quoteEscape  in single quotes: `\'` and `\\` alone
 use Prim.Native.Nat.{ℕ, zero, suc, _+_, _*_}
@@ -40,19 +40,19 @@ letterValue b = letterIn letters b
 unfoldable pub fitted : ℕ → ℕ → TextUnit
 fitted value n = if ltb value 256 then TextUnit.Byte value n else TextUnit.Fault invalidOctalEscape n
 
--- behind digits with this value: at most `left` more
+-- after digits with this value: at most `left` more
 unfoldable pub digits : Bool → ℕ → ℕ → ℕ → ℕ → List ℕ → TextUnit
 digits end base zero value n xs = fitted value n
 digits end base (suc left) value n [] = last end (fitted value n)
 digits end base (suc left) value n (b ∷ rest) =
     if ltb (digitValue b) base then digits end base left (value * base + digitValue b) (suc n) rest else fitted value n
 
--- behind `\x`
+-- after `\x`
 unfoldable pub hex : Bool → ℕ → List ℕ → TextUnit
 hex end p [] = last end (backslash p)
 hex end p (b ∷ rest) = if ltb (digitValue b) 16 then digits end 16 1 (digitValue b) (suc (suc p)) rest else backslash p
 
--- behind `\u{` and digits with this value, of which there are some or none: more of them, then `}`
+-- after `\u{` and digits with this value, of which there are some or none: more of them, then `}`
 unfoldable pub codePoint : Bool → Bool → ℕ → ℕ → List ℕ → TextUnit
 codePoint end some value n [] = last end (TextUnit.Fault invalidUnicodeEscape n)
 codePoint end some value n (b ∷ rest) =
@@ -60,7 +60,7 @@ codePoint end some value n (b ∷ rest) =
     else if some && b is "}" then (if isScalar value then TextUnit.Point value (suc n) else TextUnit.Fault invalidUnicodeEscape (suc n))
     else TextUnit.Fault invalidUnicodeEscape n
 
--- behind `\u`
+-- after `\u`
 unfoldable pub braced : Bool → ℕ → List ℕ → TextUnit
 braced end p [] = last end (backslash p)
 braced end p (b ∷ rest) = if b is "{" then codePoint end false 0 (suc (suc p)) rest else backslash p
@@ -78,7 +78,7 @@ unfoldable pub quoteEscape : Bool → ℕ → List ℕ → TextUnit
 quoteEscape end p [] = last end (backslash p)
 quoteEscape end p (b ∷ rest) = if b is "'" || b is "\\" then TextUnit.Byte b (suc p) else backslash p
 
--- worked sheets e, f, g and h, behind their backslash
+-- worked sheets e, f, g and h, after their backslash
 sheet-e : escape true 1 (bytes "377\"") ≡ TextUnit.Byte 255 4
 unfolding escape digits fitted letterValue digitValue bytes
 sheet-e = refl

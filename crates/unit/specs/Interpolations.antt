@@ -1,8 +1,8 @@
 -- Interpolations in double quotes, backticks and heredocs (document 01, "Rules easily misread"). `end` says that the text is all there.
 --   follow     what follows a variable's name: `[`, or `->` or `?->` and a start byte
 --   name       the rest of a variable's name
---   dollar     behind a `$`: `${`, a variable, or the sign itself
---   brace      behind a `{`: a `$`, and only the brace is taken; or the brace itself
+--   dollar     after a `$`: `${`, a variable, or the sign itself
+--   brace      after a `{`: a `$`, and only the brace is taken; or the brace itself
 --   findDollar, findBrace   the same in a literal, where an interpolation is found and not taken
 use Prim.Native.Nat.{ℕ, suc}
 use Prim.Native.Char.{code}
@@ -20,7 +20,7 @@ use Rattle.unit.specs.Escapes.{last}
 abbrev pub plain : ℕ → ℕ → TextUnit
 plain b n = TextUnit.Byte b (suc n)
 
--- nothing is left behind the name
+-- nothing is left after the name
 abbrev pub lastLook : Bool → Look
 lastLook end = if end then Look.Settled Follow.Other else Look.Undecided
 
@@ -28,7 +28,7 @@ unfoldable pub property : Bool → List ℕ → Look
 property end [] = lastLook end
 property end (b ∷ rest) = Look.Settled (if isStart b then Follow.Property else Follow.Other)
 
--- behind `-`, and behind `?`
+-- after `-`, and after `?`
 unfoldable pub arrow : Bool → List ℕ → Look
 arrow end [] = lastLook end
 arrow end (b ∷ rest) = if b is ">" then property end rest else Look.Settled Follow.Other

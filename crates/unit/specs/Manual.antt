@@ -1,6 +1,6 @@
 -- The escapes as the PHP manual tells them ("Strings": "Single quoted", "Double quoted"): two tables, a list of entries each.
 -- Written without the manual's pages at hand, its words in quotes too (docs/DECISIONS.md, 32).
--- An entry is asked with the bytes behind the backslash. Digits and UTF-8 are those of specs/Digits.antt.
+-- An entry is asked with the bytes after the backslash. Digits and UTF-8 are those of specs/Digits.antt.
 --   Said            what an entry answers
 --   digitsOf, allDigits   the digits of a base that come first, by their values: at most so many, or all
 --   number          what digits write
@@ -25,7 +25,7 @@ use Rattle.byte.specs.Words.{if_then_else_, _is_, bytes}
 use Rattle.unit.specs.declared.TextUnit.{TextUnit}
 use Rattle.unit.specs.Digits.{digitValue, isScalar, utf8}
 
--- the escape means these bytes and has so many bytes behind its backslash; or it is begun and then wrong; or it is another
+-- the escape means these bytes and has so many bytes after its backslash; or it is begun and then wrong; or it is another
 pub data Said : Type 0 where
   Means : List ℕ → ℕ → Said
   Wrong : Said
@@ -40,7 +40,7 @@ unfoldable pub allDigits : ℕ → List ℕ → List ℕ
 allDigits base [] = []
 allDigits base (b ∷ rest) = if ltb (digitValue b) base then digitValue b ∷ allDigits base rest else []
 
--- behind digits with this value
+-- after digits with this value
 unfoldable pub number : ℕ → ℕ → List ℕ → ℕ
 number base value [] = value
 number base value (d ∷ ds) = number base (value * base + d) ds
@@ -64,7 +64,7 @@ unfoldable pub hexadecimal : List ℕ → Said
 hexadecimal [] = Nothing
 hexadecimal (b ∷ rest) = if b is "x" then hexOf (digitsOf 16 2 rest) else Nothing
 
--- behind `\u{`: these digits, then these bytes
+-- after `\u{`: these digits, then these bytes
 unfoldable pub codeOf : List ℕ → List ℕ → Said
 codeOf [] rest = Wrong
 codeOf (d ∷ ds) [] = Wrong
@@ -96,7 +96,7 @@ unfoldable pub saidBy : List (List ℕ → Said) → List ℕ → Said
 saidBy [] xs = Means (code "\\" ∷ []) 0
 saidBy (entry ∷ entries) xs = orElse (entry xs) (saidBy entries xs)
 
--- a literal as the manual tells it: its value and the place behind its closing quote; an escape that is wrong; or it is not closed
+-- a literal as the manual tells it: its value and the place after its closing quote; an escape that is wrong; or it is not closed
 pub data Literal : Type 0 where
   Closed : List ℕ → ℕ → Literal
   Broken : Literal
@@ -107,7 +107,7 @@ before vs (Closed value after) = Closed (vs ++ value) after
 before vs Broken = Broken
 before vs Unclosed = Unclosed
 
--- what an escape means, then what is read behind it
+-- what an escape means, then what is read after it
 unfoldable pub meant : Said → Literal → Literal
 meant (Means vs taken) later = before vs later
 meant Wrong later = Broken
@@ -118,7 +118,7 @@ takenOf (Means vs taken) = taken
 takenOf Wrong = 0
 takenOf Nothing = 0
 
--- from n on, where `skip` bytes of the last escape are still to be passed: up to the quote; behind a backslash the table tells
+-- from n on, where `skip` bytes of the last escape are still to be passed: up to the quote; after a backslash the table tells
 unfoldable pub literal : List (List ℕ → Said) → Char → ℕ → ℕ → List ℕ → Literal
 literal table quote skip n [] = Unclosed
 literal table quote (suc k) n (b ∷ rest) = literal table quote k (suc n) rest

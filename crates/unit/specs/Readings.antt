@@ -27,13 +27,13 @@ pub data Reading : Type 0 where
   Refused : ℕ → ℕ → Reading
   Wait : Reading
 
--- these bytes before the text of what is read behind them
+-- these bytes before the text of what is read after them
 unfoldable pub onto : List ℕ → Reading → Reading
 onto vs (Text text stop from after) = Text (vs ++ text) stop from after
 onto vs (Refused number place) = Refused number place
 onto vs Wait = Wait
 
--- a unit, then what is read behind it
+-- a unit, then what is read after it
 unfoldable pub taken : TextUnit → Reading → Reading
 taken (TextUnit.Byte value after) later = onto (value ∷ []) later
 taken (TextUnit.Point code after) later = onto (utf8 code) later
@@ -41,7 +41,7 @@ taken (TextUnit.Ends stop from after) later = Text [] stop from after
 taken (TextUnit.Fault number place) later = Refused number place
 taken TextUnit.Undecided later = Wait
 
--- the place behind a unit that is text
+-- the place after a unit that is text
 unfoldable pub afterOf : TextUnit → ℕ
 afterOf (TextUnit.Byte value after) = after
 afterOf (TextUnit.Point code after) = after

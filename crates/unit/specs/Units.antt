@@ -1,4 +1,4 @@
--- What stands at a place, mode by mode: the modes differ in their units and in nothing else. The byte at n is b, the bytes behind
+-- What stands at a place, mode by mode: the modes differ in their units and in nothing else. The byte at n is b, the bytes after
 -- it are `rest`, and `end` says that the text is all there.
 use Prim.Native.Nat.{ℕ, suc}
 use mathlib.Core.Bool.{Bool}

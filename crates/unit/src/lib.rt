@@ -51,14 +51,14 @@ pub enum Stop {
     LeftBrace,
     // `$name`
     Variable(Follow),
-    // A text block's closing label behind its indentation.
+    // A text block's closing label after its indentation.
     Label {
         indentation: Indentation,
         amount: usize,
     },
 }
 
-// What stands at a place of a text. `after` is the place behind it.
+// What stands at a place of a text. `after` is the place after it.
 pub enum TextUnit {
     // One byte of the value.
     Byte {

@@ -2,7 +2,7 @@
 --   steps, turns     the calls that make it
 --   place-standing   an open gate is all that it asks
 --   place-free, place-gives   what it makes is the step's turn
---   place-next       the gate is open at the place behind it
+--   place-next       the gate is open at the place after it
 use Prim.Native.Nat.{ℕ, _+_, _*_, _/_, _≤_}
 use mathlib.Core.Path.{_≡_, sym, ap, _∙_}
 use mathlib.Core.Bool.{Bool, false}
@@ -101,7 +101,7 @@ module _ (m : Mark) (depth : ℕ) (frames : List Slot) (choices : Choices) (x : 
 
 pub ruleset turns = (turn-turning, turn-made)
 
--- ---- behind an open gate
+-- ---- after an open gate
 
 module _ (src : List ℕ) (end : Bool) (m : Mark) (depth : ℕ) (frames : List Slot) (choices : Choices) (l q : List ℕ)
     (gate : lentRefusal src (length l) (length q) (sessionAt m depth frames choices) ≡ 0) where

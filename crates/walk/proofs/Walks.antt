@@ -124,7 +124,7 @@ module _ (most : ℕ) (src : List ℕ) (end : Bool) (s₀ : Session) (l₀ q₀ 
         walking-refused number span a =
             rw (w .same, walked-refused src end here l q left number span h (answer-same (Answer.Refused number span) a), k) made
 
-      -- the place behind a change of frame
+      -- the place after a change of frame
       abbrev Behind : Change → Type 0
       Behind change =
           Walking most src end s₀ l₀ q₀ (left - 1) (x .mark) (depthAfter change depth) (framesAfter change depth frames) choices

@@ -99,7 +99,7 @@ fn step_at(
     plan_step(src, end, f, choices, depth, m, list, pool)
 }
 
-// At most `most` steps behind the gate.
+// At most `most` steps after the gate.
 fn walk_on(src: &[u8], end: bool, most: u32, s: Session, list: &mut [u32], pool: &mut [u8]) -> Turn
     requires { ⌜ lentRefusal (now src) (length (now list)) (length (now pool)) s ≡ 0 ⌝ }
     ensures { λ r. ⌜ Gives (walked most (now (src .entry)) end s (now (list .entry)) (now (pool .entry))) r (now (list .exit)) (now (pool .exit)) ⌝ }

@@ -222,7 +222,7 @@ fn caption_sheets() {
     step(b'w', nowdoc(16), ported(), street, true);
 }
 
-// The mark of an answer to a text that ends behind the label and one byte.
+// The mark of an answer to a text that ends after the label and one byte.
 fn mark_of(answer: Answer) -> u8 {
     match answer {
         Answer::Done => b'c',
@@ -239,7 +239,7 @@ fn mark_of(answer: Answer) -> u8 {
     }
 }
 
-// The mark of a byte behind the label.
+// The mark of a byte after the label.
 fn print_mark(b: u8, end: bool) {
     let src = [b'a', b'\n', b'E', b'O', b'T', b];
     let mut list = [0u32; 24];
@@ -259,7 +259,7 @@ fn print_first(letter: u8, b: u8) {
     io::write_all(STDOUT_FILENO, b" ");
 }
 
-// Sheet x with the end announced, y with more: a row, and the label with each byte behind it.
+// Sheet x with the end announced, y with more: a row, and the label with each byte after it.
 fn behind_label(letter: u8, end: bool) {
     let mut n: u32 = 0;
     while n < 256 {

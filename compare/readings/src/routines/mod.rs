@@ -20,7 +20,7 @@ pub struct Reading {
     pub narrow: &'static [u8],
     /// All bytes at which something is decided, for texts of few.
     pub wide: &'static [u8],
-    /// What every pair of bytes is tried behind.
+    /// What every pair of bytes is tried after.
     pub prefixes: Pieces,
     /// Continuations of a part, beside those of one and two bytes and of the label's rest.
     pub continuations: Pieces,

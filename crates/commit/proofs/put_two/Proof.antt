@@ -1,4 +1,4 @@
--- `commit::put_two` meets its contract: the second draft stands behind the first. Assumes nothing.
+-- `commit::put_two` meets its contract: the second draft stands after the first. Assumes nothing.
 use borrow.Author.Needs.{needs}
 use Rattle.commit.proofs.Records.{twos}
 use Rattle.commit.proofs.put_two.Statement.{statement}

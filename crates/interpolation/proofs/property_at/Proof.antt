@@ -1,11 +1,13 @@
--- `interpolation::property_at` meets its contract: each return is one law of `Looks`. Assumes nothing.
+-- `interpolation::property_at` meets its contract: each return is one choice of the definition. Assumes nothing.
 use borrow.Author.Needs.{needs}
-use Rattle.interpolation.proofs.Looks.{properties}
+use Rattle.unit.specs.Interpolations.{property}
+use Rattle.interpolation.proofs.Looks.{look-past, look-byte, property-start, property-other}
 use Rattle.interpolation.proofs.property_at.Statement.{statement}
 use Rattle.interpolation.proofs.property_at.Tie as tie
 
 pub property-at-spec : {M : Type 1} → statement M
+unfolding property
 property-at-spec =
     tie.close
-    (tie.spec (λ c κs. search needs) (λ c. search properties) (λ c. search needs) (λ c κs. search needs)
-    (λ c. search properties) (λ c. search properties))
+    (tie.spec (λ c κs. search needs) (λ c. search (look-past property)) (λ c. search needs) (λ c κs. search needs)
+    (λ c. search (look-byte property, property-start)) (λ c. search (look-byte property, property-other)))

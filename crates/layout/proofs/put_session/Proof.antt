@@ -1,4 +1,4 @@
--- `layout::put_session` meets its contract: the head, and the slots behind it. Assumes nothing.
+-- `layout::put_session` meets its contract: the head, and the slots after it. Assumes nothing.
 use borrow.Author.Needs.{needs}
 use Rattle.layout.proofs.Sessions.{session-laid}
 use Rattle.layout.proofs.put_session.Statement.{statement}

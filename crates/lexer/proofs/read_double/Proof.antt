@@ -1,7 +1,7 @@
--- `lexer::read_double` meets its contract: behind the gate and in Scripting the string's plan becomes the turn. Assumes nothing.
+-- `lexer::read_double` meets its contract: after the gate and in Scripting the string's plan becomes the turn. Assumes nothing.
 use borrow.Author.Needs.{needs}
 use Rattle.outcome.specs.Steps.{doubleOutcome}
-use Rattle.lexer.proofs.Calls.{doubles}
+use Rattle.lexer.proofs.Calls.{readings}
 use Rattle.lexer.proofs.read_double.Statement.{statement}
 use Rattle.lexer.proofs.read_double.Tie as tie
 
@@ -9,7 +9,7 @@ pub read-double-spec : {M : Type 1} → statement M
 unfolding doubleOutcome
 read-double-spec =
     tie.close
-    (tie.spec (λ c κs. search needs) (λ c κs. search needs) (λ c. search doubles) (λ c κs. search (doubles, needs))
-    (λ c κs. search needs) (λ c κs. search needs) (λ c κs. search needs) (λ c. search doubles) (λ c. search needs)
-    (λ c κs. search (doubles, needs)) (λ c κs. search (doubles, needs)) (λ c. search needs) (λ c. search needs)
-    (λ c. search doubles))
+    (tie.spec (λ c κs. search needs) (λ c κs. search needs) (λ c. search readings) (λ c κs. search (readings, needs))
+    (λ c κs. search needs) (λ c κs. search needs) (λ c κs. search needs) (λ c. search readings) (λ c. search needs)
+    (λ c κs. search (readings, needs)) (λ c κs. search (readings, needs)) (λ c. search needs) (λ c. search needs)
+    (λ c. search readings))

@@ -1,4 +1,4 @@
--- `lexer::settle` meets its contract: the session behind a commit is the one of `settled`. Assumes nothing.
+-- `lexer::settle` meets its contract: the session after a commit is the one of `settled`. Assumes nothing.
 use borrow.Author.Needs.{needs}
 use Rattle.lexer.proofs.Calls.{settles}
 use Rattle.lexer.proofs.settle.Statement.{statement}

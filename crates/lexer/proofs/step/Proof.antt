@@ -1,4 +1,4 @@
--- `lexer::step` meets its contract: behind the gate bytes are passed, or the top frame's plan becomes the turn. Assumes nothing.
+-- `lexer::step` meets its contract: after the gate bytes are passed, or the top frame's plan becomes the turn. Assumes nothing.
 use borrow.Author.Needs.{needs}
 use Rattle.lexer.proofs.Calls.{steps}
 use Rattle.lexer.proofs.step.Statement.{statement}

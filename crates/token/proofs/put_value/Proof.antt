@@ -1,4 +1,4 @@
--- `token::put_value` meets its contract: what is copied to the free rest is written behind the mark. Assumes nothing.
+-- `token::put_value` meets its contract: what is copied to the free rest is written from the mark on. Assumes nothing.
 use borrow.Author.Needs.{needs}
 use Rattle.byte.proofs.Laid.{laid-rest}
 use Rattle.token.proofs.put_value.Statement.{statement}

@@ -1,4 +1,4 @@
--- `walk::walk` meets its contract: where no step is wanted the gate is not asked, and behind an open gate `walk_on` walks. Assumes
+-- `walk::walk` meets its contract: where no step is wanted the gate is not asked, and after an open gate `walk_on` walks. Assumes
 -- nothing.
 use borrow.Author.Needs.{needs}
 use Rattle.walk.proofs.Walks.{walks}

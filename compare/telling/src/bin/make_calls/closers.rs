@@ -1,4 +1,4 @@
-//! What stands behind a block's label: each byte, and rows that begin with the label.
+//! What stands after a block's label: each byte, and rows that begin with the label.
 
 use cases::call::CHOICES;
 use cases::random::Random;
@@ -12,7 +12,7 @@ const LABEL: &[u8] = b"EOT";
 /// The frames that have a label, and the readings of a nowdoc block.
 const BLOCKS: [(u32, u32); 3] = [(HEREDOC, 0), (NOWDOC, 0), (NOWDOC, 1)];
 
-/// Bodies whose rows begin with the label: as a caption, first, last, indented, owing indentation, behind mixed blanks.
+/// Bodies whose rows begin with the label: as a caption, first, last, indented, owing indentation, after mixed blanks.
 const CAPTIONS: [&[u8]; 20] = [
     b"EOT",
     b"EOTstrasse",
@@ -50,7 +50,7 @@ pub fn calls(_: &mut Random, _: &mut Teller) -> Vec<Call> {
     calls
 }
 
-/// A row, and the label with a byte behind it.
+/// A row, and the label with a byte after it.
 fn behind_label(byte: u8) -> Vec<u8> {
     [b"a\n", LABEL, &[byte]].concat()
 }

@@ -1,4 +1,4 @@
-//! Comments: how they begin and end, whole and as parts, each byte behind `/` and `#`; and the same texts in every other frame.
+//! Comments: how they begin and end, whole and as parts, each byte after `/` and `#`; and the same texts in every other frame.
 
 use cases::random::Random;
 use cases::{Call, Function};

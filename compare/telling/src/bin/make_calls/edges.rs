@@ -111,7 +111,7 @@ pub fn parts(random: &mut Random, _: &mut Teller) -> Vec<Call> {
     calls
 }
 
-/// A mode's call whose source is cut somewhere behind the cursor.
+/// A mode's call whose source is cut somewhere from the cursor on.
 fn cut(mode: &Mode, random: &mut Random) -> Call {
     let mut call = mode.sample(random);
     let position = call.session[POSITION] as usize;

@@ -62,7 +62,7 @@ pub fn calls(random: &mut Random, _: &mut Teller) -> Vec<Call> {
     calls
 }
 
-/// A good session of three frames behind 70 identifier bytes and a break, with marks, and some of its numbers changed.
+/// A good session of three frames after 70 identifier bytes and a break, with marks, and some of its numbers changed.
 fn changed(called: usize, changes: &[(usize, u32)]) -> Call {
     let (function, arguments) = CALLED[called];
     let head = [vec![b'E'; 70], b"\n".to_vec()].concat();
@@ -114,7 +114,7 @@ fn frames() -> Vec<Changes> {
     all
 }
 
-/// Each range as the label of a block at the bottom, on top and above the depth, and behind a frame that has no label.
+/// Each range as the label of a block at the bottom, on top and above the depth, and after a frame that has no label.
 fn labels() -> Vec<Changes> {
     let mut all = Vec::new();
     for (index, (start, len)) in LABELS.iter().enumerate() {

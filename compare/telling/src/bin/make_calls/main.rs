@@ -19,7 +19,7 @@ use cases::random::Random;
 use cases::{Call, Told};
 use telling::Teller;
 
-/// The lines behind the first of each file.
+/// The lines after the first of each file.
 const ORIGIN: &str =
     "# CALL => GIVEN as in compare/README.md, from fixed seeds: what the Rust answers, and where it has no such thing what\n\
      # compare/telling tells of documents 01 and 02. The library had no part in it. compare/oracle/make-answers makes it again.";
@@ -51,7 +51,7 @@ const EDGES: [Group; 9] = [
     ),
 ];
 
-/// Refusals by which a walk can be stopped behind steps that were done.
+/// Refusals by which a walk can be stopped after steps that were done.
 const STOPPING: [u32; 10] = [1, 2, 3, 4, 5, 6, 7, 8, 9, 13];
 
 /// What the list as a whole has met.

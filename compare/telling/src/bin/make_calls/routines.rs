@@ -20,7 +20,7 @@ pub struct Mode {
     /// Every text of up to `longest` of these bytes is tried.
     bytes: &'static [u8],
     longest: usize,
-    /// What longer texts are made of, and what may stand behind them; a block's has its label behind that.
+    /// What longer texts are made of, and what may stand after them; a block's has its label after that.
     pieces: &'static [Pieces],
     closers: Pieces,
 }

@@ -22,7 +22,7 @@ const HEADS: [&[u8]; 8] = [b"E", b"E ", b"E\n", b"<<<E\n", b"<<<'E'\r\n", b"<?ph
 /// A frame in its three numbers.
 pub type Slot = [u32; SLOT];
 
-/// A call on a session at the start of `text`, behind `head`: the top frame alone, ample room, the end announced.
+/// A call on a session at the start of `text`, after `head`: the top frame alone, ample room, the end announced.
 pub fn plain(function: Function, head: &[u8], text: &[u8], top: Slot) -> Call {
     let mut call = Call {
         function,
@@ -64,7 +64,7 @@ pub fn put_frames(call: &mut Call, frames: &[Slot]) {
     }
 }
 
-/// Sets both marks, with as much room behind them as before.
+/// Sets both marks, with as much room after them as before.
 pub fn put_marks(call: &mut Call, tokens: usize, bytes: usize) {
     call.session[TOKENS] = tokens as u32;
     call.session[BYTES] = bytes as u32;
@@ -85,7 +85,7 @@ pub fn head(random: &mut Random) -> (&'static [u8], u32) {
 }
 
 /// The call with other frames below its top one and marks, and sometimes with a line and column of no honest session,
-/// slots of no frame above the depth, numbers behind the session and the answer, and another number for the announced end.
+/// slots of no frame above the depth, numbers after the session and the answer, and another number for the announced end.
 pub fn varied(mut call: Call, label: u32, random: &mut Random) -> Call {
     let top = [call.session[SLOTS], call.session[SLOTS + 1], call.session[SLOTS + 2]];
     let below = if is_bottom(top[0]) { random.below(4) } else { 1 + random.below(3) };

@@ -1,4 +1,4 @@
-//! Walks of many steps in one call: each kind of script, each refusal at the first step and behind others, and `most` from 0 on.
+//! Walks of many steps in one call: each kind of script, each refusal at the first step and after others, and `most` from 0 on.
 
 use cases::call::{BYTES, CHOICES, DEPTH, POSITION, RECORD, TOKENS};
 use cases::random::Random;

@@ -3,12 +3,13 @@ use Prim.Native.Nat.{_-_}
 use mathlib.Core.Logic.{⊎-elim}
 use lib.ListN.{length}
 use borrow.Author.Needs.{needs}
+use Rattle.number.specs.declared.Base.{Base}
 use Rattle.number.proofs.Writing.{Counting, counting}
 use Rattle.number.proofs.value.spelled_length.Statement.{statement}
 use Rattle.number.proofs.value.spelled_length.Tie as tie
 
 abbrev Inv : tie.InvT-loop
-Inv part len₀ i₀ len i = Counting part len i
+Inv part len₀ i₀ len i = Counting Base.Decimal part len i
 
 abbrev left : tie.MeasureT-loop
 left part len₀ i₀ len i = length part - i

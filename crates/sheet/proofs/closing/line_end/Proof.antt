@@ -1,4 +1,4 @@
--- `sheet::closing::line_end` meets its contract: the line ends behind its break, or where the source does. Assumes nothing.
+-- `sheet::closing::line_end` meets its contract: the line ends after its break, or where the source does. Assumes nothing.
 use borrow.Author.Needs.{needs}
 use Rattle.sheet.proofs.Steps.{lineEnds}
 use Rattle.sheet.proofs.closing.line_end.Statement.{statement}

@@ -1,12 +1,14 @@
--- `text::units::double_quote_at` meets its contract: each arm of the match is one law of `Modes`. Assumes nothing.
+-- `text::units::double_quote_at` meets its contract: each arm is one choice of the definition. Assumes nothing.
 use borrow.Author.Needs.{needs}
-use Rattle.text.proofs.Modes.{doubleQuotes}
+use Rattle.byte.proofs.Tests.{arms}
+use Rattle.unit.specs.Units.{unitAt}
 use Rattle.text.proofs.units.double_quote_at.Statement.{statement}
 use Rattle.text.proofs.units.double_quote_at.Tie as tie
 
 pub double-quote-at-spec : {M : Type 1} → statement M
+unfolding unitAt
 double-quote-at-spec =
     tie.close
     (tie.spec (λ c. search needs) (λ c κs. search needs) (λ c. search needs) (λ c κs. search needs)
-    (λ c κs. search needs) (λ c κs. search needs) (λ c κs. search needs) (λ c. search doubleQuotes)
-    (λ c. search doubleQuotes) (λ c. search doubleQuotes) (λ c. search doubleQuotes) (λ c. search doubleQuotes))
+    (λ c κs. search needs) (λ c κs. search needs) (λ c κs. search needs) (λ c. search arms)
+    (λ c. search arms) (λ c. search arms) (λ c. search arms) (λ c. search arms))

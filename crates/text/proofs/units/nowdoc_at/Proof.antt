@@ -1,11 +1,13 @@
--- `text::units::nowdoc_at` meets its contract: each arm of the match is one law of `Modes`. Assumes nothing.
+-- `text::units::nowdoc_at` meets its contract: each arm is one choice of the definition. Assumes nothing.
 use borrow.Author.Needs.{needs}
-use Rattle.text.proofs.Modes.{nowdocs}
+use Rattle.byte.proofs.Tests.{arms}
+use Rattle.unit.specs.Units.{unitAt}
 use Rattle.text.proofs.units.nowdoc_at.Statement.{statement}
 use Rattle.text.proofs.units.nowdoc_at.Tie as tie
 
 pub nowdoc-at-spec : {M : Type 1} → statement M
+unfolding unitAt
 nowdoc-at-spec =
     tie.close
-    (tie.spec (λ c. search needs) (λ c κs. search needs) (λ c κs. search needs) (λ c. search nowdocs)
-    (λ c. search nowdocs))
+    (tie.spec (λ c. search needs) (λ c κs. search needs) (λ c κs. search needs) (λ c. search arms)
+    (λ c. search arms))
