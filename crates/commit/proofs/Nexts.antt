@@ -4,28 +4,26 @@ use mathlib.Core.Path.{_≡_, refl, sym, ap, _∙_}
 use mathlib.Core.Bool.{Bool, true, false, false≢true}
 use mathlib.Core.List.{List, [], _∷_}
 use native.Mathlib.Omega.{arith}
-use lib.Dec.{leb}
 use lib.ListN.{length}
 use mir.Syntax.{w32}
 use mir.Val.{Fits}
 use borrow.Author.Tests.{leb-true, leb-false, ne-eqb, le-ltb, lt-ltb}
 use Rattle.source.specs.declared.Span.{Span}
-use Rattle.byte.proofs.Tests.{unrefused}
 use Rattle.state.specs.declared.Answer.{Answer}
 use Rattle.token.specs.Records.{roomRefusal}
 use Rattle.outcome.specs.declared.Change.{Change}
-use Rattle.outcome.specs.Outcomes.{Piece, Outcome, limited}
+use Rattle.outcome.specs.Outcomes.{Piece, Outcome, values, limited}
 use Rattle.outcome.specs.Insides.{AllInside, PlaceInside}
 use Rattle.plan.specs.declared.Work.{Work}
 use Rattle.plan.specs.declared.Plan.{Plan}
-use Rattle.plan.specs.Code.{piecesOf, outcomeOf}
+use Rattle.plan.specs.Code.{draftsOf, piecesOf, outcomeOf}
 use Rattle.commit.specs.declared.Next.{Next}
 use Rattle.commit.specs.declared.Mark.{Mark}
-use Rattle.commit.specs.Records.{spanAt, answerOf}
-use Rattle.commit.specs.Code.{countOf, totalOf, Ahead, DraftsFit, DraftsPut, stays, roomFor, nextOf, listAfter, poolAfter}
-use Rattle.commit.specs.Code.{isFull, advanced, Advances, Commits, Works, Committed}
+use Rattle.commit.specs.Records.{spanAt, answerOf, roomFor, stays, reached}
+use Rattle.commit.specs.Code.{totalOf, Ahead, DraftsFit, DraftsPut, isFull, advanced, Advances, Commits, Works, Committed}
 use Rattle.commit.proofs.Spans.{spanAt-here}
-use Rattle.commit.proofs.Records.{length-piecesOf, length-values}
+use Rattle.commit.proofs.Records.{length-pieces, length-draftsOf, length-values}
+use Rattle.commit.proofs.Putting.{room-facts}
 
 -- an arm of a match on a change
 pub isFull-arm : (change arm : Change) (depth : ℕ) (r : Bool) → change ≡ arm → r ≡ isFull arm depth
@@ -50,35 +48,30 @@ allInside-wide after hi h n (p ∷ more) all = (
   allInside-wide after hi h (p .place) more (all .1),
 )
 
--- there is room
-roomRefusal-open : (list pool tokens bytes count len : ℕ) → roomRefusal list pool tokens bytes count len ≡ 0
-    → (tokens + count ≤ list / 8) × (bytes + len ≤ pool)
-unfolding roomRefusal
-roomRefusal-open list pool tokens bytes count len e =
-    let first = unrefused (leb (tokens + count) (list / 8)) _ 6 e in
-    let other = unrefused (leb (bytes + len) pool) 0 7 (first .1) in
-    (leb-true _ _ (first .0), leb-true _ _ (other .0))
-
 module _ (src : List ℕ) (end : Bool) (m : Mark) (w : Work) (l q : List ℕ) (f : Works src end m w (length l) (length q)) where
-  work-narrow : totalOf (w .drafts) ≤ length src
-  work-narrow =
-      let n = length-values src end (w .drafts) (f .ready) in
-      omega (arith, n, f .inside .narrow, f .inside .inside)
+  work-values : length (values (piecesOf src end (w .drafts))) ≡ totalOf (draftsOf (w .drafts))
+  work-values = length-values src end (draftsOf (w .drafts)) (f .ready .all)
 
-  pub work-total : totalOf (w .drafts) ≤ 65536
-  work-total = omega (arith, work-narrow, f .marked .cursor .short)
+  work-count : length (piecesOf src end (w .drafts)) ≡ w .drafts .count
+  work-count = length-pieces src end (draftsOf (w .drafts)) ∙ length-draftsOf (w .drafts) (f .ready .few)
 
-  module _ (count total : ℕ) (c : count ≡ countOf (w .drafts)) (t : total ≡ totalOf (w .drafts)) where
+  work-narrow : totalOf (draftsOf (w .drafts)) ≤ length src
+  work-narrow = omega (arith, work-values, f .inside .narrow, f .inside .inside)
+
+  pub work-total : (w .drafts .count ≤ 2) × (totalOf (draftsOf (w .drafts)) ≤ 65536)
+  work-total = (f .ready .few, omega (arith, work-narrow, f .marked .cursor .short))
+
+  module _ (total : ℕ) (t : total ≡ totalOf (draftsOf (w .drafts))) where
     pub work-len : Fits w32 total
-    work-len = record { fits = omega (arith, work-total) }
+    work-len = record { fits = omega (arith, work-total .1) }
 
-    module _ (number : ℕ) (e : number ≡ roomRefusal (length l) (length q) (m .tokens) (m .bytes) count total) where
-      room-pieces : number ≡ roomFor (length l) (length q) m (piecesOf src end (w .drafts))
-      room-pieces = e ∙ rw (c, t, length-piecesOf src end (w .drafts), length-values src end (w .drafts) (f .ready))
+    module _ (number : ℕ) (e : number ≡ roomRefusal (length l) (length q) (m .tokens) (m .bytes) (w .drafts .count) total) where
+      room-pieces : number ≡ roomFor m (record { list = l; pool = q }) (piecesOf src end (w .drafts))
+      room-pieces = e ∙ rw (t, work-count, work-values)
 
       pub work-refused : (r : Next) → (number ≡ 0 → ⊥) → r ≡ stays number (m .span) m
           → Committed src m l q (outcomeOf src end (Plan.Told w)) r l q
-      unfolding outcomeOf nextOf listAfter poolAfter
+      unfolding outcomeOf reached
       work-refused r n h = record {
         next = h ∙ rw (← room-pieces, ne-eqb number 0 n);
         list = rw (← room-pieces, ne-eqb number 0 n);
@@ -86,8 +79,8 @@ module _ (src : List ℕ) (end : Bool) (m : Mark) (w : Work) (l q : List ℕ) (f
       }
 
       module _ (z : number ≡ 0) where
-        room-open : (m .tokens + count ≤ length l / 8) × (m .bytes + total ≤ length q)
-        room-open = roomRefusal-open (length l) (length q) (m .tokens) (m .bytes) count total (sym e ∙ z)
+        room-open : (m .tokens + w .drafts .count ≤ length l / 8) × (m .bytes + total ≤ length q)
+        room-open = room-facts (length l) (length q) (m .tokens) (m .bytes) (w .drafts .count) total (sym e ∙ z)
 
         pub work-fits : DraftsFit src end m (w .drafts) (length l) (length q)
         work-fits = record {
@@ -95,11 +88,11 @@ module _ (src : List ℕ) (end : Bool) (m : Mark) (w : Work) (l q : List ℕ) (f
           ready = f .ready;
           all = allInside-wide _ _ (f .inside .inside) (m .span .position) (piecesOf src end (w .drafts)) (f .inside .all);
           narrow = work-narrow;
-          places = rw (← c) (room-open .0);
+          places = room-open .0;
           room = rw (← t) (room-open .1);
         }
 
-        pub work-advances : Advances src m w count total
+        pub work-advances : Advances src m w (w .drafts .count) total
         work-advances = record {
           ahead = record { cursor = f .marked .cursor; low = f .inside .order; high = f .inside .inside };
           places = omega (arith, room-open .0, f .marked .places);
@@ -107,12 +100,12 @@ module _ (src : List ℕ) (end : Bool) (m : Mark) (w : Work) (l q : List ℕ) (f
         }
 
         pub work-written : (r : Next) (l′ q′ : List ℕ) → DraftsPut src m (piecesOf src end (w .drafts)) l q l′ q′
-            → r ≡ advanced src m w count total → Committed src m l q (outcomeOf src end (Plan.Told w)) r l′ q′
-        unfolding outcomeOf nextOf listAfter poolAfter
+            → r ≡ advanced src m w (w .drafts .count) total → Committed src m l q (outcomeOf src end (Plan.Told w)) r l′ q′
+        unfolding outcomeOf reached
         work-written r l′ q′ p h =
-            let same : roomFor (length l) (length q) m (piecesOf src end (w .drafts)) ≡ 0 = sym room-pieces ∙ z in
+            let same : roomFor m (record { list = l; pool = q }) (piecesOf src end (w .drafts)) ≡ 0 = sym room-pieces ∙ z in
             record {
-              next = h ∙ rw (c, t, same, length-piecesOf src end (w .drafts), length-values src end (w .drafts) (f .ready));
+              next = h ∙ rw (t, same, work-count, work-values);
               list = p .list ∙ rw same;
               pool = p .pool ∙ rw same;
             }
@@ -143,7 +136,7 @@ module _ (src : List ℕ) (end : Bool) (m : Mark) (depth : ℕ) (plan : Plan) (l
   outcome = limited depth (m .span .position) (outcomeOf src end plan)
 
   pub commit-wait : (r : Next) → plan ≡ Plan.Wait → r ≡ stays 6 (m .span) m → Committed src m l q outcome r l q
-  unfolding outcomeOf limited nextOf listAfter poolAfter
+  unfolding outcomeOf limited reached
   commit-wait r e h = rw e (record { next = h; list = refl; pool = refl })
 
   module _ (number place : ℕ) (e : plan ≡ Plan.Refused number place) where
@@ -155,12 +148,12 @@ module _ (src : List ℕ) (end : Bool) (m : Mark) (depth : ℕ) (plan : Plan) (l
 
     pub commit-refused : (r : Next) (span : Span) → span ≡ spanAt src (m .span) place → r ≡ stays number span m
         → Committed src m l q outcome r l q
-    unfolding outcomeOf limited nextOf listAfter poolAfter
+    unfolding outcomeOf limited reached
     commit-refused r span p h = rw e (record { next = h ∙ rw p; list = refl; pool = refl })
 
   module _ (w : Work) (e : plan ≡ Plan.Told w) (full : Bool) (g : full ≡ isFull (w .change) depth) where
     pub commit-full : (r : Next) → full ≡ true → r ≡ stays 9 (m .span) m → Committed src m l q outcome r l q
-    unfolding outcomeOf nextOf listAfter poolAfter
+    unfolding outcomeOf reached
     commit-full r t h =
         rw (e, limited-full depth (m .span .position) (piecesOf src end (w .drafts)) (w .after) (w .finished) (w .change) (sym g ∙ t))
         (record { next = h ∙ ap (λ (p : Span). stays 9 p m) (sym (spanAt-here src (m .span))); list = refl; pool = refl })

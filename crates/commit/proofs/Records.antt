@@ -1,56 +1,81 @@
--- Counting drafts, and writing their records and values. Assumes nothing.
-use Prim.Native.Nat.{ℕ, _+_, _*_, _/_, _≤_}
-use mathlib.Core.Path.{_≡_, refl, sym, _∙_}
+-- Counting drafts, and writing their records and values one after another. Assumes nothing.
+--   totals      how many drafts and value bytes there are
+--   Putting     the loop of `put_drafts`: what is put from the beginning on is what is put of the drafts that are left, from here on
+use Prim.Native.Nat.{ℕ, zero, suc, _+_, _*_, _/_, _≤_, _<_}
+use mathlib.Core.Path.{_≡_, refl, sym, ap, subst, _∙_}
 use mathlib.Core.Bool.{Bool}
-use mathlib.Core.List.{List, [], _∷_, append-nil}
+use mathlib.Core.List.{List, [], _∷_}
 use native.Mathlib.Omega.{arith}
-use lib.ListN.{length, length-append}
+use lib.ListN.{length, drop, length-append, length-take, drop-of-length-le}
+use borrow.Author.Tests.{eq-eqb, ne-eqb}
 use mir.Syntax.{w32, w64}
 use mir.Val.{Fits}
 use Rattle.byte.specs.Laid.{laid}
+use Rattle.byte.proofs.Laid.{length-laid}
 use Rattle.source.specs.declared.Span.{Span}
-use Rattle.byte.proofs.Laid.{laid-nil, laid-append}
 use Rattle.token.specs.declared.Token.{Token}
 use Rattle.token.specs.Records.{recordOf}
 use Rattle.outcome.specs.Outcomes.{values}
 use Rattle.outcome.specs.Insides.{AllInside}
 use Rattle.plan.specs.declared.Draft.{Draft}
 use Rattle.plan.specs.declared.Drafts.{Drafts}
-use Rattle.plan.specs.Code.{made, pieceOf, piecesOf, AllReady}
+use Rattle.plan.specs.Code.{made, pieceOf, pieces, draftsOf, AllReady}
 use Rattle.commit.specs.declared.Mark.{Mark}
-use Rattle.commit.specs.Records.{spanAt, tokenOf, records}
-use Rattle.commit.specs.Code.{countOf, totalOf, draftToken, DraftFits, DraftPut, DraftsFit, DraftsPut}
+use Rattle.commit.specs.Records.{spanAt, Tables, put}
+use Rattle.commit.specs.Code.{totalOf, draftAt, draftToken, DraftFits, DraftPut, pastDraft, PastFits, DraftsFit, DraftsPut}
 
--- an arm of a match on drafts
-pub countOf-arm : (drafts arm : Drafts) (r : ℕ) → drafts ≡ arm → r ≡ countOf arm → r ≡ countOf drafts
-countOf-arm drafts arm r e h = rw e h
+-- ---- how many
 
-pub totalOf-arm : (drafts arm : Drafts) (r : ℕ) → drafts ≡ arm → r ≡ totalOf arm → r ≡ totalOf drafts
-totalOf-arm drafts arm r e h = rw e h
+-- of none, of one, of two drafts
+module _ (ds : Drafts) where
+  pub totalOf-none : ds .count ≡ 0 → 0 ≡ totalOf (draftsOf ds)
+  unfolding totalOf
+  totalOf-none e = rw e
 
-pub totalOf-fits : (drafts : Drafts) (d e : Draft) → drafts ≡ Drafts.Two d e → totalOf drafts ≤ 65536
-    → Fits w64 (d .len + e .len)
-unfolding totalOf
-totalOf-fits drafts d e h low =
-    let k : d .len + e .len ≤ 65536 = rw h at low in
-    record { fits = omega arith }
+  pub totalOf-one : ds .count ≡ 1 → ds .first .len ≡ totalOf (draftsOf ds)
+  unfolding totalOf
+  totalOf-one e = rw e (omega arith)
+
+  module _ (few : (ds .count ≤ 2) × (totalOf (draftsOf ds) ≤ 65536)) (none : ds .count ≡ 0 → ⊥) (one : ds .count ≡ 1 → ⊥) where
+    two : ds .count ≡ 2
+    two = omega (arith, few .0, none, one)
+
+    pub totalOf-two : ds .first .len + ds .second .len ≡ totalOf (draftsOf ds)
+    unfolding totalOf
+    totalOf-two = rw two (omega arith)
+
+    pub totalOf-fits : Fits w64 (ds .first .len + ds .second .len)
+    totalOf-fits = record { fits = omega (arith, few .1, totalOf-two) }
+
+pub ruleset totals = (totalOf-none, totalOf-one, totalOf-two, totalOf-fits)
 
 -- what pieces are, counted by their drafts
-pub length-piecesOf : (src : List ℕ) (end : Bool) (drafts : Drafts) → length (piecesOf src end drafts) ≡ countOf drafts
-unfolding piecesOf countOf
-length-piecesOf src end Drafts.None = refl
-length-piecesOf src end (Drafts.One d) = refl
-length-piecesOf src end (Drafts.Two d e) = refl
+pub length-pieces : (src : List ℕ) (end : Bool) (drafts : List Draft) → length (pieces src end drafts) ≡ length drafts
+unfolding pieces
+length-pieces src end [] = refl
+length-pieces src end (d ∷ more) = ap suc (length-pieces src end more)
 
-pub length-values : (src : List ℕ) (end : Bool) (drafts : Drafts) → AllReady drafts src end
-    → length (values (piecesOf src end drafts)) ≡ totalOf drafts
-unfolding piecesOf totalOf values
-length-values src end Drafts.None r = refl
-length-values src end (Drafts.One d) r = rw (append-nil (made src end d)) (sym (r .size))
-length-values src end (Drafts.Two d e) r =
-    rw (append-nil (made src end e), length-append (made src end d) (made src end e), r .0 .size, r .1 .size)
+pub length-draftsOf : (ds : Drafts) → ds .count ≤ 2 → length (draftsOf ds) ≡ ds .count
+length-draftsOf ds few = simp length-take (omega (arith, few))
 
-pub ruleset counts = (countOf-arm, totalOf-arm, totalOf-fits)
+pub length-values : (src : List ℕ) (end : Bool) (drafts : List Draft) → AllReady drafts src end
+    → length (values (pieces src end drafts)) ≡ totalOf drafts
+unfolding pieces totalOf values
+length-values src end [] r = refl
+length-values src end (d ∷ more) r =
+    rw (length-append (made src end d) (values (pieces src end more)), r .0 .size, length-values src end more (r .1))
+
+-- ---- one draft
+
+pub draftAt-first : (ds : Drafts) (i : ℕ) → i ≡ 0 → ds .first ≡ draftAt ds i
+unfolding draftAt
+draftAt-first ds i e = rw (eq-eqb i 0 e)
+
+pub draftAt-second : (ds : Drafts) (i : ℕ) → (i ≡ 0 → ⊥) → ds .second ≡ draftAt ds i
+unfolding draftAt
+draftAt-second ds i n = rw (ne-eqb i 0 n)
+
+pub ruleset choosing = (draftAt-first, draftAt-second)
 
 pub draftToken-made : (src : List ℕ) (p : Span) (start : ℕ) (d : Draft) (span : Span)
     → span ≡ spanAt src p (d .place)
@@ -60,131 +85,165 @@ draftToken-made src p start d span e = rw e
 -- a draft's value and record
 module _ (src : List ℕ) (end : Bool) (m : Mark) (d : Draft) (l q : List ℕ) (f : DraftFits src end m d (length l) (length q)) where
   pub draft-put : (l′ q′ : List ℕ) (t : Token) → q′ ≡ laid q (m .bytes) (made src end d)
-      → t ≡ draftToken src (m .span) (m .bytes) d → l′ ≡ laid l (m .tokens * 8) (recordOf t)
-      → DraftPut src m (pieceOf src end d) l q l′ q′
-  draft-put l′ q′ t v e h = record { list = h ∙ rw (e, f .ready .size); pool = v }
+      → t ≡ draftToken src (m .span) (m .bytes) d → l′ ≡ laid l (m .tokens * 8) (recordOf t) → (r : Mark) → r ≡ pastDraft m d
+      → DraftPut src m d (pieceOf src end d) l q r l′ q′
+  draft-put l′ q′ t v e h r k = record { mark = k; list = h ∙ rw (e, f .ready .size); pool = v }
 
--- the marks after a draft
-abbrev Past : Mark → Draft → Mark
-Past m d = record { span = m .span; tokens = m .tokens + 1; bytes = m .bytes + d .len }
+  module _ (r : Mark) (l′ q′ : List ℕ) (p : DraftPut src m d (pieceOf src end d) l q r l′ q′) where
+    put-list : length l′ ≡ length l
+    put-list = ap length (p .list) ∙ length-laid l (m .tokens * 8) _ (f .places)
 
--- two drafts
-module _ (src : List ℕ) (end : Bool) (m : Mark) (d e : Draft) (l q : List ℕ)
-    (f : DraftsFit src end m (Drafts.Two d e) (length l) (length q)) where
-  two-all : AllInside (m .span .position) (length src) (pieceOf src end d ∷ pieceOf src end e ∷ [])
-  unfolding piecesOf
-  two-all = f .all
+    put-pool : length q′ ≡ length q
+    put-pool = ap length (p .pool) ∙ length-laid q (m .bytes) _ (omega (arith, f .room, f .ready .size))
 
-  two-narrow : d .len + e .len ≤ length src
-  unfolding totalOf
-  two-narrow = f .narrow
+-- the numbers of the marks after it fit
+module _ (m : Mark) (d : Draft) (f : PastFits m d) where
+  pub past-count : Fits w32 (m .tokens + 1)
+  past-count = record { fits = omega (arith, f .tokens) }
 
-  two-places : m .tokens + 2 ≤ length l / 8
-  unfolding countOf
-  two-places = f .places
+  pub past-len : Fits w32 (d .len)
+  past-len = record { fits = omega (arith, f .bytes) }
 
-  two-room : m .bytes + (d .len + e .len) ≤ length q
-  unfolding totalOf
-  two-room = f .room
+  pub past-end : Fits w32 (m .bytes + d .len)
+  past-end = record { fits = omega (arith, f .bytes) }
 
-  pub first-count : Fits w32 (m .tokens + 1)
-  first-count = record { fits = omega (arith, two-places, f .marked .places) }
+pub ruleset pasts = (past-count, past-len, past-end)
 
-  pub first-len : Fits w32 (d .len)
-  first-len = record { fits = omega (arith, two-narrow, f .marked .cursor .short) }
+-- ---- one after another
 
-  pub first-end : Fits w32 (m .bytes + d .len)
-  first-end = record { fits = omega (arith, two-room, f .marked .room) }
+abbrev tables : List ℕ → List ℕ → Tables
+tables l q = record { list = l; pool = q }
 
-  pub first-fits : DraftFits src end m d (length l) (length q)
-  first-fits =
-      let a = two-all .0 in
-      record {
-        drawn = record {
-          ahead = record { cursor = f .marked .cursor; low = a .low; high = a .high };
-          detail = a .detail;
-          len = omega (arith, two-narrow);
-        };
-        ready = f .ready .0;
-        places = omega (arith, two-places);
-        room = omega (arith, two-room);
-      }
+-- the drafts that are left begin with this one
+drop-draftAt : (ds : Drafts) (i : ℕ) → ds .count ≤ 2 → i < ds .count
+    → drop i (draftsOf ds) ≡ draftAt ds i ∷ drop (i + 1) (draftsOf ds)
+unfolding draftAt
+drop-draftAt ds i few h = go (ds .count) refl i h
+  where
+    go : (n : ℕ) → ds .count ≡ n → (k : ℕ) → k < n → drop k (draftsOf ds) ≡ draftAt ds k ∷ drop (k + 1) (draftsOf ds)
+    go zero e k less = absurd (omega (arith, less))
+    go (suc zero) e zero less = rw e
+    go (suc zero) e (suc k) less = absurd (omega (arith, less))
+    go (suc (suc zero)) e zero less = rw e
+    go (suc (suc zero)) e (suc zero) less = rw e
+    go (suc (suc zero)) e (suc (suc k)) less = absurd (omega (arith, less))
+    go (suc (suc (suc n))) e k less = absurd (omega (arith, few, e))
 
-  pub second-fits : (l′ q′ : List ℕ) → length l′ ≡ length l → length q′ ≡ length q
-      → DraftFits src end (Past m d) e (length l′) (length q′)
-  second-fits l′ q′ same-list same-pool =
-      let a = two-all .1 .0 in
-      record {
-        drawn = record {
-          ahead = record { cursor = f .marked .cursor; low = omega (arith, two-all .0 .low, a .low); high = a .high };
-          detail = a .detail;
-          len = omega (arith, two-narrow);
-        };
-        ready = f .ready .1;
-        places = omega (arith, two-places);
-        room = omega (arith, two-room);
-      }
+pub record Putting (src : List ℕ) (end : Bool) (m : Mark) (ds : Drafts) (l₀ q₀ : List ℕ) (at : Mark) (i : ℕ) (l q : List ℕ) : Type 0 where
+  pub rest : List Draft
+  pub from : drop i (draftsOf ds) ≡ rest
+  pub same : put src m (tables l₀ q₀) (pieces src end (draftsOf ds)) ≡ put src at (tables l q) (pieces src end rest)
+  pub inside : i ≤ ds .count
+  pub span : at .span ≡ m .span
+  pub ready : AllReady rest src end
+  pub low : ℕ
+  pub lower : m .span .position ≤ low
+  pub all : AllInside low (length src) (pieces src end rest)
+  pub narrow : totalOf rest ≤ length src
+  pub places : at .tokens + ds .count ≤ length l / 8 + i
+  pub room : at .bytes + totalOf rest ≤ length q
+  pub list : length l ≡ length l₀
+  pub pool : length q ≡ length q₀
 
-  pub two-put : (l′ q′ l″ q″ : List ℕ) → DraftPut src m (pieceOf src end d) l q l′ q′
-      → DraftPut src (Past m d) (pieceOf src end e) l′ q′ l″ q″
-      → DraftsPut src m (piecesOf src end (Drafts.Two d e)) l q l″ q″
-  unfolding piecesOf records values
-  two-put l′ q′ l″ q″ p r =
-      let t = recordOf (tokenOf src (m .span) (m .bytes) (pieceOf src end d)) in
-      let u = recordOf (tokenOf src (m .span) (m .bytes + length (made src end d)) (pieceOf src end e)) in
-      let n : d .len ≡ length (made src end d) = f .ready .0 .size in
-      let k : e .len ≡ length (made src end e) = f .ready .1 .size in
-      let a = laid-append l (m .tokens * 8) ((m .tokens + 1) * 8) t u (omega arith) (omega (arith, two-places)) in
-      let b = laid-append q (m .bytes) _ (made src end d) (made src end e) refl (omega (arith, two-room)) in
-      record {
-        list = r .list ∙ rw (p .list, n, append-nil u) a;
-        pool = r .pool ∙ rw (p .pool, n, append-nil (made src end e)) b;
-      }
+module _ (src : List ℕ) (end : Bool) (m : Mark) (ds : Drafts) (l₀ q₀ : List ℕ)
+    (f : DraftsFit src end m ds (length l₀) (length q₀)) where
+  pub putting-first : Putting src end m ds l₀ q₀ m 0 l₀ q₀
+  putting-first = record {
+    rest = draftsOf ds;
+    from = refl;
+    same = refl;
+    inside = omega arith;
+    span = refl;
+    ready = f .ready .all;
+    low = m .span .position;
+    lower = omega arith;
+    all = f .all;
+    narrow = f .narrow;
+    places = omega (arith, f .places);
+    room = f .room;
+    list = refl;
+    pool = refl;
+  }
 
-pub ruleset twos = (first-count, first-len, first-end, first-fits, second-fits, two-put)
+  module _ (at : Mark) (i : ℕ) (l q : List ℕ) (w : Putting src end m ds l₀ q₀ at i l q) where
+    pub putting-end : ds .count ≤ i → DraftsPut src m (pieces src end (draftsOf ds)) l₀ q₀ l q
+    unfolding put pieces
+    putting-end h =
+        let past : length (draftsOf ds) ≤ i = omega (arith, h, length-draftsOf ds (f .ready .few)) in
+        let none : w .rest ≡ [] = sym (w .from) ∙ drop-of-length-le (draftsOf ds) past in
+        let all : put src m (tables l₀ q₀) (pieces src end (draftsOf ds)) ≡ tables l q = w .same ∙ rw none in
+        record { list = ap (λ (t : Tables). t .list) (sym all); pool = ap (λ (t : Tables). t .pool) (sym all) }
 
--- none, one or two
-module _ (src : List ℕ) (end : Bool) (m : Mark) (drafts : Drafts) (l q : List ℕ)
-    (f : DraftsFit src end m drafts (length l) (length q)) where
-  pub none-put : drafts ≡ Drafts.None → DraftsPut src m (piecesOf src end drafts) l q l q
-  unfolding piecesOf records values
-  none-put e = rw e (record { list = sym (laid-nil l (m .tokens * 8)); pool = sym (laid-nil q (m .bytes)) })
+    module _ (h : i < ds .count) (d : Draft) (e : d ≡ draftAt ds i) where
+      abbrev more : List Draft
+      more = drop (i + 1) (draftsOf ds)
 
-  module _ (d : Draft) (e : drafts ≡ Drafts.One d) where
-    pub one-fits : DraftFits src end m d (length l) (length q)
-    unfolding piecesOf totalOf countOf
-    one-fits =
-        let all : AllInside (m .span .position) (length src) (pieceOf src end d ∷ []) = rw e at f .all in
-        let narrow : d .len ≤ length src = rw e at f .narrow in
-        let places : m .tokens + 1 ≤ length l / 8 = rw e at f .places in
-        let room : m .bytes + d .len ≤ length q = rw e at f .room in
-        record {
-          drawn = record {
-            ahead = record { cursor = f .marked .cursor; low = all .0 .low; high = all .0 .high };
-            detail = all .0 .detail;
-            len = narrow;
-          };
-          ready = rw e at f .ready;
-          places = omega arith;
-          room = room;
-        }
+      left : w .rest ≡ d ∷ more
+      left = sym (w .from) ∙ drop-draftAt ds i (f .ready .few) h ∙ ap (λ (x : Draft). x ∷ more) (sym e)
 
-    pub one-put : (l′ q′ : List ℕ) → DraftPut src m (pieceOf src end d) l q l′ q′
-        → DraftsPut src m (piecesOf src end drafts) l q l′ q′
-    unfolding piecesOf records values
-    one-put l′ q′ p =
-        rw e
-        (record {
-          list = p .list ∙ rw (append-nil (recordOf (tokenOf src (m .span) (m .bytes) (pieceOf src end d))));
-          pool = p .pool ∙ rw (append-nil (made src end d));
-        })
+      ready : AllReady (d ∷ more) src end
+      ready = subst (λ (rest : List Draft). AllReady rest src end) left (w .ready)
 
-  module _ (d e : Draft) (h : drafts ≡ Drafts.Two d e) where
-    pub both-fit : DraftsFit src end m (Drafts.Two d e) (length l) (length q)
-    both-fit = rw h at f
+      inside : AllInside (w .low) (length src) (pieces src end (d ∷ more))
+      inside = subst (λ (rest : List Draft). AllInside (w .low) (length src) (pieces src end rest)) left (w .all)
 
-    pub both-put : (l′ q′ : List ℕ) → DraftsPut src m (piecesOf src end (Drafts.Two d e)) l q l′ q′
-        → DraftsPut src m (piecesOf src end drafts) l q l′ q′
-    both-put l′ q′ p = rw h p
+      narrow : totalOf (d ∷ more) ≤ length src
+      narrow = subst (λ (rest : List Draft). totalOf rest ≤ length src) left (w .narrow)
 
-pub ruleset puts = (none-put, one-fits, one-put, both-fit, both-put)
+      room : at .bytes + totalOf (d ∷ more) ≤ length q
+      room = subst (λ (rest : List Draft). at .bytes + totalOf rest ≤ length q) left (w .room)
+
+      pub putting-fits : DraftFits src end at d (length l) (length q)
+      unfolding pieces totalOf
+      putting-fits =
+          let a = inside .0 in
+          record {
+            drawn = record {
+              ahead = record {
+                cursor = rw (w .span) (f .marked .cursor);
+                low = rw (w .span) (omega (arith, w .lower, a .low));
+                high = a .high;
+              };
+              detail = a .detail;
+              len = omega (arith, narrow);
+            };
+            ready = ready .0;
+            places = omega (arith, w .places, h);
+            room = omega (arith, room);
+            past = record {
+              tokens = omega (arith, w .places, h, w .list, f .marked .places);
+              bytes = omega (arith, room, w .pool, f .marked .room);
+            };
+          }
+
+      pub putting-count : Fits w32 (i + 1)
+      putting-count = record { fits = omega (arith, h, f .ready .few) }
+
+      pub putting-on : (l′ q′ : List ℕ) (after : Mark) → DraftPut src at d (pieceOf src end d) l q after l′ q′
+          → Putting src end m ds l₀ q₀ after (i + 1) l′ q′
+      unfolding put pieces totalOf
+      putting-on l′ q′ after p =
+          let k : d .len ≡ length (made src end d) = ready .0 .size in
+          let list = put-list src end at d l q putting-fits after l′ q′ p in
+          let pool = put-pool src end at d l q putting-fits after l′ q′ p in
+          let same : put src m (tables l₀ q₀) (pieces src end (draftsOf ds)) ≡ put src at (tables l q) (pieces src end (d ∷ more)) =
+          w .same ∙ ap (λ (rest : List Draft). put src at (tables l q) (pieces src end rest)) left in
+          rw (p .mark)
+          (record {
+            rest = more;
+            from = refl;
+            same = same ∙ rw (p .list, p .pool, k);
+            inside = omega (arith, h);
+            span = w .span;
+            ready = ready .1;
+            low = d .place;
+            lower = omega (arith, w .lower, inside .0 .low);
+            all = inside .1;
+            narrow = omega (arith, narrow);
+            places = rw list (omega (arith, w .places));
+            room = rw pool (omega (arith, room));
+            list = list ∙ w .list;
+            pool = pool ∙ w .pool;
+          })
+
+pub ruleset putting = (putting-first, putting-end, putting-fits, putting-count, putting-on)

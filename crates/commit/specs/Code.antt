@@ -1,52 +1,43 @@
--- A step as the code has it: over drafts and numbers and the top frame, without the session (document 01, "Token list", "Refusal numbers").
---   countOf, totalOf       how many tokens drafts are, and how many value bytes
+-- A step as the code has it: over drafts and numbers and the top frame, without the session.
+--   totalOf, draftAt       how many value bytes drafts have; one of them
 --   Cursor, Ahead          a cursor within a source that is not too long, and a place from it on
 --   Writes                 a value can be written from a mark on
 --   Marked                 the cursor and the marks are within their bounds
+--   pastDraft, PastFits    the marks after a draft
 --   DraftFits, DraftPut    a draft fits from the marks on; its record and its value stand there
---   DraftsFit, DraftsPut   the same of none, one or two drafts
---   Mark, Next             (source) the cursor and the fill marks; answer, cursor, marks and the change of frame
---   roomFor                7 for more tokens than places left, then 8 for more value bytes than pool left, or 0
---   nextOf                 what an outcome comes to between a list of so many numbers and a pool of so many bytes
---   listAfter, poolAfter   what they then hold: the new records from the list's mark on, the new value bytes from the pool's
+--   DraftsFit, DraftsPut   the same of drafts
 --   isFull                 a frame would be the 65th
 --   advanced, Advances     the numbers after so many tokens and value bytes, and that they fit
 --   Commits, Works         what `commit` asks of its plan, and of what the plan tells
 --   Committed              what it gives
 use Prim.Native.Nat.{ℕ, _+_, _*_, _/_, _≤_}
 use mathlib.Core.Bool.{Bool, false}
-use mathlib.Core.List.{List}
+use mathlib.Core.List.{List, [], _∷_}
 use mathlib.Core.Path.{_≡_}
+use lib.Dec.{eqb, leb}
 use lib.ListN.{length}
-use Rattle.byte.specs.Laid.{laid}
+use Rattle.byte.specs.Words.{if_then_else_}
 use Rattle.source.specs.declared.Span.{Span}
 use Rattle.token.specs.declared.Token.{Token}
-use Rattle.token.specs.Records.{recordOf, roomRefusal}
-use Rattle.outcome.specs.Outcomes.{Piece, values, Outcome}
+use Rattle.outcome.specs.declared.Change.{Change}
+use Rattle.outcome.specs.Outcomes.{Piece, Outcome}
 use Rattle.outcome.specs.Insides.{AllInside, ToldInside, Inside}
 use Rattle.plan.specs.declared.Draft.{Draft}
 use Rattle.plan.specs.declared.Drafts.{Drafts}
-use Rattle.plan.specs.Code.{piecesOf, Ready, AllReady, outcomeOf, PlanReady}
-use Rattle.commit.specs.declared.Mark.{Mark}
-use lib.Dec.{eqb, leb}
-use Rattle.byte.specs.Words.{if_then_else_}
-use Rattle.byte.specs.Refusals.{wait}
-use Rattle.state.specs.declared.Answer.{Answer}
-use Rattle.outcome.specs.declared.Change.{Change}
 use Rattle.plan.specs.declared.Work.{Work}
 use Rattle.plan.specs.declared.Plan.{Plan}
+use Rattle.plan.specs.Code.{draftsOf, piecesOf, Ready, DraftsReady, outcomeOf, PlanReady}
+use Rattle.commit.specs.declared.Mark.{Mark}
 use Rattle.commit.specs.declared.Next.{Next}
-use Rattle.commit.specs.Records.{spanAt, tokenOf, records, answerOf}
+use Rattle.commit.specs.Records.{spanAt, putPiece, put, answerOf, reached}
 
-unfoldable pub countOf : Drafts → ℕ
-countOf Drafts.None = 0
-countOf (Drafts.One d) = 1
-countOf (Drafts.Two d e) = 2
+unfoldable pub totalOf : List Draft → ℕ
+totalOf [] = 0
+totalOf (d ∷ more) = d .len + totalOf more
 
-unfoldable pub totalOf : Drafts → ℕ
-totalOf Drafts.None = 0
-totalOf (Drafts.One d) = d .len
-totalOf (Drafts.Two d e) = d .len + e .len
+-- the draft with this number; from 1 on the second
+unfoldable pub draftAt : Drafts → ℕ → Draft
+draftAt ds i = if eqb i 0 then ds .first else ds .second
 
 pub record Cursor (src : List ℕ) (p : Span) : Type 0 where
   pub short : length src ≤ 65536
@@ -88,74 +79,41 @@ pub record Drawn (src : List ℕ) (p : Span) (d : Draft) : Type 0 where
   pub detail : d .detail ≤ length src
   pub len : d .len ≤ length src
 
+-- the marks after a draft, and that they fit
+abbrev pub pastDraft : Mark → Draft → Mark
+pastDraft m d = record { span = m .span; tokens = m .tokens + 1; bytes = m .bytes + d .len }
+
+pub record PastFits (m : Mark) (d : Draft) : Type 0 where
+  pub tokens : m .tokens + 1 ≤ 65537
+  pub bytes : m .bytes + d .len ≤ 65536
+
 -- a draft fits from the marks on
 pub record DraftFits (src : List ℕ) (end : Bool) (m : Mark) (d : Draft) (list pool : ℕ) : Type 0 where
   pub drawn : Drawn src (m .span) d
   pub ready : Ready src end d
   pub places : m .tokens * 8 + 8 ≤ list
   pub room : m .bytes + d .len ≤ pool
+  pub past : PastFits m d
 
--- list and pool with its record and its value from the marks on
-pub record DraftPut (src : List ℕ) (m : Mark) (piece : Piece) (l q l′ q′ : List ℕ) : Type 0 where
-  pub list : l′ ≡ laid l (m .tokens * 8) (recordOf (tokenOf src (m .span) (m .bytes) piece))
-  pub pool : q′ ≡ laid q (m .bytes) (piece .value)
+-- the tables with its record and its value from the marks on, and the marks after it
+pub record DraftPut (src : List ℕ) (m : Mark) (d : Draft) (piece : Piece) (l q : List ℕ) (r : Mark) (l′ q′ : List ℕ) : Type 0 where
+  pub mark : r ≡ pastDraft m d
+  pub list : l′ ≡ putPiece src m (record { list = l; pool = q }) piece .list
+  pub pool : q′ ≡ putPiece src m (record { list = l; pool = q }) piece .pool
 
 -- drafts fit from the marks on
-pub record DraftsFit (src : List ℕ) (end : Bool) (m : Mark) (drafts : Drafts) (list pool : ℕ) : Type 0 where
+pub record DraftsFit (src : List ℕ) (end : Bool) (m : Mark) (ds : Drafts) (list pool : ℕ) : Type 0 where
   pub marked : Marked src m list pool
-  pub ready : AllReady drafts src end
-  pub all : AllInside (m .span .position) (length src) (piecesOf src end drafts)
-  pub narrow : totalOf drafts ≤ length src
-  pub places : m .tokens + countOf drafts ≤ list / 8
-  pub room : m .bytes + totalOf drafts ≤ pool
+  pub ready : DraftsReady ds src end
+  pub all : AllInside (m .span .position) (length src) (piecesOf src end ds)
+  pub narrow : totalOf (draftsOf ds) ≤ length src
+  pub places : m .tokens + ds .count ≤ list / 8
+  pub room : m .bytes + totalOf (draftsOf ds) ≤ pool
 
--- list and pool with their records and values from the marks on
+-- the tables with their records and values from the marks on
 pub record DraftsPut (src : List ℕ) (m : Mark) (pieces : List Piece) (l q l′ q′ : List ℕ) : Type 0 where
-  pub list : l′ ≡ laid l (m .tokens * 8) (records src (m .span) (m .bytes) pieces)
-  pub pool : q′ ≡ laid q (m .bytes) (values pieces)
-
--- a refusal: the numbers are as they were
-abbrev pub stays : ℕ → Span → Mark → Next
-stays number span m = record {
-  answer = Answer.Refused number span;
-  mark = m;
-  change = Change.Keep;
-}
-
-abbrev pub roomFor : ℕ → ℕ → Mark → List Piece → ℕ
-roomFor list pool m pieces = roomRefusal list pool (m .tokens) (m .bytes) (length pieces) (length (values pieces))
-
-abbrev pub advances : List ℕ → Mark → List Piece → ℕ → Change → Bool → Next
-advances src m pieces after change finished = record {
-  answer = answerOf finished;
-  mark = record {
-    span = spanAt src (m .span) after;
-    tokens = m .tokens + length pieces;
-    bytes = m .bytes + length (values pieces);
-  };
-  change = change;
-}
-
-unfoldable pub nextOf : List ℕ → Mark → ℕ → ℕ → Outcome → Next
-nextOf src m list pool (Outcome.Told pieces after change finished) =
-    if eqb (roomFor list pool m pieces) 0 then advances src m pieces after change finished
-    else stays (roomFor list pool m pieces) (m .span) m
-nextOf src m list pool (Outcome.Refused number place) = stays number (spanAt src (m .span) place) m
-nextOf src m list pool Outcome.Wait = stays wait (m .span) m
-
-unfoldable pub listAfter : List ℕ → Mark → List ℕ → List ℕ → Outcome → List ℕ
-listAfter src m list pool (Outcome.Told pieces after change finished) =
-    if eqb (roomFor (length list) (length pool) m pieces) 0
-    then laid list (m .tokens * 8) (records src (m .span) (m .bytes) pieces)
-    else list
-listAfter src m list pool (Outcome.Refused number place) = list
-listAfter src m list pool Outcome.Wait = list
-
-unfoldable pub poolAfter : List ℕ → Mark → List ℕ → List ℕ → Outcome → List ℕ
-poolAfter src m list pool (Outcome.Told pieces after change finished) =
-    if eqb (roomFor (length list) (length pool) m pieces) 0 then laid pool (m .bytes) (values pieces) else pool
-poolAfter src m list pool (Outcome.Refused number place) = pool
-poolAfter src m list pool Outcome.Wait = pool
+  pub list : l′ ≡ put src m (record { list = l; pool = q }) pieces .list
+  pub pool : q′ ≡ put src m (record { list = l; pool = q }) pieces .pool
 
 unfoldable pub isFull : Change → ℕ → Bool
 isFull Change.Keep depth = false
@@ -185,11 +143,11 @@ pub record Commits (src : List ℕ) (end : Bool) (m : Mark) (plan : Plan) (list 
 -- the same of what a plan tells
 pub record Works (src : List ℕ) (end : Bool) (m : Mark) (w : Work) (list pool : ℕ) : Type 0 where
   pub marked : Marked src m list pool
-  pub ready : AllReady (w .drafts) src end
+  pub ready : DraftsReady (w .drafts) src end
   pub inside : ToldInside (m .span .position) (length src) (piecesOf src end (w .drafts)) (w .after)
 
 -- what `commit` gives of an outcome
 pub record Committed (src : List ℕ) (m : Mark) (l q : List ℕ) (o : Outcome) (r : Next) (l′ q′ : List ℕ) : Type 0 where
-  pub next : r ≡ nextOf src m (length l) (length q) o
-  pub list : l′ ≡ listAfter src m l q o
-  pub pool : q′ ≡ poolAfter src m l q o
+  pub next : r ≡ reached src m (record { list = l; pool = q }) o .next
+  pub list : l′ ≡ reached src m (record { list = l; pool = q }) o .tables .list
+  pub pool : q′ ≡ reached src m (record { list = l; pool = q }) o .tables .pool

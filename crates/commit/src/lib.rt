@@ -17,12 +17,11 @@ ghost use lib.ListN.{length};
 ghost use Rattle.byte.specs.Laid.{laid};
 ghost use Rattle.text.specs.Code as text;
 ghost use Rattle.outcome.specs.Outcomes.{limited};
-ghost use Rattle.plan.specs.declared.Drafts.{Drafts};
 ghost use Rattle.plan.specs.declared.Plan.{Plan};
-ghost use Rattle.plan.specs.Code.{made, pieceOf, piecesOf, outcomeOf};
-ghost use Rattle.commit.specs.Records.{spanAt, answerOf};
-ghost use Rattle.commit.specs.Code.{draftToken, countOf, totalOf, Ahead, Writes, Drawn, DraftFits, DraftPut, DraftsFit, DraftsPut};
-ghost use Rattle.commit.specs.Code.{stays, isFull, advanced, Advances, Works, Commits, Committed};
+ghost use Rattle.plan.specs.Code.{made, pieceOf, draftsOf, piecesOf, outcomeOf};
+ghost use Rattle.commit.specs.Records.{spanAt, answerOf, stays};
+ghost use Rattle.commit.specs.Code.{draftToken, draftAt, totalOf, Ahead, Writes, Drawn, DraftFits, DraftPut, pastDraft, PastFits};
+ghost use Rattle.commit.specs.Code.{DraftsFit, DraftsPut, isFull, advanced, Advances, Works, Commits, Committed};
 
 // The cursor and the two fill marks.
 pub struct Mark {
@@ -97,62 +96,63 @@ fn token_of(src: &[u8], p: Span, start: u32, d: Draft) -> Token
     }
 }
 
-// A draft's value and record, from the marks on.
-fn put_draft(src: &[u8], end: bool, m: Mark, d: Draft, list: &mut [u32], pool: &mut [u8])
-    requires { ⌜ DraftFits (now src) end m d (length (now list)) (length (now pool)) ⌝ }
-    ensures { λ r. ⌜ DraftPut (now (src .entry)) m (pieceOf (now (src .entry)) end d) (now (list .entry)) (now (pool .entry)) (now (list .exit)) (now (pool .exit)) ⌝ }
-{
-    write_value(src, end, d, pool, m.bytes as usize);
-    token::put_token(list, m.tokens as usize, token_of(src, m.span, m.bytes, d));
-}
-
-// How many tokens drafts are.
-fn count(drafts: Drafts) -> u32
-    ensures { λ r. ⌜ r ≡ countOf drafts ⌝ }
-{
-    match drafts {
-        Drafts::None => 0,
-        Drafts::One(_) => 1,
-        Drafts::Two(_, _) => 2,
-    }
-}
-
-// How many value bytes drafts have.
-fn total(drafts: Drafts) -> usize
-    requires { ⌜ totalOf drafts ≤ 65536 ⌝ }
-    ensures { λ r. ⌜ r ≡ totalOf drafts ⌝ }
-{
-    match drafts {
-        Drafts::None => 0,
-        Drafts::One(d) => d.len,
-        Drafts::Two(d, e) => d.len + e.len,
-    }
-}
-
-// The values and records of two drafts, from the marks on.
-fn put_two(src: &[u8], end: bool, m: Mark, d: Draft, e: Draft, list: &mut [u32], pool: &mut [u8])
-    requires { ⌜ DraftsFit (now src) end m (Drafts.Two d e) (length (now list)) (length (now pool)) ⌝ }
-    ensures { λ r. ⌜ DraftsPut (now (src .entry)) m (piecesOf (now (src .entry)) end (Drafts.Two d e)) (now (list .entry)) (now (pool .entry)) (now (list .exit)) (now (pool .exit)) ⌝ }
+// The marks after a draft.
+fn past_draft(m: Mark, d: Draft) -> Mark
+    requires { ⌜ PastFits m d ⌝ }
+    ensures { λ r. ⌜ r ≡ pastDraft m d ⌝ }
 {
     let span = m.span;
-    let behind = Mark {
+    Mark {
         span,
         tokens: m.tokens + 1,
         bytes: m.bytes + d.len as u32,
-    };
-    put_draft(src, end, m, d, list, pool);
-    put_draft(src, end, behind, e, list, pool);
+    }
 }
 
-// The values and records of drafts, from the marks on.
-fn put_drafts(src: &[u8], end: bool, m: Mark, drafts: Drafts, list: &mut [u32], pool: &mut [u8])
-    requires { ⌜ DraftsFit (now src) end m drafts (length (now list)) (length (now pool)) ⌝ }
-    ensures { λ r. ⌜ DraftsPut (now (src .entry)) m (piecesOf (now (src .entry)) end drafts) (now (list .entry)) (now (pool .entry)) (now (list .exit)) (now (pool .exit)) ⌝ }
+// A draft's value and record, from the marks on, and the marks after it.
+fn put_draft(src: &[u8], end: bool, m: Mark, d: Draft, list: &mut [u32], pool: &mut [u8]) -> Mark
+    requires { ⌜ DraftFits (now src) end m d (length (now list)) (length (now pool)) ⌝ }
+    ensures { λ r. ⌜ DraftPut (now (src .entry)) m d (pieceOf (now (src .entry)) end d) (now (list .entry)) (now (pool .entry)) r (now (list .exit)) (now (pool .exit)) ⌝ }
 {
-    match drafts {
-        Drafts::None => {}
-        Drafts::One(d) => put_draft(src, end, m, d, list, pool),
-        Drafts::Two(d, e) => put_two(src, end, m, d, e, list, pool),
+    write_value(src, end, d, pool, m.bytes as usize);
+    token::put_token(list, m.tokens as usize, token_of(src, m.span, m.bytes, d));
+    past_draft(m, d)
+}
+
+// The draft with this number.
+fn draft_at(ds: Drafts, i: u32) -> Draft
+    ensures { λ r. ⌜ r ≡ draftAt ds i ⌝ }
+{
+    if i == 0 {
+        return ds.first;
+    }
+    ds.second
+}
+
+// How many value bytes drafts have.
+fn total(ds: Drafts) -> usize
+    requires { ⌜ (ds .count ≤ 2) × (totalOf (draftsOf ds) ≤ 65536) ⌝ }
+    ensures { λ r. ⌜ r ≡ totalOf (draftsOf ds) ⌝ }
+{
+    if ds.count == 0 {
+        return 0;
+    }
+    if ds.count == 1 {
+        return ds.first.len;
+    }
+    ds.first.len + ds.second.len
+}
+
+// The values and records of drafts, one after another, from the marks on.
+fn put_drafts(src: &[u8], end: bool, m: Mark, ds: Drafts, list: &mut [u32], pool: &mut [u8])
+    requires { ⌜ DraftsFit (now src) end m ds (length (now list)) (length (now pool)) ⌝ }
+    ensures { λ r. ⌜ DraftsPut (now (src .entry)) m (piecesOf (now (src .entry)) end ds) (now (list .entry)) (now (pool .entry)) (now (list .exit)) (now (pool .exit)) ⌝ }
+{
+    let mut at = m;
+    let mut i = 0;
+    while i < ds.count {
+        at = put_draft(src, end, at, draft_at(ds, i), list, pool);
+        i += 1;
     }
 }
 
@@ -204,7 +204,7 @@ fn write_work(src: &[u8], end: bool, m: Mark, w: Work, list: &mut [u32], pool: &
     ensures { λ r. ⌜ Committed (now (src .entry)) m (now (list .entry)) (now (pool .entry)) (outcomeOf (now (src .entry)) end (Plan.Told w)) r (now (list .exit)) (now (pool .exit)) ⌝ }
 {
     let drafts = w.drafts;
-    let count = count(drafts);
+    let count = drafts.count;
     let len = total(drafts) as u32;
     let number = token::room(list.len(), pool.len(), m.tokens, m.bytes, count, len);
     if number != 0 {

@@ -18,13 +18,14 @@ use Rattle.state.specs.Calls.{freshSession}
 use Rattle.state.specs.Gates.{tablesFit}
 use Rattle.state.proofs.Kept.{fresh-good}
 use Rattle.state.proofs.Longer.{every-part}
+use Rattle.outcome.specs.declared.Call.{Call}
 use Rattle.lexer.specs.Turns.{After}
 use Rattle.lexer.specs.Calls.{stepped}
 use Rattle.demands.specs.Walks.{goOn, walked, isWait, joined, fed}
-use Rattle.demands.proofs.Kept.{step-kept}
-use Rattle.demands.proofs.Good.{Sound, StaysSound, step-sound}
+use Rattle.demands.proofs.Kept.{call-kept}
+use Rattle.demands.proofs.Good.{Sound, StaysSound, call-sound}
 use Rattle.demands.proofs.Longer.{sound-append}
-use Rattle.demands.proofs.Waiting.{step-waits-exactly}
+use Rattle.demands.proofs.Waiting.{call-waits-exactly}
 
 -- ---- walks that have ended
 
@@ -86,7 +87,7 @@ wait-kept : (a : Answer) (src : List ℕ) (s : Session) (l q : List ℕ) → ste
 unfolding isWait
 wait-kept Answer.Done src s l q e f = absurd (false≢true f)
 wait-kept Answer.Finished src s l q e f = absurd (false≢true f)
-wait-kept (Answer.Refused number span) src s l q e f = step-kept src s l q false .back number span e
+wait-kept (Answer.Refused number span) src s l q e f = call-kept src s l q Call.Step false .back number span e
 
 module _ (part rest : List ℕ) (bytes : every isByte part ≡ true) (short : length (part ++ rest) ≤ 65536) where
   part-short : length part ≤ 65536
@@ -148,7 +149,7 @@ module _ (part rest : List ℕ) (bytes : every isByte part ≡ true) (short : le
   walk-longer zero s l q fit h = same refl refl
   walk-longer (suc n) s l q fit h =
       let now = stepped part false s l q in
-      let k = step-sound part s l q h false in
+      let k = call-sound part s l q h Call.Step false in
       go (isWait (now .turn .answer)) refl
       (walk-longer n (now .turn .session) (now .list) (now .pool) (rw (k .list, k .pool) fit) (rw (k .list, k .pool) (k .sound)))
     where
@@ -156,11 +157,11 @@ module _ (part rest : List ℕ) (bytes : every isByte part ≡ true) (short : le
           → Fate n part (part ++ rest) (stepped part false s l q .turn .session) (stepped part false s l q .list) (stepped part false s l q .pool)
           (walked n part false (stepped part false s l q .turn .session) (stepped part false s l q .list) (stepped part false s l q .pool))
           → Fate (suc n) part (part ++ rest) s l q (walked (suc n) part false s l q)
-      go true e ih = waiting-fate n s l q _ refl e (step-sound part s l q h false)
+      go true e ih = waiting-fate n s l q _ refl e (call-sound part s l q h Call.Step false)
       go false e ih =
           settled-fate n s l q _ refl e
-          (step-waits-exactly part s l q bytes part-short fit h .settled e rest short)
-          (step-sound part s l q h false)
+          (call-waits-exactly Call.Step part s l q bytes part-short fit h .settled e rest short)
+          (call-sound part s l q h Call.Step false)
           ih
 
 -- ---- scripts in parts

@@ -26,18 +26,20 @@ use Rattle.state.specs.Bounds.{noSlot}
 use Rattle.state.specs.Calls.{spanOf, freshSession}
 use Rattle.state.specs.Gates.{lentRefusal, tablesFit}
 use Rattle.state.proofs.Kept.{fresh-good}
+use Rattle.outcome.specs.declared.Call.{Call}
 use Rattle.outcome.specs.declared.Change.{Change}
-use Rattle.outcome.specs.Outcomes.{Outcome, values}
+use Rattle.outcome.specs.Outcomes.{Piece, Outcome, values}
 use Rattle.outcome.specs.Insides.{Inside}
 use Rattle.outcome.specs.Steps.{topFrame, stepOutcome}
 use Rattle.outcome.proofs.Ways.{Onward, moves, looks, Progress}
-use Rattle.outcome.proofs.StepWays.{step-ways}
+use Rattle.outcome.proofs.StepWays.{call-ways}
 use Rattle.commit.specs.Records.{spanAt}
-use Rattle.lexer.specs.Turns.{After, framesAfter, depthAfter, changed, refusing, room, settled}
-use Rattle.lexer.specs.Calls.{stepped}
+use Rattle.lexer.specs.Turns.{After, framesAfter, depthAfter, changed, refusing, settled}
+use Rattle.lexer.specs.Calls.{called, stepped}
+use Rattle.lexer.proofs.Nexts.{written, settled-cases}
 use Rattle.demands.specs.Walks.{goOn, walked, joined, fed}
 use Rattle.demands.proofs.Kept.{done-told}
-use Rattle.demands.proofs.Good.{Sound, step-sound, position-inside, top-sound}
+use Rattle.demands.proofs.Good.{Sound, call-sound, position-inside, top-sound}
 use Rattle.demands.proofs.Rising.{span-place}
 use Rattle.demands.proofs.Cuts.{Ended, cuts-fresh}
 
@@ -108,24 +110,27 @@ module _ (src : List ℕ) (s : Session) (l q : List ℕ) where
         omega (arith, there, most)
     changed-falls after tokens bytes change low high (looks x y) = rw y (swapped-falls after tokens bytes low high x)
 
+    written-falls : (pieces : List Piece) (after : ℕ) (change : Change) (finished : Bool) → s .position ≤ after
+        → after ≤ length src → Progress (topFrame s) (s .position) (Outcome.Told pieces after change finished)
+        → Falls (written src s l q pieces after change finished)
+    written-falls pieces after change true low high p d = absurd (done-finished d)
+    written-falls pieces after change false low high p d =
+        changed-falls after (s .tokens + length pieces) (s .bytes + length (values pieces)) change low high p
+
     settled-falls : (o : Outcome) → Inside (s .position) (length src) o → Progress (topFrame s) (s .position) o
         → Falls (settled src s l q o)
-    unfolding settled
-    settled-falls (Outcome.Told pieces after change true) i p =
-        choice Falls (eqb (room s l q pieces) 0) _ _ (λ e d. absurd (done-finished d)) (λ e. refusing-falls _ (spanOf s))
-    settled-falls (Outcome.Told pieces after change false) i p =
-        choice Falls (eqb (room s l q pieces) 0) _ _
-        (λ e d. changed-falls after (s .tokens + length pieces) (s .bytes + length (values pieces)) change (i .order) (i .inside) p)
-        (λ e. refusing-falls _ (spanOf s))
-    settled-falls (Outcome.Refused number place) i p = refusing-falls number _
-    settled-falls Outcome.Wait i p = refusing-falls wait (spanOf s)
+    settled-falls =
+        settled-cases src s l q (λ o a. Inside (s .position) (length src) o → Progress (topFrame s) (s .position) o → Falls a)
+        (λ pieces after change finished e i p. written-falls pieces after change finished (i .order) (i .inside) p)
+        (λ pieces after change finished i p. refusing-falls _ (spanOf s)) (λ number place i p. refusing-falls number _)
+        (λ i p. refusing-falls wait (spanOf s))
 
     pub step-falls : (end : Bool) → Falls (stepped src end s l q)
-    unfolding stepped
+    unfolding called
     step-falls end =
         choice Falls (eqb (lentRefusal src (length l) (length q) s) 0) _ _
         (λ e.
-        let w = step-ways src end s (position-inside src s l q h) in
+        let w = call-ways Call.Step src end s (position-inside src s l q h) in
         settled-falls (stepOutcome src end s) (w .lies) (w .on (top-sound src s l q h)))
         (λ e. refusing-falls _ origin)
 
@@ -137,7 +142,7 @@ unfolding walked goOn
 walk-falls zero src end s l q h less = absurd (omega arith)
 walk-falls (suc n) src end s l q h less =
     let now = stepped src end s l q in
-    let sound = step-sound src s l q h end in
+    let sound = call-sound src s l q h Call.Step end in
     go (now .turn .answer) now (walked n src end (now .turn .session) (now .list) (now .pool)) refl
     (λ d.
     walk-falls n src end (now .turn .session) (now .list) (now .pool) (rw (sound .list, sound .pool) (sound .sound))

@@ -1,40 +1,40 @@
 -- A good session stays good under every step and reading, and list and pool keep their lengths. Assumes nothing.
 --   Sound          the session is good, and its marks are not past their tables
 --   settled-sound  of an outcome that lies within the source and changes the stack well
---   step-sound, number-sound, single-sound, double-sound   of the calls
-use Prim.Native.Nat.{ℕ, zero, suc, _+_, _-_, _*_, _/_, _≤_}
+--   call-sound     of every call
+use Prim.Native.Nat.{ℕ, zero, suc, _+_, _-_, _/_, _≤_}
 use mathlib.Core.Path.{_≡_, refl, sym, subst, _∙_}
 use mathlib.Core.Bool.{Bool, true, false, false≢true}
 use mathlib.Core.List.{List, [], _∷_}
 use native.Mathlib.Omega.{arith}
 use lib.Dec.{eqb, leb}
 use lib.ListN.{length, getD, set}
-use borrow.Author.Tests.{leb-true, leb-false, eqb-true}
+use borrow.Author.Tests.{leb-true, leb-false}
 use Rattle.source.specs.Cursor.{origin}
-use Rattle.byte.specs.Refusals.{outOfPlace, wait}
+use Rattle.byte.specs.Refusals.{wait}
 use Rattle.source.specs.declared.Span.{Span}
-use Rattle.byte.proofs.Tests.{choice, &&-left, &&-both, unrefused}
-use Rattle.byte.proofs.Laid.{length-laid}
+use Rattle.byte.proofs.Tests.{choice, &&-left, &&-both}
 use Rattle.byte.proofs.Words.{every-take, every-set}
 use Rattle.state.specs.declared.Frame.{Frame}
 use Rattle.state.specs.declared.Slot.{Slot}
 use Rattle.state.specs.declared.Session.{Session}
-use Rattle.state.specs.Bounds.{isBottom, noSlot, isSlot, isStack, isWithin, isGood, isScripting}
+use Rattle.state.specs.Bounds.{isBottom, noSlot, isSlot, isStack, isWithin, isGood}
 use Rattle.state.specs.Calls.{spanOf, moved}
 use Rattle.state.specs.Gates.{lentRefusal}
 use Rattle.state.proofs.Kept.{good-numbers, good-bottom, good-slots, moved-good, entered-good, left-good}
 use Rattle.state.proofs.Longer.{top-good}
-use Rattle.token.specs.Records.{roomRefusal}
+use Rattle.outcome.specs.declared.Call.{Call}
 use Rattle.outcome.specs.declared.Change.{Change}
 use Rattle.outcome.specs.Outcomes.{Piece, Outcome, values}
 use Rattle.outcome.specs.Insides.{Inside}
-use Rattle.outcome.specs.Steps.{topFrame, stepOutcome, numberOutcome, singleOutcome, doubleOutcome}
+use Rattle.outcome.specs.Steps.{topFrame, callOutcome}
 use Rattle.outcome.proofs.Ways.{Welcome, ChangeGood, Changes}
-use Rattle.outcome.proofs.StepWays.{TopGood, Room, Limited, limited-room, step-ways}
-use Rattle.outcome.proofs.StepWays.{Readable, number-readable, single-readable, double-readable}
-use Rattle.commit.specs.Records.{spanAt, records}
-use Rattle.lexer.specs.Turns.{After, framesAfter, depthAfter, changed, refusing, room, settled, written}
-use Rattle.lexer.specs.Calls.{gated, stepped, reading, readNumber, readSingle, readDouble}
+use Rattle.outcome.proofs.StepWays.{TopGood, Room, Limited, limited-room, call-ways}
+use Rattle.commit.specs.Records.{spanAt}
+use Rattle.commit.proofs.Putting.{room-facts, put-length}
+use Rattle.lexer.specs.Turns.{After, framesAfter, depthAfter, changed, markOf, refusing, settled}
+use Rattle.lexer.specs.Calls.{called}
+use Rattle.lexer.proofs.Nexts.{room, written, settled-cases}
 
 -- with a list of so many numbers and a pool of so many bytes
 pub record Sound (src : List ℕ) (list pool : ℕ) (s : Session) : Type 0 where
@@ -96,33 +96,18 @@ module _ (src : List ℕ) (s : Session) (e : isGood src s ≡ true) where
     changed-good (Change.Enter f) c r = entered-good src there there-good f c r
     changed-good Change.Leave c r = left-good src there there-good c
 
--- ---- the tables
-
-pub records-length : (src : List ℕ) (p : Span) (start : ℕ) (pieces : List Piece) → length (records src p start pieces) ≡ length pieces * 8
-unfolding records
-records-length src p start [] = refl
-records-length src p start (piece ∷ more) =
-    let later = records-length src p (start + length (piece .value)) more in
-    omega (arith, later)
-
-pub room-facts : (list pool tokens bytes count len : ℕ) → roomRefusal list pool tokens bytes count len ≡ 0
-    → (tokens + count ≤ list / 8) × (bytes + len ≤ pool)
-unfolding roomRefusal
-room-facts list pool tokens bytes count len e =
-    let first = unrefused (leb (tokens + count) (list / 8)) _ 6 e in
-    let second = unrefused (leb (bytes + len) pool) 0 7 (first .1) in
-    (leb-true _ _ (first .0), leb-true _ _ (second .0))
+-- ---- a call
 
 module _ (src : List ℕ) (s : Session) (l q : List ℕ) (h : Sound src (length l) (length q) s) where
   same-sound : (number : ℕ) (span : Span) → StaysSound src l q (refusing number span s l q)
   same-sound number span = record { sound = h; list = refl; pool = refl }
 
   written-sound : (pieces : List Piece) (after : ℕ) (change : Change) (finished : Bool) → s .position ≤ after
-      → after ≤ length src → ChangeGood src (s .depth) change → Room (s .depth) change → room s l q pieces ≡ 0
+      → after ≤ length src → ChangeGood src (s .depth) change → Room (s .depth) change → room src s l q pieces ≡ 0
       → StaysSound src l q (written src s l q pieces after change finished)
   written-sound pieces after change finished low high c r e =
       let fits = room-facts (length l) (length q) (s .tokens) (s .bytes) (length pieces) (length (values pieces)) e in
-      let size = records-length src (spanOf s) (s .bytes) pieces in
+      let size = put-length src pieces (markOf s) (record { list = l; pool = q }) (fits .0) (fits .1) in
       record {
         sound =
             record {
@@ -130,23 +115,18 @@ module _ (src : List ℕ) (s : Session) (l q : List ℕ) (h : Sound src (length 
               tokens = fits .0;
               bytes = fits .1;
             };
-        list = length-laid l (s .tokens * 8) _ (omega (arith, fits .0, size));
-        pool = length-laid q (s .bytes) _ (fits .1);
+        list = size .0;
+        pool = size .1;
       }
 
   pub settled-sound : (o : Outcome) → Inside (s .position) (length src) o → Changes src (s .depth) o → Limited (s .depth) o
       → StaysSound src l q (settled src s l q o)
-  unfolding settled
-  settled-sound (Outcome.Told pieces after change finished) i c r =
-      choice (StaysSound src l q) (eqb (room s l q pieces) 0) _ _
-      (λ e. written-sound pieces after change finished (i .order) (i .inside) c r (eqb-true _ _ e))
-      (λ e. same-sound _ (spanOf s))
-  settled-sound (Outcome.Refused number place) i c r = same-sound number _
-  settled-sound Outcome.Wait i c r = same-sound wait (spanOf s)
-
-  gated-sound : (a : After) → StaysSound src l q a → StaysSound src l q (gated src s l q a)
-  gated-sound a k =
-      choice (StaysSound src l q) (eqb (lentRefusal src (length l) (length q) s) 0) _ _ (λ e. k) (λ e. same-sound _ origin)
+  settled-sound =
+      settled-cases src s l q
+      (λ o a. Inside (s .position) (length src) o → Changes src (s .depth) o → Limited (s .depth) o → StaysSound src l q a)
+      (λ pieces after change finished e i c r. written-sound pieces after change finished (i .order) (i .inside) c r e)
+      (λ pieces after change finished i c r. same-sound _ (spanOf s)) (λ number place i c r. same-sound number _)
+      (λ i c r. same-sound wait (spanOf s))
 
   pub position-inside : s .position ≤ length src
   position-inside = good-numbers src s (h .good) .position
@@ -162,27 +142,11 @@ module _ (src : List ℕ) (s : Session) (l q : List ℕ) (h : Sound src (length 
           let bottom = subst (λ (i : ℕ). isBottom (getD (s .frames) i noSlot .frame) ≡ false) one k in
           absurd (false≢true (sym bottom ∙ good-bottom src s (h .good)))
 
-  pub step-sound : (end : Bool) → StaysSound src l q (stepped src end s l q)
-  unfolding stepped stepOutcome
-  step-sound end =
-      let w = step-ways src end s position-inside in
-      gated-sound _
-      (settled-sound (stepOutcome src end s) (w .lies) (w .stack top-sound) (limited-room (s .depth) (s .position) _))
-
-  reading-sound : (o : Outcome) → Readable src s o → StaysSound src l q (reading o src s l q)
-  unfolding reading
-  reading-sound o w =
-      let ways = w .ways position-inside in
-      gated-sound _
-      (choice (StaysSound src l q) (isScripting (topFrame s)) _ _
-      (λ e. settled-sound o (ways .lies) (ways .stack tt) (rw (w .free) at (limited-room (s .depth) (s .position) o)))
-      (λ e. same-sound outOfPlace (spanOf s)))
-
-  pub number-sound : (end : Bool) → StaysSound src l q (readNumber src end s l q)
-  number-sound end = reading-sound (numberOutcome src end s) (number-readable src end s)
-
-  pub single-sound : (end : Bool) → StaysSound src l q (readSingle src end s l q)
-  single-sound end = reading-sound (singleOutcome src end s) (single-readable src end s)
-
-  pub double-sound : (end : Bool) → StaysSound src l q (readDouble src end s l q)
-  double-sound end = reading-sound (doubleOutcome src end s) (double-readable src end s)
+  pub call-sound : (call : Call) (end : Bool) → StaysSound src l q (called call src end s l q)
+  unfolding called callOutcome
+  call-sound call end =
+      let w = call-ways call src end s position-inside in
+      choice (StaysSound src l q) (eqb (lentRefusal src (length l) (length q) s) 0) _ _
+      (λ e.
+      settled-sound (callOutcome call src end s) (w .lies) (w .stack top-sound) (limited-room (s .depth) (s .position) _))
+      (λ e. same-sound _ origin)

@@ -21,7 +21,7 @@ use Rattle.outcome.specs.Outcomes.{Piece, Outcome}
 use Rattle.outcome.specs.Insides.{AllInside, Inside}
 use Rattle.outcome.specs.Texts.{slice}
 use Rattle.outcome.proofs.TextDemand.{slice-append}
-use Rattle.commit.specs.Records.{spanAt, records}
+use Rattle.commit.specs.Records.{spanAt, Tables, put, reached}
 use Rattle.lexer.specs.Turns.{settled}
 use Rattle.demands.proofs.Good.{Sound}
 
@@ -33,24 +33,25 @@ module _ (part rest : List ℕ) where
         let z : p .position - 0 ≡ p .position = omega arith in
         ap (passed p) (rw z at (slice-append 0 part rest (p .position) place (omega arith) low (omega arith)))
 
-    records-append : (start n after : ℕ) (pieces : List Piece) → p .position ≤ n → after ≤ length part → AllInside n after pieces
-        → records (part ++ rest) p start pieces ≡ records part p start pieces
-    unfolding records
-    records-append start n after [] low k i = refl
-    records-append start n after (piece ∷ more) low k i =
-        rw (
-          spanAt-append (piece .place) (omega (arith, i .0 .low)) (omega (arith, i .0 .high)),
-          records-append (start + length (piece .value)) (piece .place) after more (omega (arith, i .0 .low)) k (i .1),
-        )
+    put-append : (n after : ℕ) (pieces : List Piece) → p .position ≤ n → after ≤ length part → AllInside n after pieces
+        → (tokens bytes : ℕ) (t : Tables)
+        → put (part ++ rest) (record { span = p; tokens = tokens; bytes = bytes }) t pieces
+        ≡ put part (record { span = p; tokens = tokens; bytes = bytes }) t pieces
+    unfolding put
+    put-append n after [] low k i tokens bytes t = refl
+    put-append n after (piece ∷ more) low k i tokens bytes t =
+        rw (spanAt-append (piece .place) (omega (arith, i .0 .low)) (omega (arith, i .0 .high)))
+        (put-append (piece .place) after more (omega (arith, i .0 .low)) k (i .1) (tokens + 1) (bytes + length (piece .value)) _)
 
   module _ (s : Session) (l q : List ℕ) (h : s .position ≤ length part) where
     pub settled-append : (o : Outcome) → Inside (s .position) (length part) o
         → settled (part ++ rest) s l q o ≡ settled part s l q o
-    unfolding settled
+    unfolding reached
     settled-append (Outcome.Told pieces after change finished) i =
         rw (
           spanAt-append (spanOf s) h after (i .order) (i .inside),
-          records-append (spanOf s) h (s .bytes) (s .position) after pieces (omega arith) (i .inside) (i .all),
+          put-append (spanOf s) h (s .position) after pieces (omega arith) (i .inside) (i .all) (s .tokens) (s .bytes)
+              (record { list = l; pool = q }),
         )
     settled-append (Outcome.Refused number place) i = rw (spanAt-append (spanOf s) h place (i .low) (i .high))
     settled-append Outcome.Wait i = refl

@@ -1,5 +1,5 @@
 -- Positions of records never fall: a step writes its records from the cursor on, and the cursor never goes back. Assumes nothing.
---   step-rising     where the records before have positions up to the cursor, so have the records after, up to the cursor after
+--   call-rising     where the records before have positions up to the cursor, so have the records after, up to the cursor after
 --   walk-rising     so from an empty list on, after any number of steps
 use Prim.Native.Nat.{ℕ, zero, suc, _+_, _-_, _*_, _≤_}
 use mathlib.Core.Path.{_≡_, refl, sym, ap, _∙_}
@@ -10,7 +10,6 @@ use native.Mathlib.Nat.{zero-add, suc-add}
 use lib.Dec.{eqb}
 use lib.ListN.{length, getD, take, drop, length-drop}
 use lib.Seq.{drop-drop, drop-nil, take-nil, getD-take, take-at, drop-at, length-take-le}
-use borrow.Author.Tests.{eqb-true}
 use Rattle.byte.specs.Laid.{laid}
 use Rattle.source.specs.declared.Span.{Span}
 use Rattle.byte.proofs.Tests.{choice}
@@ -19,17 +18,20 @@ use Rattle.state.specs.declared.Answer.{Answer}
 use Rattle.state.specs.declared.Session.{Session}
 use Rattle.state.specs.Calls.{spanOf}
 use Rattle.state.specs.Gates.{lentRefusal}
+use Rattle.outcome.specs.declared.Call.{Call}
 use Rattle.outcome.specs.declared.Change.{Change}
 use Rattle.outcome.specs.Outcomes.{Piece, Outcome, values}
 use Rattle.outcome.specs.Insides.{AllInside, Inside}
-use Rattle.outcome.specs.Steps.{stepOutcome}
-use Rattle.outcome.proofs.StepWays.{step-inside}
+use Rattle.outcome.specs.Steps.{callOutcome}
+use Rattle.outcome.proofs.StepWays.{call-inside}
 use Rattle.commit.specs.Records.{spanAt, records}
-use Rattle.lexer.specs.Turns.{After, room, settled, written}
-use Rattle.lexer.specs.Calls.{stepped}
+use Rattle.commit.proofs.Putting.{room-facts, put-laid}
+use Rattle.lexer.specs.Turns.{After, markOf, settled}
+use Rattle.lexer.specs.Calls.{called, stepped}
+use Rattle.lexer.proofs.Nexts.{room, written, settled-cases}
 use Rattle.demands.specs.Walks.{goOn, walked}
 use Rattle.demands.specs.Records.{positions, Rising}
-use Rattle.demands.proofs.Good.{Sound, step-sound, position-inside, room-facts}
+use Rattle.demands.proofs.Good.{Sound, call-sound, position-inside}
 
 -- ---- positions of a list in two parts
 
@@ -118,10 +120,11 @@ OrderedAfter a = Ordered (a .list) (a .turn .session)
 
 module _ (src : List ℕ) (s : Session) (l q : List ℕ) (h : Sound src (length l) (length q) s) (o : Ordered l s) where
   written-rising : (pieces : List Piece) (after : ℕ) (change : Change) (finished : Bool)
-      → Inside (s .position) (length src) (Outcome.Told pieces after change finished) → room s l q pieces ≡ 0
+      → Inside (s .position) (length src) (Outcome.Told pieces after change finished) → room src s l q pieces ≡ 0
       → OrderedAfter (written src s l q pieces after change finished)
   written-rising pieces after change finished i e =
       let fits = room-facts (length l) (length q) (s .tokens) (s .bytes) (length pieces) (length (values pieces)) e in
+      let put-so = put-laid src pieces (markOf s) (record { list = l; pool = q }) (fits .0) (fits .1) .0 in
       let m = s .tokens * 8 in
       let rs = records src (spanOf s) (s .bytes) pieces in
       let before : positions (s .tokens) (laid l m rs) ≡ positions (s .tokens) l =
@@ -133,23 +136,22 @@ module _ (src : List ℕ) (s : Session) (l q : List ℕ) (h : Sound src (length 
       let there = span-place src (spanOf s) after (i .order) (i .inside) in
       record {
         rising =
-            rw (all, there)
+            rw (put-so, all, there)
             (rising-append 0 (s .position) after (positions (s .tokens) l) (places pieces) (o .rising)
             (places-rising (s .position) after pieces (i .order) (i .all)));
       }
 
   settled-rising : (u : Outcome) → Inside (s .position) (length src) u → OrderedAfter (settled src s l q u)
-  unfolding settled
-  settled-rising (Outcome.Told pieces after change finished) i =
-      choice OrderedAfter (eqb (room s l q pieces) 0) _ _ (λ e. written-rising pieces after change finished i (eqb-true _ _ e)) (λ e. o)
-  settled-rising (Outcome.Refused number place) i = o
-  settled-rising Outcome.Wait i = o
+  settled-rising =
+      settled-cases src s l q (λ u a. Inside (s .position) (length src) u → OrderedAfter a)
+      (λ pieces after change finished e i. written-rising pieces after change finished i e)
+      (λ pieces after change finished i. o) (λ number place i. o) (λ i. o)
 
-  pub step-rising : (end : Bool) → OrderedAfter (stepped src end s l q)
-  unfolding stepped
-  step-rising end =
+  pub call-rising : (call : Call) (end : Bool) → OrderedAfter (called call src end s l q)
+  unfolding called
+  call-rising call end =
       choice OrderedAfter (eqb (lentRefusal src (length l) (length q) s) 0) _ _
-      (λ e. settled-rising (stepOutcome src end s) (step-inside src end s (position-inside src s l q h))) (λ e. o)
+      (λ e. settled-rising (callOutcome call src end s) (call-inside call src end s (position-inside src s l q h))) (λ e. o)
 
 pub walk-rising : (n : ℕ) (src : List ℕ) (end : Bool) (s : Session) (l q : List ℕ) → Sound src (length l) (length q) s → Ordered l s
     → OrderedAfter (walked n src end s l q)
@@ -157,8 +159,8 @@ unfolding walked goOn
 walk-rising zero src end s l q h o = o
 walk-rising (suc n) src end s l q h o =
     let now = stepped src end s l q in
-    let sound = step-sound src s l q h end in
-    let next = step-rising src s l q h o end in
+    let sound = call-sound src s l q h Call.Step end in
+    let next = call-rising src s l q h o Call.Step end in
     go (now .turn .answer) _ _ next
     (walk-rising n src end (now .turn .session) (now .list) (now .pool) (rw (sound .list, sound .pool) (sound .sound)) next)
   where

@@ -1,6 +1,8 @@
 -- Many steps, and a script that comes in parts (demand 3).
 --   goOn     a step that is done is followed by the next; any other answer is the last
 --   walked   at most so many steps
+--   calledOn a call and, where it is done, steps after it: at most so many in all
+--   isDone, begins   done, and not finished; whether the call is done, where one is wanted
 --   isWait   refusal 6
 --   joined   the script that parts make
 --   fed      a script in parts: each part is stepped, with more announced, up to a wait; the next part comes after it, the session,
@@ -14,8 +16,9 @@ use Rattle.byte.specs.Refusals.{wait}
 use Rattle.state.specs.declared.Answer.{Answer}
 use Rattle.state.specs.declared.Session.{Session}
 use Rattle.state.specs.Calls.{done}
+use Rattle.outcome.specs.declared.Call.{Call}
 use Rattle.lexer.specs.Turns.{After}
-use Rattle.lexer.specs.Calls.{stepped}
+use Rattle.lexer.specs.Calls.{called, stepped}
 
 unfoldable pub goOn : Answer → After → After → After
 goOn Answer.Done now later = later
@@ -27,6 +30,21 @@ walked zero src end s list pool = record { turn = done s; list = list; pool = po
 walked (suc n) src end s list pool =
     let now = stepped src end s list pool in
     goOn (now .turn .answer) now (walked n src end (now .turn .session) (now .list) (now .pool))
+
+unfoldable pub calledOn : Call → ℕ → List ℕ → Bool → Session → List ℕ → List ℕ → After
+calledOn call zero src end s list pool = record { turn = done s; list = list; pool = pool }
+calledOn call (suc n) src end s list pool =
+    let now = called call src end s list pool in
+    goOn (now .turn .answer) now (walked n src end (now .turn .session) (now .list) (now .pool))
+
+unfoldable pub isDone : Answer → Bool
+isDone Answer.Done = true
+isDone Answer.Finished = false
+isDone (Answer.Refused number span) = false
+
+unfoldable pub begins : Call → ℕ → List ℕ → Bool → Session → List ℕ → List ℕ → Bool
+begins call zero src end s list pool = false
+begins call (suc n) src end s list pool = isDone (called call src end s list pool .turn .answer)
 
 unfoldable pub isWait : Answer → Bool
 isWait (Answer.Refused number span) = eqb number wait

@@ -11,12 +11,16 @@ use Rattle.unit.specs.Readings.{gap, textEnd}
 use Rattle.number.specs.declared.Literal.{Literal}
 use Rattle.outcome.specs.declared.Change.{Change}
 use Rattle.outcome.specs.Texts.{docKind, quoteKind, stopKind, stopDetail, variableChange, stopChange, isLeft, numberKind}
+use Rattle.drafts.specs.Code.{literalKind}
 
 pub docKind-arm : (ind arm : Indentation) (r : ℕ) → ind ≡ arm → r ≡ docKind arm → r ≡ docKind ind
 docKind-arm ind arm r e h = rw e h
 
 pub quoteKind-arm : (mode arm : Mode) (r : ℕ) → mode ≡ arm → r ≡ quoteKind arm → r ≡ quoteKind mode
 quoteKind-arm mode arm r e h = rw e h
+
+pub literalKind-arm : (mode arm : Mode) (r : ℕ) → mode ≡ arm → r ≡ literalKind arm → r ≡ literalKind mode
+literalKind-arm mode arm r e h = rw e h
 
 module _ (stop arm : Stop) (e : stop ≡ arm) where
   pub stopKind-arm : (mode : Mode) (r : ℕ) → r ≡ stopKind mode arm → r ≡ stopKind mode stop

@@ -9,7 +9,7 @@ use Rattle.outcome.specs.declared.Change.{Change}
 use Rattle.outcome.specs.Outcomes.{Piece, Outcome, piece, unlessEmpty}
 use Rattle.plan.specs.declared.Making.{Making}
 use Rattle.plan.specs.declared.Draft.{Draft}
-use Rattle.plan.specs.Code.{madeBy, pieceOf, piecesOf, outcomeOf, Able, Ready, Plans, copiedDraft, onePlan, partedPlan}
+use Rattle.plan.specs.Code.{madeBy, pieceOf, pieces, outcomeOf, Able, Ready, Plans, copiedDraft, onePlan, partedPlan}
 use Rattle.plan.proofs.Plans as plan
 use Rattle.drafts.specs.Code.{madeDraft}
 
@@ -34,8 +34,8 @@ module _ (src : List ℕ) (end : Bool) where
   module _ (after : ℕ) (change : Change) where
     pub one-plans : (d : Draft) → Ready src end d
         → Plans src end (Outcome.Told (pieceOf src end d ∷ []) after change false) (onePlan d after change)
-    unfolding outcomeOf piecesOf
-    one-plans d ready = record { told = refl; ready = ready }
+    unfolding outcomeOf pieces
+    one-plans d ready = record { told = refl; ready = record { few = omega arith; all = (ready, tt) } }
 
     module _ (kind place : ℕ) (value : List ℕ) where
       pub piece-plans : (d : Draft) → Makes src end (piece kind place value) d

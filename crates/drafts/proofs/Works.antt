@@ -1,5 +1,5 @@
 -- Scans and their plans: what a scan found makes the outcome of what was read. Assumes nothing.
---   read-plans, literal-plans, number-plans   the plan of a reading that was measured makes its outcome
+--   read-plans, text-plans, number-plans   the plan of a reading that was measured makes its outcome
 --   .. -arm                                   the same on each arm of a match on the scan
 use Prim.Native.Nat.{ℕ, _+_, _-_, _≤_}
 use mathlib.Core.Path.{_≡_, refl, sym, _∙_}
@@ -9,12 +9,13 @@ use native.Mathlib.Omega.{arith}
 use lib.Dec.{eqb}
 use lib.ListN.{length, take, drop, length-drop}
 use lib.Seq.{drop-drop}
-use borrow.Author.Tests.{eqb-true, eq-eqb, ne-eqb}
+use borrow.Author.Tests.{eqb-true, eqb-false, eq-eqb, ne-eqb}
+use Rattle.byte.specs.Words.{if_then_else_}
 use Rattle.byte.proofs.Tests.{choice}
 use Rattle.state.specs.declared.Frame.{Frame}
 use Rattle.state.specs.declared.Label.{Label}
 use Rattle.state.specs.declared.Reading as session
-use Rattle.state.specs.Bounds.{labelBytes, noLabel}
+use Rattle.state.specs.Bounds.{labelBytes}
 use Rattle.token.specs.Kinds.{stringPart}
 use Rattle.unit.specs.declared.Mode.{Mode}
 use Rattle.unit.specs.declared.Stop.{Stop}
@@ -34,15 +35,16 @@ use Rattle.sheet.specs.Sheets.{sheetAt}
 use Rattle.sheet.proofs.Inside.{SheetStands, StandsSheet, sheet-stands, sheet-inside}
 use Rattle.sheet.proofs.Writes.{sheet-copied}
 use Rattle.outcome.specs.Outcomes.{Outcome, piece}
-use Rattle.outcome.specs.Texts.{slice, stopKind, stopDetail, stopChange, texted, isLeft, literal, numberKind, numbered}
-use Rattle.outcome.specs.Steps.{textMode, nowdoc}
+use Rattle.outcome.specs.Texts.{slice, stopKind, stopDetail, stopChange, texted, isLeft, literal, textRead}
+use Rattle.outcome.specs.Texts.{numberKind, numbered}
+use Rattle.outcome.specs.Steps.{nowdoc}
 use Rattle.plan.specs.declared.Making.{Making}
 use Rattle.plan.specs.declared.Draft.{Draft}
 use Rattle.plan.specs.declared.Plan.{Plan}
 use Rattle.plan.specs.Code.{madeBy, outcomeOf, Here, Named, Plans, copiedDraft, onePlan, partedPlan}
 use Rattle.drafts.specs.Code.{madeDraft, textDraft, sheetDraft, textPlan, textWork}
-use Rattle.drafts.specs.Code.{literalPlan, literalWork, numberPlan, numberWork}
-use Rattle.plan.proofs.Plans.{named-short, copied-ready, either-plans}
+use Rattle.drafts.specs.Code.{literalKind, literalPlan, readWork, numberPlan, numberWork}
+use Rattle.plan.proofs.Plans.{named-short, copied-ready, refused-plans, wait-plans}
 use Rattle.drafts.proofs.Drafts.{Makes, copied-makes, made-makes, one-plans, piece-plans, parted-plans}
 
 -- a part of the text from `at` on is a part of the source
@@ -80,6 +82,27 @@ pub textPlan-made : (mode : Mode) (part : Draft) (stop : Stop) (from after : ℕ
     → change ≡ stopChange stop → r ≡ partedPlan part closing after change → r ≡ textPlan mode part stop from after
 unfolding textPlan
 textPlan-made mode part stop from after closing kind detail change r k d l c e = e ∙ rw (l, k, d, c)
+
+module _ (kind : ℕ) (left : Bool) where
+  pub valueKind-left : left ≡ true → stringPart ≡ (if left then stringPart else kind)
+  valueKind-left t = rw t
+
+  pub valueKind-closed : left ≡ false → kind ≡ (if left then stringPart else kind)
+  valueKind-closed t = rw t
+
+pub ruleset valueKinds = (valueKind-left, valueKind-closed)
+
+module _ (d : Draft) (left : Bool) (after : ℕ) (r : Plan) where
+  pub literalPlan-left : left ≡ true → r ≡ onePlan d after (Change.Swap Frame.DoubleQuote)
+      → r ≡ literalPlan d left after
+  unfolding literalPlan
+  literalPlan-left t e = e ∙ rw t
+
+  pub literalPlan-closed : left ≡ false → r ≡ onePlan d after Change.Keep → r ≡ literalPlan d left after
+  unfolding literalPlan
+  literalPlan-closed t e = e ∙ rw t
+
+pub ruleset literalPlans = (literalPlan-left, literalPlan-closed)
 
 -- the text that a scan measured
 record Measures (r : unit.Reading) (len : ℕ) (stop : Stop) (from after : ℕ) : Type 0 where
@@ -120,6 +143,47 @@ module _ (mode : Mode) (label : List ℕ) (end : Bool) (at : ℕ) (xs : List ℕ
   pub text-order : from ≤ after
   text-order = text-placed .order
 
+-- a text is a mode's or a literal's
+module _ (place n : ℕ) (xs : List ℕ) where
+  textRead-mode : (mode : Mode) (r : unit.Reading) → literalKind mode ≡ 0
+      → textRead mode place n xs r ≡ texted mode n xs r
+  unfolding literalKind textRead
+  textRead-mode Mode.Single r z = absurd (omega arith)
+  textRead-mode Mode.Double r z = absurd (omega arith)
+  textRead-mode Mode.DoubleQuote r z = refl
+  textRead-mode Mode.ShellExec r z = refl
+  textRead-mode Mode.Heredoc r z = refl
+  textRead-mode Mode.Nowdoc r z = refl
+
+  textRead-literal : (mode : Mode) (r : unit.Reading) → (literalKind mode ≡ 0 → ⊥)
+      → textRead mode place n xs r ≡ literal (literalKind mode) place r
+  unfolding literalKind textRead
+  textRead-literal Mode.Single r z = refl
+  textRead-literal Mode.Double r z = refl
+  textRead-literal Mode.DoubleQuote r z = absurd (z refl)
+  textRead-literal Mode.ShellExec r z = absurd (z refl)
+  textRead-literal Mode.Heredoc r z = absurd (z refl)
+  textRead-literal Mode.Nowdoc r z = absurd (z refl)
+
+  textRead-refused : (mode : Mode) (number fault : ℕ)
+      → textRead mode place n xs (unit.Refused number fault) ≡ Outcome.Refused number fault
+  unfolding textRead texted literal
+  textRead-refused Mode.Single number fault = refl
+  textRead-refused Mode.Double number fault = refl
+  textRead-refused Mode.DoubleQuote number fault = refl
+  textRead-refused Mode.ShellExec number fault = refl
+  textRead-refused Mode.Heredoc number fault = refl
+  textRead-refused Mode.Nowdoc number fault = refl
+
+  textRead-waits : (mode : Mode) → textRead mode place n xs unit.Wait ≡ Outcome.Wait
+  unfolding textRead texted literal
+  textRead-waits Mode.Single = refl
+  textRead-waits Mode.Double = refl
+  textRead-waits Mode.DoubleQuote = refl
+  textRead-waits Mode.ShellExec = refl
+  textRead-waits Mode.Heredoc = refl
+  textRead-waits Mode.Nowdoc = refl
+
 -- a reading whose texts make such drafts makes the outcome of a text
 module _ (mode : Mode) (src : List ℕ) (end : Bool) (at : ℕ) (draft : ℕ → Stop → ℕ → Draft) (read : unit.Reading)
     (makes : (value : List ℕ) (stop : Stop) (from after : ℕ) → read ≡ unit.Text value stop from after
@@ -142,6 +206,11 @@ module _ (mode : Mode) (src : List ℕ) (end : Bool) (at : ℕ) (draft : ℕ →
       let work : r ≡ textWork mode draft (text-scans.measured read) = e ∙ rw (← a, s) in
       rw work (read-plans read refl i)
 
+-- what is read of the text from `at` on
+abbrev pub readText : Mode → List ℕ → Label → Bool → ℕ → ℕ → Outcome
+readText mode src label end place at =
+    textRead mode place at (drop at src) (unit.textAt mode (labelBytes src label) end at (drop at src))
+
 module _ (mode : Mode) (src : List ℕ) (label : Label) (end : Bool) (at : ℕ) (here : Here src at) (name : Named src label) where
   text-read : StandsReading (isLiteral mode) at (length src) (drop at src)
       (unit.textAt mode (labelBytes src label) end at (drop at src))
@@ -159,24 +228,72 @@ module _ (mode : Mode) (src : List ℕ) (label : Label) (end : Bool) (at : ℕ) 
       (text-copied mode (labelBytes src label) end at (drop at src) value stop from after e (eqb-true _ _ t)))
       (λ t. made-makes src end kind place value (Making.Text mode label) at from (record { start = here .inside; name = name }) (rw e))
 
-  module _ (part : List ℕ) (p : part ≡ labelBytes src label) (scan : Scanned)
-      (s : scan ≡ text-scans.measured (unit.textAt mode part end at (drop at src))) where
-    pub text-arm : (arm : Scanned) (r : Plan) → scan ≡ arm → r ≡ textWork mode (textDraft stringPart at mode label at) arm
-        → Plans src end (textMode mode (labelBytes src label) end at (drop at src)) r
-    unfolding textMode
-    text-arm arm r a e =
-        scan-plans mode src end at (textDraft stringPart at mode label at) (unit.textAt mode (labelBytes src label) end at (drop at src))
-        (text-makes stringPart at)
-        (rw (all-left src at (here .inside)) at (unit-inside.text-inside mode (labelBytes src label) end at (drop at src)))
-        scan arm (s ∙ rw p) a r e
+  module _ (place : ℕ) where
+    literal-one : (kind from after : ℕ) (stop : Stop) (change : Change) (value : List ℕ)
+        → unit.textAt mode (labelBytes src label) end at (drop at src) ≡ unit.Text value stop from after
+        → Plans src end (Outcome.Told (piece kind place value ∷ []) after change false)
+        (onePlan (textDraft kind place mode label at (length value) stop from) after change)
+    literal-one kind from after stop change value e =
+        piece-plans src end after change kind place value _ (text-makes kind place value stop from after e)
 
-    pub text-parted : (len : ℕ) (stop : Stop) (from after : ℕ) (d : Draft) (r : Plan) → scan ≡ Scanned.Text len stop from after
-        → d ≡ textDraft stringPart at mode label at len stop from → r ≡ textPlan mode d stop from after
-        → Plans src end (textMode mode (labelBytes src label) end at (drop at src)) r
-    unfolding textWork
-    text-parted len stop from after d r a m e = text-arm (Scanned.Text len stop from after) r a (e ∙ rw m)
+    literal-plans : (kind : ℕ) (left : Bool) (from after : ℕ) (stop : Stop) (value : List ℕ) → left ≡ isLeft stop
+        → unit.textAt mode (labelBytes src label) end at (drop at src) ≡ unit.Text value stop from after
+        → Plans src end (literal kind place (unit.Text value stop from after))
+        (literalPlan
+        (textDraft (if left then stringPart else kind) place mode label at (length value) stop from)
+        left
+        after)
+    unfolding literal literalPlan
+    literal-plans kind true from after stop value l e =
+        rw (← l) (literal-one stringPart from after stop (Change.Swap Frame.DoubleQuote) value e)
+    literal-plans kind false from after stop value l e = rw (← l) (literal-one kind from after stop Change.Keep value e)
 
-pub ruleset texts = (named-short, text-arm, text-parted, text-fits, text-order)
+    text-plans : (r : unit.Reading) → unit.textAt mode (labelBytes src label) end at (drop at src) ≡ r
+        → Plans src end (textRead mode place at (drop at src) r) (readWork mode place label at (text-scans.measured r))
+    unfolding readWork textWork text-scans.measured
+    text-plans (unit.Text value stop from after) e =
+        let xs = drop at src in
+        let whole = unit.textAt mode (labelBytes src label) end at xs in
+        let found = unit.Text value stop from after in
+        let kind = literalKind mode in
+        let within = unit-inside.text-inside mode (labelBytes src label) end at xs in
+        choice (Plans src end (textRead mode place at xs found)) (eqb kind 0) _ _
+        (λ t. rw (textRead-mode place at xs mode found (eqb-true kind 0 t))
+        (read-plans mode src end at (textDraft stringPart at mode label at) whole (text-makes stringPart at) found e
+        (rw e at (rw (all-left src at (here .inside)) at within))))
+        (λ t. rw (textRead-literal place at xs mode found (eqb-false kind 0 t))
+        (literal-plans kind (isLeft stop) from after stop value refl e))
+    text-plans (unit.Refused number fault) e =
+        rw (textRead-refused place at (drop at src) mode number fault) (refused-plans src end number fault)
+    text-plans unit.Wait e = rw (textRead-waits place at (drop at src) mode) (wait-plans src end)
+
+    module _ (part : List ℕ) (p : part ≡ labelBytes src label) (scan : Scanned)
+        (s : scan ≡ text-scans.measured (unit.textAt mode part end at (drop at src))) where
+      pub text-arm : (arm : Scanned) (r : Plan) → scan ≡ arm → r ≡ readWork mode place label at arm
+          → Plans src end (readText mode src label end place at) r
+      text-arm arm r a e =
+          let whole = unit.textAt mode (labelBytes src label) end at (drop at src) in
+          let work : r ≡ readWork mode place label at (text-scans.measured whole) = e ∙ rw (← a, s, p) in
+          rw work (text-plans whole refl)
+
+      module _ (len : ℕ) (stop : Stop) (from after : ℕ) (d : Draft) (r : Plan)
+          (a : scan ≡ Scanned.Text len stop from after) (kind : ℕ) (k : kind ≡ literalKind mode) where
+        pub text-parted : kind ≡ 0 → d ≡ textDraft stringPart at mode label at len stop from
+            → r ≡ textPlan mode d stop from after → Plans src end (readText mode src label end place at) r
+        unfolding readWork
+        text-parted z m e =
+            let none : eqb (literalKind mode) 0 ≡ true = eq-eqb (literalKind mode) 0 (sym k ∙ z) in
+            text-arm (Scanned.Text len stop from after) r a (e ∙ rw (m, none))
+
+        pub text-literal : (left : Bool) (value : ℕ) → (kind ≡ 0 → ⊥) → left ≡ isLeft stop
+            → value ≡ (if left then stringPart else kind) → d ≡ textDraft value place mode label at len stop from
+            → r ≡ literalPlan d left after → Plans src end (readText mode src label end place at) r
+        unfolding readWork
+        text-literal left value z l v m e =
+            let some : eqb (literalKind mode) 0 ≡ false = ne-eqb (literalKind mode) 0 (λ n. z (k ∙ n)) in
+            text-arm (Scanned.Text len stop from after) r a (e ∙ rw (m, v, some, ← l, k))
+
+pub ruleset texts = (named-short, text-arm, text-parted, text-literal, text-fits, text-order)
 
 -- ---- sheets
 
@@ -244,54 +361,6 @@ module _ (src : List ℕ) (label : Label) (end : Bool) (at : ℕ) (here : Here s
       sheet-order = omega (arith, sheet-placed .sized)
 
 pub ruleset sheeting = (named-short, sheet-arm, sheet-parted, sheet-fits, sheet-order)
-
-pub nowdoc-arm : (nowdocs arm : session.Reading) (src label : List ℕ) (end : Bool) (at : ℕ) (xs : List ℕ) (r : Plan) → nowdocs ≡ arm
-    → Plans src end (nowdoc arm label end at xs) r → Plans src end (nowdoc nowdocs label end at xs) r
-nowdoc-arm nowdocs arm src label end at xs r e h = rw e h
-
--- ---- literals
-
-module _ (kind place : ℕ) (mode : Mode) (at len : ℕ) (stop : Stop) (from after : ℕ) (left : Bool) (f : left ≡ isLeft stop) (label : Label)
-    (l : label ≡ noLabel) (d : Draft) (r : Plan) where
-  pub literalPlan-left : left ≡ true → d ≡ textDraft stringPart place mode label at len stop from
-      → r ≡ onePlan d after (Change.Swap Frame.DoubleQuote) → r ≡ literalPlan kind place mode at len stop from after
-  unfolding literalPlan
-  literalPlan-left t e h = h ∙ rw (e, l, ← f, t)
-
-  pub literalPlan-closed : left ≡ false → d ≡ textDraft kind place mode label at len stop from
-      → r ≡ onePlan d after Change.Keep → r ≡ literalPlan kind place mode at len stop from after
-  unfolding literalPlan
-  literalPlan-closed t e h = h ∙ rw (e, l, ← f, t)
-
-pub ruleset literalPlans = (literalPlan-left, literalPlan-closed)
-
-module _ (kind place : ℕ) (mode : Mode) (src : List ℕ) (end : Bool) (at : ℕ) (here : Here src at) where
-  literal-one : (kind from after : ℕ) (stop : Stop) (change : Change) (value : List ℕ)
-      → unit.textAt mode [] end at (drop at src) ≡ unit.Text value stop from after
-      → Plans src end (Outcome.Told (piece kind place value ∷ []) after change false)
-      (onePlan (textDraft kind place mode noLabel at (length value) stop from) after change)
-  literal-one kind from after stop change value e =
-      let name : Named src noLabel = record { inside = omega arith; short = omega arith } in
-      piece-plans src end after change kind place value _ (text-makes mode src noLabel end at here name kind place value stop from after e)
-
-  literal-plans : (r : unit.Reading) → unit.textAt mode [] end at (drop at src) ≡ r
-      → Plans src end (literal kind place r) (literalWork kind place mode at (text-scans.measured r))
-  unfolding literal literalWork literalPlan text-scans.measured outcomeOf
-  literal-plans (unit.Text value stop from after) e =
-      either-plans src end (isLeft stop) _ _ _ _
-      (literal-one stringPart from after stop (Change.Swap Frame.DoubleQuote) value e)
-      (literal-one kind from after stop Change.Keep value e)
-  literal-plans (unit.Refused number fault) e = record { told = refl; ready = tt }
-  literal-plans unit.Wait e = record { told = refl; ready = tt }
-
-  pub literal-arm : (scan arm : Scanned) (r : Plan) → scan ≡ text-scans.measured (unit.textAt mode [] end at (drop at src))
-      → scan ≡ arm → r ≡ literalWork kind place mode at arm
-      → Plans src end (literal kind place (unit.textAt mode [] end at (drop at src))) r
-  literal-arm scan arm r s a e =
-      let work : r ≡ literalWork kind place mode at (text-scans.measured (unit.textAt mode [] end at (drop at src))) = e ∙ rw (← a, s) in
-      rw work (literal-plans (unit.textAt mode [] end at (drop at src)) refl)
-
-pub ruleset literals = (literal-arm, text-fits)
 
 -- ---- numbers
 

@@ -3,15 +3,16 @@
 --   textDraft     a text's value: where nothing was escaped it is the source's own bytes
 --   sheetDraft    a sheet's value: its rows up to the closing line, by the closing line's indentation
 --   textPlan      a mode's text: its part, if it is not empty, and the token after it
+--   literalKind   the kind of a literal; 0 for a mode
 --   literalPlan, numberPlan   a quoted string; a number
---   textWork, literalWork, numberWork   a scan: found, refused, or wait
+--   textWork, readWork, numberWork   a scan: found, refused, or wait
 use Prim.Native.Nat.{ℕ, _+_, _-_}
+use mathlib.Core.Bool.{Bool}
 use lib.Dec.{eqb}
-use Rattle.state.specs.Bounds.{noLabel}
 use Rattle.byte.specs.Words.{if_then_else_}
 use Rattle.state.specs.declared.Frame.{Frame}
 use Rattle.state.specs.declared.Label.{Label}
-use Rattle.token.specs.Kinds.{stringPart}
+use Rattle.token.specs.Kinds.{stringPart, literalSingleQuotedString, literalDoubleQuotedString}
 use Rattle.unit.specs.declared.Mode.{Mode}
 use Rattle.unit.specs.declared.Stop.{Stop}
 use Rattle.unit.specs.Readings.{textEnd}
@@ -53,17 +54,28 @@ textWork mode draft (Scanned.Text len stop from after) = textPlan mode (draft le
 textWork mode draft (Scanned.Refused number place) = Plan.Refused number place
 textWork mode draft Scanned.Wait = Plan.Wait
 
--- the text starts at `at`, the token bears the span of `place`
-unfoldable pub literalPlan : ℕ → ℕ → Mode → ℕ → ℕ → Stop → ℕ → ℕ → Plan
-literalPlan kind place mode at len stop from after =
-    if isLeft stop then
-    onePlan (textDraft stringPart place mode noLabel at len stop from) after (Change.Swap Frame.DoubleQuote)
-    else onePlan (textDraft kind place mode noLabel at len stop from) after Change.Keep
+unfoldable pub literalKind : Mode → ℕ
+literalKind Mode.Single = literalSingleQuotedString
+literalKind Mode.Double = literalDoubleQuotedString
+literalKind Mode.DoubleQuote = 0
+literalKind Mode.ShellExec = 0
+literalKind Mode.Heredoc = 0
+literalKind Mode.Nowdoc = 0
 
-unfoldable pub literalWork : ℕ → ℕ → Mode → ℕ → Scanned → Plan
-literalWork kind place mode at (Scanned.Text len stop from after) = literalPlan kind place mode at len stop from after
-literalWork kind place mode at (Scanned.Refused number fault) = Plan.Refused number fault
-literalWork kind place mode at Scanned.Wait = Plan.Wait
+-- before an interpolation, which is left, it is a part
+unfoldable pub literalPlan : Draft → Bool → ℕ → Plan
+literalPlan d left after = onePlan d after (if left then Change.Swap Frame.DoubleQuote else Change.Keep)
+
+-- the text starts at `at`; a literal's token bears the span of `place`
+unfoldable pub readWork : Mode → ℕ → Label → ℕ → Scanned → Plan
+readWork mode place label at (Scanned.Text len stop from after) =
+    if eqb (literalKind mode) 0 then textPlan mode (textDraft stringPart at mode label at len stop from) stop from after
+    else literalPlan
+    (textDraft (if isLeft stop then stringPart else literalKind mode) place mode label at len stop from)
+    (isLeft stop)
+    after
+readWork mode place label at (Scanned.Refused number fault) = Plan.Refused number fault
+readWork mode place label at Scanned.Wait = Plan.Wait
 
 unfoldable pub numberPlan : ℕ → ℕ → Literal → ℕ → ℕ → Plan
 numberPlan place at literal after len =

@@ -14,17 +14,18 @@ use unit::Indentation;
 use unit::Mode;
 use unit::Stop;
 ghost use mathlib.Core.Path.{_≡_};
-ghost use mathlib.Core.List.{[]};
 ghost use Prim.Native.Nat.{_+_, _≤_};
 ghost use lib.ListN.{drop};
+ghost use Rattle.byte.specs.Words.{if_then_else_};
 ghost use Rattle.state.specs.Bounds.{labelBytes};
+ghost use Rattle.token.specs.Kinds.{stringPart};
 ghost use Rattle.unit.specs.Readings.{textAt, gap, textEnd};
 ghost use Rattle.number.specs.Numbers.{numberAt};
 ghost use Rattle.outcome.specs.Texts.{docKind, quoteKind, stopKind, stopDetail, variableChange, stopChange, isLeft, numberKind};
-ghost use Rattle.outcome.specs.Texts.{literal, numbered};
-ghost use Rattle.outcome.specs.Steps.{textMode, nowdoc};
+ghost use Rattle.outcome.specs.Texts.{textRead, numbered};
+ghost use Rattle.outcome.specs.Steps.{nowdoc};
 ghost use Rattle.plan.specs.Code.{Here, Named, Plans};
-ghost use Rattle.drafts.specs.Code.{madeDraft, textDraft, sheetDraft, textPlan, literalPlan};
+ghost use Rattle.drafts.specs.Code.{madeDraft, textDraft, sheetDraft, textPlan, literalKind, literalPlan};
 
 // The kind of an EndDocString by its indentation, which is never mixed.
 fn doc_kind(ind: Indentation) -> u32
@@ -191,29 +192,8 @@ fn text_plan(mode: Mode, part: Draft, stop: Stop, from: usize, after: usize) -> 
     plan::parted(part, closing, after, stop_change(stop))
 }
 
-// A text mode: its text from `at` on, up to what ends it.
-pub fn text_mode(mode: Mode, src: &[u8], label: Label, at: usize, end: bool) -> Plan
-    requires { ⌜ Here (now src) at × Named (now src) label ⌝ }
-    ensures { λ r. ⌜ Plans (now (src .entry)) end (textMode mode (labelBytes (now (src .entry)) label) end at (drop at (now (src .entry)))) r ⌝ }
-{
-    let scan = text::scan_text(mode, src, plan::label_bytes(src, label), at, end);
-    match scan {
-        Scanned::Text {
-            len,
-            stop,
-            from,
-            after,
-        } => {
-            let part = text_draft(token::STRING_PART, at, mode, label, at, len, stop, from);
-            text_plan(mode, part, stop, from, after)
-        }
-        Scanned::Refused { number, place } => Plan::Refused { number, place },
-        Scanned::Wait => Plan::Wait,
-    }
-}
-
 // A nowdoc block read as a sheet.
-fn sheet_mode(src: &[u8], label: Label, at: usize, end: bool) -> Plan
+pub fn sheet_mode(src: &[u8], label: Label, at: usize, end: bool) -> Plan
     requires { ⌜ Here (now src) at × Named (now src) label ⌝ }
     ensures { λ r. ⌜ Plans (now (src .entry)) end (nowdoc Reading.Sheet (labelBytes (now (src .entry)) label) end at (drop at (now (src .entry)))) r ⌝ }
 {
@@ -230,17 +210,6 @@ fn sheet_mode(src: &[u8], label: Label, at: usize, end: bool) -> Plan
         }
         Scanned::Refused { number, place } => Plan::Refused { number, place },
         Scanned::Wait => Plan::Wait,
-    }
-}
-
-// A Nowdoc frame, as the session has it read.
-pub fn nowdoc(nowdocs: Reading, src: &[u8], label: Label, at: usize, end: bool) -> Plan
-    requires { ⌜ Here (now src) at × Named (now src) label ⌝ }
-    ensures { λ r. ⌜ Plans (now (src .entry)) end (nowdoc nowdocs (labelBytes (now (src .entry)) label) end at (drop at (now (src .entry)))) r ⌝ }
-{
-    match nowdocs {
-        Reading::Ported => text_mode(Mode::Nowdoc, src, label, at, end),
-        Reading::Sheet => sheet_mode(src, label, at, end),
     }
 }
 
@@ -261,45 +230,71 @@ fn is_left(stop: Stop) -> bool
     }
 }
 
-// A literal of `len` bytes: one token; before an interpolation its part.
-fn literal_plan(
-    kind: u32,
-    place: usize,
-    mode: Mode,
-    at: usize,
-    len: usize,
-    stop: Stop,
-    from: usize,
-    after: usize,
-) -> Plan
-    requires { ⌜ at + len + gap stop ≤ from ⌝ }
-    ensures { λ r. ⌜ r ≡ literalPlan kind place mode at len stop from after ⌝ }
+// The kind of a literal; 0 for a mode.
+fn literal_kind(mode: Mode) -> u32
+    ensures { λ r. ⌜ r ≡ literalKind mode ⌝ }
 {
-    let label = plan::no_label();
-    if is_left(stop) {
-        let part = text_draft(token::STRING_PART, place, mode, label, at, len, stop, from);
-        return plan::one(part, after, Change::Swap(Frame::DoubleQuote));
+    match mode {
+        Mode::Single => token::LITERAL_SINGLE_QUOTED_STRING,
+        Mode::Double => token::LITERAL_DOUBLE_QUOTED_STRING,
+        Mode::DoubleQuote => 0,
+        Mode::ShellExec => 0,
+        Mode::Heredoc => 0,
+        Mode::Nowdoc => 0,
     }
-    plan::one(
-        text_draft(kind, place, mode, label, at, len, stop, from),
-        after,
-        Change::Keep,
-    )
 }
 
-// A quoted literal whose text starts at `at`, and which bears the span of `place`.
-pub fn literal(kind: u32, place: usize, mode: Mode, src: &[u8], at: usize, end: bool) -> Plan
-    requires { ⌜ Here (now src) at ⌝ }
-    ensures { λ r. ⌜ Plans (now (src .entry)) end (literal kind place (textAt mode [] end at (drop at (now (src .entry))))) r ⌝ }
+// The kind of a literal's token: before an interpolation it is a part.
+fn value_kind(kind: u32, left: bool) -> u32
+    ensures { λ r. ⌜ r ≡ (if left then stringPart else kind) ⌝ }
 {
-    let scan = text::scan_text(mode, src, &src[0..0], at, end);
+    if left {
+        return token::STRING_PART;
+    }
+    kind
+}
+
+// A literal: one token; before an interpolation its part.
+fn literal_plan(draft: Draft, left: bool, after: usize) -> Plan
+    ensures { λ r. ⌜ r ≡ literalPlan draft left after ⌝ }
+{
+    if left {
+        return plan::one(draft, after, Change::Swap(Frame::DoubleQuote));
+    }
+    plan::one(draft, after, Change::Keep)
+}
+
+// The text from `at` on, up to what ends it: a literal, which bears the span of `place`, or a mode's.
+pub fn text(mode: Mode, src: &[u8], label: Label, place: usize, at: usize, end: bool) -> Plan
+    requires { ⌜ Here (now src) at × Named (now src) label ⌝ }
+    ensures { λ r. ⌜ Plans (now (src .entry)) end (textRead mode place at (drop at (now (src .entry))) (textAt mode (labelBytes (now (src .entry)) label) end at (drop at (now (src .entry))))) r ⌝ }
+{
+    let scan = text::scan_text(mode, src, plan::label_bytes(src, label), at, end);
     match scan {
         Scanned::Text {
             len,
             stop,
             from,
             after,
-        } => literal_plan(kind, place, mode, at, len, stop, from, after),
+        } => {
+            let kind = literal_kind(mode);
+            if kind == 0 {
+                let part = text_draft(token::STRING_PART, at, mode, label, at, len, stop, from);
+                return text_plan(mode, part, stop, from, after);
+            }
+            let left = is_left(stop);
+            let value = text_draft(
+                value_kind(kind, left),
+                place,
+                mode,
+                label,
+                at,
+                len,
+                stop,
+                from,
+            );
+            literal_plan(value, left, after)
+        }
         Scanned::Refused { number, place } => Plan::Refused { number, place },
         Scanned::Wait => Plan::Wait,
     }

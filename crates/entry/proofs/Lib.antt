@@ -1,4 +1,3 @@
 pub mod Entries
 pub mod Body
 pub mod Shared
-pub mod Counted

@@ -17,7 +17,7 @@ use Rattle.outcome.proofs.Initials.{TagInside, tagged-inside}
 use Rattle.plan.specs.declared.Draft.{Draft}
 use Rattle.plan.specs.declared.Drafts.{Drafts}
 use Rattle.plan.specs.declared.Plan.{Plan}
-use Rattle.plan.specs.Code.{madeBy, piecesOf, outcomeOf, Here, Plans, copiedDraft, partedPlan}
+use Rattle.plan.specs.Code.{madeBy, pieces, outcomeOf, Here, Plans, copiedDraft, oneDraft, partedPlan}
 use Rattle.plan.proofs.Plans.{copied-ready, parted-plans}
 use Rattle.initial.specs.Code.{tagPlan, overPlan}
 
@@ -27,9 +27,10 @@ pub tagPlan-made : (at place kind length after : ℕ) (tag : OpenTagKind) (text 
     → r ≡ partedPlan text draft (place + length) (Change.Swap Frame.Scripting) → r ≡ tagPlan at tag place
 tagPlan-made at place kind length after tag text draft r e f g h i = i ∙ rw (g, h, e, f)
 
-pub overPlan-made : (at hi : ℕ) (text : Draft) → text ≡ copiedDraft inlineHtml 0 at at hi
-    → Plan.Told (record { drafts = Drafts.One text; after = hi; change = Change.Keep; finished = true }) ≡ overPlan at hi
-overPlan-made at hi text e = rw e
+pub overPlan-made : (at hi : ℕ) (text : Draft) (drafts : Drafts) → text ≡ copiedDraft inlineHtml 0 at at hi
+    → drafts ≡ oneDraft text
+    → Plan.Told (record { drafts = drafts; after = hi; change = Change.Keep; finished = true }) ≡ overPlan at hi
+overPlan-made at hi text drafts e f = rw (f, e)
 
 pub ruleset plans = (tagPlan-made, overPlan-made)
 
@@ -72,14 +73,18 @@ module _ (src : List ℕ) (at : ℕ) (end : Bool) (here : Here src at) (found : 
         (two-copied src end at place (tagKind kind) (tagLength kind) (place + tagLength kind) (inside .low) refl (omega (arith, inside .high, size)))
 
   pub initial-over : found ≡ Tagged.Over → (r : Plan) → r ≡ overPlan at (length src) → Plans src end (initial end at (drop at src)) r
-  unfolding initial inlined madeBy outcomeOf piecesOf
+  unfolding initial inlined madeBy outcomeOf pieces
   initial-over f r g =
       let p : at + length (drop at src) ≡ length src = rw (length-drop at src) (omega (arith, here .inside)) in
       let q : length (drop at src) ≤ length src - at = rw (length-drop at src) (omega arith) in
       rw (g, ← e, f)
       (record {
         told = rw (p, take-all (length src - at) (drop at src) q);
-        ready = copied-ready src end inlineHtml 0 at at (length src) (here .inside) (omega arith);
+        ready =
+            record {
+              few = omega arith;
+              all = (copied-ready src end inlineHtml 0 at at (length src) (here .inside) (omega arith), tt);
+            };
       })
 
   pub initial-wait : found ≡ Tagged.Undecided → Plans src end (initial end at (drop at src)) Plan.Wait

@@ -8,9 +8,8 @@ use Rattle.token.specs.Kinds.{inlineHtml}
 use Rattle.outcome.specs.declared.Change.{Change}
 use Rattle.outcome.specs.declared.OpenTagKind.{OpenTagKind}
 use Rattle.outcome.specs.Initials.{tagKind, tagLength}
-use Rattle.plan.specs.declared.Drafts.{Drafts}
 use Rattle.plan.specs.declared.Plan.{Plan}
-use Rattle.plan.specs.Code.{copiedDraft, partedPlan}
+use Rattle.plan.specs.Code.{copiedDraft, oneDraft, partedPlan}
 
 abbrev pub tagPlan : ℕ → OpenTagKind → ℕ → Plan
 tagPlan at kind place =
@@ -22,4 +21,5 @@ tagPlan at kind place =
 
 abbrev pub overPlan : ℕ → ℕ → Plan
 overPlan at hi =
-    Plan.Told (record { drafts = Drafts.One (copiedDraft inlineHtml 0 at at hi); after = hi; change = Change.Keep; finished = true })
+    let text = copiedDraft inlineHtml 0 at at hi in
+    Plan.Told (record { drafts = oneDraft text; after = hi; change = Change.Keep; finished = true })

@@ -5,7 +5,6 @@ use outcome::Change;
 use outcome::OpenTagKind;
 use outcome::Tag;
 use outcome::Tagged;
-use plan::Drafts;
 use plan::Plan;
 use plan::Work;
 use state::Frame;
@@ -185,7 +184,7 @@ fn over_plan(at: usize, hi: usize) -> Plan
 {
     let text = plan::copied(token::INLINE_HTML, 0, at, at, hi);
     Plan::Told(Work {
-        drafts: Drafts::One(text),
+        drafts: plan::only(text),
         after: hi,
         change: Change::Keep,
         finished: true,

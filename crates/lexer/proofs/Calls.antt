@@ -1,46 +1,44 @@
--- Step and the readings on each way through them. Assumes nothing.
+-- A call on each way through it. Assumes nothing.
 --   Lent, lent-opened   what an open gate tells
---   settles             from a plan to a turn, after the gate
---   settled-moved, stepped-moved   a step that only passes bytes
---   steps; readings     the step; the three readings, told over the outcome that the reading has
-use Prim.Native.Nat.{ℕ, _*_, _/_, _≤_}
-use mathlib.Core.Path.{_≡_, refl, sym, ap, _∙_}
-use mathlib.Core.Bool.{Bool, true, false, not, _&&_}
+--   steps               over numbers and the top frame: bytes are passed, or the plan is committed
+--   called-shut, open-..   in a session: the gate is shut, or what holds after it
+use Prim.Native.Nat.{ℕ, _+_, _/_, _≤_}
+use mathlib.Core.Path.{_≡_, refl, ap, _∙_}
+use mathlib.Core.Bool.{Bool, true, false, _&&_}
 use mathlib.Core.List.{List}
 use native.Mathlib.Omega.{arith}
-use native.Mathlib.Nat.{add-zero}
 use lib.Dec.{leb}
-use lib.ListN.{length}
-use borrow.Author.Tests.{leb-true, eq-eqb, ne-eqb, not-true, not-false}
+use lib.ListN.{length, drop}
+use borrow.Author.Tests.{leb-true, le-leb, ne-eqb}
 use Rattle.source.specs.Cursor.{origin}
 use Rattle.source.specs.Code.{Reaches}
 use Rattle.source.specs.declared.Span.{Span}
 use Rattle.byte.proofs.Tests.{&&-left, &&-right, unrefused}
-use Rattle.byte.proofs.Laid.{laid-nil}
 use Rattle.state.specs.declared.Frame.{Frame}
+use Rattle.state.specs.declared.Choices.{Choices}
 use Rattle.state.specs.declared.Session.{Session}
 use Rattle.state.specs.declared.Turn.{Turn}
-use Rattle.state.specs.Bounds.{isFrame, isWithin, isStack, isGood, fitsTables, isScripting}
+use Rattle.state.specs.Bounds.{isWithin, isStack, isGood, fitsTables}
 use Rattle.state.specs.Gates.{sourceFits, tablesFit, lentRefusal}
-use Rattle.state.specs.Calls.{spanOf, refused, done, moved}
+use Rattle.state.specs.Calls.{spanOf, refused}
 use Rattle.state.proofs.Bounds.{Within, isWithin-facts}
 use Rattle.state.proofs.Longer.{top-good}
-use Rattle.token.proofs.Records.{room-enough}
-use Rattle.outcome.specs.declared.Change.{Change}
-use Rattle.outcome.specs.Outcomes.{Outcome, values, goes, limited}
-use Rattle.outcome.specs.Steps.{topFrame, framed, rest, stepOutcome}
-use Rattle.outcome.proofs.StepWays.{framed-ways, Readable, number-readable, single-readable, double-readable}
+use Rattle.token.specs.Records.{roomRefusal}
+use Rattle.outcome.specs.declared.Call.{Call}
+use Rattle.outcome.specs.Outcomes.{values, limited}
+use Rattle.outcome.specs.Steps.{topFrame, callAt, callOutcome}
+use Rattle.outcome.proofs.StepWays.{callAt-ways}
 use Rattle.plan.specs.declared.Plan.{Plan}
 use Rattle.plan.specs.Code.{outcomeOf, Plans, Here}
-use Rattle.commit.specs.declared.Next.{Next}
-use Rattle.commit.specs.declared.Mark.{Mark}
 use Rattle.modes.specs.Code.{Passes}
-use Rattle.commit.specs.Records.{spanAt, records}
-use Rattle.commit.specs.Code.{Cursor, Commits, Committed}
-use Rattle.lexer.specs.Turns.{After, Gives, framesAfter, depthAfter, settled}
-use Rattle.lexer.specs.Calls.{gated, stepped, reading}
-use Rattle.lexer.specs.Code.{markOf, turnOf, Stacked, Turning, Settles}
-use Rattle.lexer.proofs.Nexts.{limited-free, settled-next, settled-list, settled-pool}
+use Rattle.commit.specs.declared.Next.{Next}
+use Rattle.commit.specs.Records.{put, reached}
+use Rattle.commit.specs.Code.{isFull, Commits, Committed}
+use Rattle.lexer.specs.declared.Place.{Place}
+use Rattle.lexer.specs.Turns.{Gives, markOf, turnOf}
+use Rattle.lexer.specs.Calls.{called}
+use Rattle.lexer.specs.Code.{outcomeAt, movedTo, Standing}
+use Rattle.lexer.proofs.Nexts.{limited-free}
 
 -- what an open gate tells
 pub record Lent (src : List ℕ) (s : Session) (list pool : ℕ) : Type 0 where
@@ -71,208 +69,105 @@ lent-opened src s list pool e =
       room = leb-true _ _ (&&-left (leb pool 65536) (leb (list / 8) 65537) fits);
     }
 
--- ---- the gate
+pub markOf-made : (s : Session) (span : Span) → span ≡ spanOf s
+    → record { span = span; tokens = s .tokens; bytes = s .bytes } ≡ markOf s
+markOf-made s span e = rw e
 
-module _ (src : List ℕ) (s : Session) (l q : List ℕ) (shut : ℕ) (e : shut ≡ lentRefusal src (length l) (length q) s) where
-  shut-gives : (a : After) (r : Turn) → (shut ≡ 0 → ⊥) → r ≡ refused shut origin s → Gives (gated src s l q a) r l q
-  shut-gives a r n h =
-      rw (← e, ne-eqb shut 0 n) (record { turn = h; list = refl; pool = refl })
+-- ---- over numbers and the top frame
 
-  open-gives : (a : After) (r : Turn) (l′ q′ : List ℕ) → shut ≡ 0 → Gives a r l′ q′ → Gives (gated src s l q a) r l′ q′
-  open-gives a r l′ q′ z g = rw (← e, eq-eqb shut 0 z) g
+module _ (call : Call) (src : List ℕ) (end : Bool) (f : Frame) (choices : Choices) (at : Place) (l q : List ℕ)
+    (s : Standing src f (at .mark) (length l) (length q)) where
+  pub step-here : Here src (at .mark .span .position)
+  step-here = record { inside = s .marked .cursor .inside; short = s .marked .cursor .short }
 
-  module _ (z : shut ≡ 0) where
-    abbrev opened : Lent src s (length l) (length q)
-    opened = lent-opened src s (length l) (length q) (sym e ∙ z)
-
-    pub open-stacked : Stacked s
-    open-stacked = record { low = opened .numbers .depth-low; high = opened .numbers .depth-high }
-
-    pub open-here : Here src (s .position)
-    open-here = record { inside = opened .numbers .position; short = opened .source }
-
-    pub open-cursor : (p : Span) → p ≡ spanOf s → Cursor src p
-    open-cursor p here =
-        let o = opened .numbers in
-        rw here (record { short = opened .source; inside = o .position; line = o .line-high; column = o .column-high })
-
--- ---- from a plan to a turn
-
-module _ (src : List ℕ) (end : Bool) (s : Session) (plan : Plan) (l q : List ℕ)
-    (f : Settles src end s plan (length l) (length q)) (m : Mark) (e : m ≡ markOf s) where
-  pub settle-commits : Commits src end m plan (length l) (length q)
-  settle-commits =
-      let o = lent-opened src s (length l) (length q) (f .gate) in
-      rw e
-      (record {
-        marked = record {
-          cursor = record {
-            short = o .source;
-            inside = o .numbers .position;
-            line = o .numbers .line-high;
-            column = o .numbers .column-high;
-          };
-          tokens = o .tokens;
-          bytes = o .bytes;
-          places = o .places;
-          room = o .room;
-        };
-        ready = f .ready;
-        inside = f .inside;
-      })
-
-  module _ (x : Next) (l′ q′ : List ℕ)
-      (c : Committed src m l q (limited (s .depth) (m .span .position) (outcomeOf src end plan)) x l′ q′) where
-    pub settle-turning : Turning s x
-    settle-turning =
-        let o = lent-opened src s (length l) (length q) (f .gate) in
-        record {
-          stacked = record { low = o .numbers .depth-low; high = o .numbers .depth-high };
-          free = rw (c .next) (limited-free src m (length l) (length q) (s .depth) (m .span .position) (outcomeOf src end plan));
-        }
-
-    pub settle-gives : (r : Turn) → r ≡ turnOf s x
-        → Gives (gated src s l q (settled src s l q (limited (s .depth) (s .position) (outcomeOf src end plan)))) r l′ q′
-    settle-gives r h =
-        let o = limited (s .depth) (s .position) (outcomeOf src end plan) in
-        let same : Committed src (markOf s) l q o x l′ q′ = rw e at c in
-        open-gives src s l q _ refl _ r l′ q′ (f .gate)
-        (record {
-          turn = h ∙ ap (turnOf s) (same .next) ∙ sym (settled-next src s l q o);
-          list = same .list ∙ sym (settled-list src s l q o);
-          pool = same .pool ∙ sym (settled-pool src s l q o);
-        })
-
-pub ruleset settles = (settle-commits, settle-turning, settle-gives)
-
--- ---- bytes that are passed
-
--- what writes nothing and keeps the frame moves the cursor, and no more
-module _ (src : List ℕ) (s : Session) (l q : List ℕ) where
-  abbrev pub movedTo : Span → After
-  movedTo p = record { turn = done (moved s p); list = l; pool = q }
-
-  pub settled-moved : s .tokens ≤ length l / 8 → s .bytes ≤ length q → (place : ℕ)
-      → settled src s l q (goes place Change.Keep) ≡ movedTo (spanAt src (spanOf s) place)
-  unfolding settled framesAfter depthAfter values records
-  settled-moved tokens bytes place =
-      let enough = room-enough (length l) (length q) (s .tokens) (s .bytes) 0 0 (omega arith) (omega arith) in
-      rw (← enough, laid-nil l (s .tokens * 8), laid-nil q (s .bytes), add-zero (s .tokens), add-zero (s .bytes))
-
-  -- a step that only passes bytes, after an open gate
-  pub stepped-moved : lentRefusal src (length l) (length q) s ≡ 0 → (end : Bool) (p : Span) → Passes src (topFrame s) (spanOf s) p
-      → (p .position ≡ s .position → ⊥) → stepped src end s l q ≡ movedTo p
-  unfolding stepped stepOutcome limited
-  stepped-moved z end p w n =
-      let o = lent-opened src s (length l) (length q) z in
-      let same = settled-moved (o .tokens) (o .bytes) (p .position) in
-      rw (z, w .told n (s .choices) (s .depth) end, same, ← w .span)
-
--- what `modes::passed` asks of a cursor
-pub cursor-here : (src : List ℕ) (p : Span) → Cursor src p → Here src (p .position)
-cursor-here src p c = record { inside = c .inside; short = c .short }
-
-pub cursor-reaches : (src : List ℕ) (p : Span) → Cursor src p → Reaches p (length src)
-cursor-reaches src p c = record {
-  line = omega (arith, c .short, c .inside, c .line);
-  column = omega (arith, c .short, c .inside, c .column);
-  position = omega (arith, c .short, c .inside);
-}
-
--- ---- the step
-
-module _ (src : List ℕ) (end : Bool) (s : Session) (f : Frame) (t : f ≡ topFrame s) (plan : Plan)
-    (p : Plans src end (framed f src (s .choices) (s .depth) end (s .position) (rest src s)) plan) where
-  pub step-gives : (l q : List ℕ) (r : Turn) (l′ q′ : List ℕ)
-      → Gives (gated src s l q (settled src s l q (limited (s .depth) (s .position) (outcomeOf src end plan)))) r l′ q′
-      → Gives (stepped src end s l q) r l′ q′
-  unfolding stepped stepOutcome
-  step-gives l q r l′ q′ g = rw (p .told, t) at g
-
-module _ (src : List ℕ) (end : Bool) (s : Session) (l q : List ℕ) (shut : ℕ)
-    (e : shut ≡ lentRefusal src (length l) (length q) s) where
-  pub step-shut : (r : Turn) → (shut ≡ 0 → ⊥) → r ≡ refused shut origin s → Gives (stepped src end s l q) r l q
-  unfolding stepped
-  step-shut r n h = shut-gives src s l q shut e _ r n h
-
-  module _ (z : shut ≡ 0) (f : Frame) (t : f ≡ topFrame s) where
-    pub step-top : isFrame src f ≡ true
-    step-top = rw t (top-good src s (lent-opened src s (length l) (length q) (sym e ∙ z) .good))
-
-    module _ (plan : Plan)
-        (p : Plans src end (framed f src (s .choices) (s .depth) end (s .position) (rest src s)) plan) where
-      pub step-settles : Settles src end s plan (length l) (length q)
-      step-settles = record {
-        gate = sym e ∙ z;
-        ready = p .ready;
-        inside =
-            let here = open-here src s l q shut e z in
-            rw (p .told) (framed-ways src (s .depth) (s .position) end (here .inside) f (s .choices) .lies);
+  pub step-reaches : Reaches (at .mark .span) (length src)
+  step-reaches =
+      let c = s .marked .cursor in
+      record {
+        line = omega (arith, c .line, c .inside, c .short);
+        column = omega (arith, c .column, c .inside, c .short);
+        position = omega (arith, c .inside, c .short);
       }
 
-    pub step-moved : (p after : Span) (r : Turn) → p ≡ spanOf s → Passes src f p after → (after .position ≡ s .position → ⊥)
-        → r ≡ done (moved s after) → Gives (stepped src end s l q) r l q
-    step-moved p after r here w n h =
-        let passes : Passes src (topFrame s) (spanOf s) after = rw (here, t) at w in
-        rw (stepped-moved src s l q (sym e ∙ z) end after passes n) (record { turn = h; list = refl; pool = refl })
+  -- bytes are passed: no piece is written, so there is room
+  pub step-passes : (p : Span) (x : Next) → Passes call src f (at .mark .span) p → (p .position ≡ at .mark .span .position → ⊥)
+      → x ≡ movedTo (at .mark) p → Committed src (at .mark) l q (outcomeAt call src end f choices at) x l q
+  unfolding limited reached put values roomRefusal
+  step-passes p x o n e =
+      let m = at .mark in
+      let tokens : m .tokens + 0 ≡ m .tokens = omega arith in
+      let bytes : m .bytes + 0 ≡ m .bytes = omega arith in
+      let places = le-leb (m .tokens) (length l / 8) (s .marked .tokens) in
+      let room = le-leb (m .bytes) (length q) (s .marked .bytes) in
+      rw (o .told n choices (at .depth) end)
+      (record {
+        next = e ∙ rw (tokens, bytes, places, room, ← o .span);
+        list = rw (tokens, bytes, places, room);
+        pool = rw (tokens, bytes, places, room);
+      })
 
-pub ruleset steps = (
-  open-stacked,
-  open-here,
-  open-cursor,
-  cursor-here,
-  cursor-reaches,
-  step-shut,
-  step-top,
-  step-settles,
-  step-gives,
-  step-moved,
-)
+  module _ (plan : Plan)
+      (p : Plans src end
+      (callAt call f src choices (at .depth) end (at .mark .span .position) (drop (at .mark .span .position) src)) plan) where
+    pub step-commits : Commits src end (at .mark) plan (length l) (length q)
+    step-commits =
+        record {
+          marked = s .marked;
+          ready = p .ready;
+          inside =
+              rw (p .told)
+              (callAt-ways src (at .depth) (at .mark .span .position) end (s .marked .cursor .inside) f call choices .lies);
+        }
 
--- ---- the readings
+    pub step-committed : (x : Next) (l′ q′ : List ℕ)
+        → Committed src (at .mark) l q (limited (at .depth) (at .mark .span .position) (outcomeOf src end plan)) x l′ q′
+        → Committed src (at .mark) l q (outcomeAt call src end f choices at) x l′ q′
+    step-committed x l′ q′ c = rw (p .told) at c
 
-module _ (src : List ℕ) (end : Bool) (s : Session) (o : Outcome) (w : Readable src s o) (f : Frame) (t : f ≡ topFrame s)
-    (flag : Bool) (b : flag ≡ isScripting f) (n : not flag ≡ false) (plan : Plan) (p : Plans src end o plan) where
-  pub read-gives : (l q : List ℕ) (r : Turn) (l′ q′ : List ℕ)
-      → Gives (gated src s l q (settled src s l q (limited (s .depth) (s .position) (outcomeOf src end plan)))) r l′ q′
-      → Gives (reading o src s l q) r l′ q′
-  unfolding reading
-  read-gives l q r l′ q′ g =
-      let k : isScripting (topFrame s) ≡ true = rw t at (sym b) ∙ not-false flag n in
-      rw k (rw (p .told, w .free) at g)
+pub ruleset steps = (step-here, step-reaches, step-passes, step-commits, step-committed)
 
-module _ (src : List ℕ) (end : Bool) (s : Session) (l q : List ℕ) (o : Outcome)
-    (w : Readable src s o) (shut : ℕ) (e : shut ≡ lentRefusal src (length l) (length q) s) where
-  pub read-shut : (r : Turn) → (shut ≡ 0 → ⊥) → r ≡ refused shut origin s → Gives (reading o src s l q) r l q
-  unfolding reading
-  read-shut r n h = shut-gives src s l q shut e _ r n h
+-- ---- in a session
 
-  module _ (z : shut ≡ 0) (f : Frame) (t : f ≡ topFrame s) (flag : Bool) (b : flag ≡ isScripting f) where
-    pub read-elsewhere : (r : Turn) (p : Span) → not flag ≡ true → p ≡ spanOf s → r ≡ refused 10 p s
-        → Gives (reading o src s l q) r l q
-    unfolding reading
-    read-elsewhere r p n here h =
-        let k : isScripting (topFrame s) ≡ false = rw t at (sym b) ∙ not-true flag n in
-        open-gives src s l q shut e _ r l q z (rw k (record { turn = h ∙ rw here; list = refl; pool = refl }))
+module _ (call : Call) (src : List ℕ) (end : Bool) (s : Session) (l q : List ℕ) where
+  pub called-shut : (shut : ℕ) → shut ≡ lentRefusal src (length l) (length q) s → (r : Turn) → (shut ≡ 0 → ⊥)
+      → r ≡ refused shut origin s → Gives (called call src end s l q) r l q
+  unfolding called
+  called-shut shut e r n h = rw (← e, ne-eqb shut 0 n) (record { turn = h; list = refl; pool = refl })
 
--- the plan of a reading can be settled
-module _ (src : List ℕ) (end : Bool) (s : Session) (l q : List ℕ) (shut : ℕ)
-    (e : shut ≡ lentRefusal src (length l) (length q) s) (z : shut ≡ 0) (o : Outcome) (plan : Plan) where
-  pub read-settles : Plans src end o plan → Readable src s o → Settles src end s plan (length l) (length q)
-  read-settles p w = record {
-    gate = sym e ∙ z;
-    ready = p .ready;
-    inside = rw (p .told) (w .ways (open-here src s l q shut e z .inside) .lies);
-  }
+  -- after an open gate
+  module _ (gate : lentRefusal src (length l) (length q) s ≡ 0) where
+    opened : Lent src s (length l) (length q)
+    opened = lent-opened src s (length l) (length q) gate
 
-pub ruleset readings = (
-  open-stacked,
-  open-here,
-  number-readable,
-  single-readable,
-  double-readable,
-  read-settles,
-  read-shut,
-  read-elsewhere,
-  read-gives,
-)
+    pub open-depth : (1 ≤ s .depth) × (s .depth ≤ 64)
+    open-depth = (opened .numbers .depth-low, opened .numbers .depth-high)
+
+    pub open-standing : Standing src (topFrame s) (markOf s) (length l) (length q)
+    open-standing = record {
+      marked =
+          record {
+            cursor =
+                record {
+                  short = opened .source;
+                  inside = opened .numbers .position;
+                  line = opened .numbers .line-high;
+                  column = opened .numbers .column-high;
+                };
+            tokens = opened .tokens;
+            bytes = opened .bytes;
+            places = opened .places;
+            room = opened .room;
+          };
+      top = top-good src s (opened .good);
+    }
+
+    module _ (x : Next) (l′ q′ : List ℕ)
+        (c : Committed src (markOf s) l q (callOutcome call src end s) x l′ q′) where
+      pub open-free : isFull (x .change) (s .depth) ≡ false
+      unfolding callOutcome
+      open-free =
+          rw (c .next) (limited-free src (markOf s) (record { list = l; pool = q }) (s .depth) (s .position) _)
+
+      pub open-gives : Gives (called call src end s l q) (turnOf s x) l′ q′
+      unfolding called
+      open-gives = rw gate (record { turn = ap (turnOf s) (c .next); list = c .list; pool = c .pool })

@@ -1,44 +1,54 @@
--- A step as the code has it: `commit` works over numbers and the top frame, and the session is changed once after it. `settled-next`
--- (proofs/Nexts.antt) says that this gives what `settled` says.
---   markOf     a session's cursor and marks
---   turnOf     the turn that a next makes of a session
---   Turning    the frame that a next enters has a place in the stack
---   Settles    the gate is open, and the plan can be written
-use Prim.Native.Nat.{ℕ, _≤_}
-use mathlib.Core.Bool.{Bool, false}
+-- A step as the code has it: over numbers and the top frame.
+--   Place      (source) cursor and marks, and the depth of the mode stack
+--   sessionAt  the session at a place
+--   outcomeAt  what a call comes to at a place with this frame on top
+--   movedTo    what a step comes to that only passes bytes
+--   Standing   the cursor and the marks are within their bounds, and the top frame is one
+use Prim.Native.Nat.{ℕ}
+use mathlib.Core.Bool.{Bool, true}
 use mathlib.Core.List.{List}
 use mathlib.Core.Path.{_≡_}
-use lib.ListN.{length}
+use lib.ListN.{drop}
+use Rattle.source.specs.declared.Span.{Span}
+use Rattle.state.specs.declared.Answer.{Answer}
+use Rattle.state.specs.declared.Frame.{Frame}
+use Rattle.state.specs.declared.Choices.{Choices}
+use Rattle.state.specs.declared.Slot.{Slot}
 use Rattle.state.specs.declared.Session.{Session}
-use Rattle.state.specs.declared.Turn.{Turn}
-use Rattle.state.specs.Calls.{spanOf}
-use Rattle.state.specs.Gates.{lentRefusal}
-use Rattle.outcome.specs.Insides.{Inside}
-use Rattle.plan.specs.declared.Plan.{Plan}
-use Rattle.plan.specs.Code.{outcomeOf, PlanReady}
-use Rattle.commit.specs.declared.Next.{Next}
+use Rattle.state.specs.Bounds.{isFrame}
+use Rattle.outcome.specs.declared.Call.{Call}
+use Rattle.outcome.specs.declared.Change.{Change}
+use Rattle.outcome.specs.Outcomes.{Outcome, limited}
+use Rattle.outcome.specs.Steps.{callAt}
 use Rattle.commit.specs.declared.Mark.{Mark}
-use Rattle.commit.specs.Code.{isFull}
-use Rattle.lexer.specs.Turns.{changed}
+use Rattle.commit.specs.declared.Next.{Next}
+use Rattle.commit.specs.Code.{Marked}
+use Rattle.lexer.specs.declared.Place.{Place}
 
-abbrev pub markOf : Session → Mark
-markOf s = record { span = spanOf s; tokens = s .tokens; bytes = s .bytes }
-
-abbrev pub turnOf : Session → Next → Turn
-turnOf s x = record {
-  answer = x .answer;
-  session = changed s (x .mark .span) (x .mark .tokens) (x .mark .bytes) (x .change);
+abbrev pub sessionAt : Place → List Slot → Choices → Session
+sessionAt at frames choices = record {
+  position = at .mark .span .position;
+  line = at .mark .span .line;
+  column = at .mark .span .column;
+  depth = at .depth;
+  tokens = at .mark .tokens;
+  bytes = at .mark .bytes;
+  frames = frames;
+  choices = choices;
 }
 
-pub record Stacked (s : Session) : Type 0 where
-  pub low : 1 ≤ s .depth
-  pub high : s .depth ≤ 64
+abbrev pub outcomeAt : Call → List ℕ → Bool → Frame → Choices → Place → Outcome
+outcomeAt call src end f choices at =
+    limited (at .depth) (at .mark .span .position)
+    (callAt call f src choices (at .depth) end (at .mark .span .position) (drop (at .mark .span .position) src))
 
-pub record Turning (s : Session) (x : Next) : Type 0 where
-  pub stacked : Stacked s
-  pub free : isFull (x .change) (s .depth) ≡ false
+abbrev pub movedTo : Mark → Span → Next
+movedTo m p = record {
+  answer = Answer.Done;
+  mark = record { span = p; tokens = m .tokens; bytes = m .bytes };
+  change = Change.Keep;
+}
 
-pub record Settles (src : List ℕ) (end : Bool) (s : Session) (plan : Plan) (list pool : ℕ) : Type 0 where
-  pub gate : lentRefusal src list pool s ≡ 0
-  pub ready : PlanReady plan src end
-  pub inside : Inside (s .position) (length src) (outcomeOf src end plan)
+pub record Standing (src : List ℕ) (f : Frame) (m : Mark) (list pool : ℕ) : Type 0 where
+  pub marked : Marked src m list pool
+  pub top : isFrame src f ≡ true

@@ -1,29 +1,31 @@
-// The lexer: step and the three public readings. The gate; bytes that a step only passes, else the plan of the top frame or of the
-// reading; and the session after it.
-// Of the Rust: `tokenize`'s loop, one turn at a time. Only this crate and walk know sessions and tables together.
+// The lexer's core: one step or reading over numbers and the top frame. Bytes that a step only passes are told first, else the call's plan
+// is made and committed.
+// Of the Rust: what `tokenize`'s loop does in one turn. The gate, the change of frame and the turns one after another are crate walk's.
+// What step and the readings give in a session is told in specs/.
 use commit::Mark;
 use commit::Next;
+use outcome::Call;
 use outcome::Change;
-use plan::Plan;
 use source::Span;
 use state::Answer;
+use state::Choices;
 use state::Frame;
 use state::Session;
 use state::Slot;
-use state::Turn;
-use unit::Mode;
 ghost use mathlib.Core.Path.{_≡_};
 ghost use lib.ListN.{length};
-ghost use Rattle.state.specs.Calls.{moved, done};
-ghost use Rattle.outcome.specs.Outcomes.{limited};
-ghost use Rattle.outcome.specs.Steps.{topFrame};
-ghost use Rattle.plan.specs.Code.{outcomeOf};
-ghost use Rattle.lexer.specs.Turns.{Gives, settled};
-ghost use Rattle.lexer.specs.Calls.{gated, stepped, readNumber, readSingle, readDouble};
-ghost use Rattle.lexer.specs.Code.{markOf, turnOf, Stacked, Turning, Settles};
+ghost use Rattle.commit.specs.Code.{Committed};
+ghost use Rattle.lexer.specs.Turns.{markOf};
+ghost use Rattle.lexer.specs.Code.{sessionAt, outcomeAt, movedTo, Standing};
+
+// Where a step stands, but for the frames: the cursor and the marks, and the depth of the mode stack.
+pub struct Place {
+    pub mark: Mark,
+    pub depth: u32,
+}
 
 // The session's cursor and marks.
-fn mark_of(s: Session) -> Mark
+pub fn mark_of(s: Session) -> Mark
     ensures { λ r. ⌜ r ≡ markOf s ⌝ }
 {
     let span = state::span_of(s);
@@ -34,146 +36,77 @@ fn mark_of(s: Session) -> Mark
     }
 }
 
-// The session's top frame.
-fn top_frame(s: Session) -> Frame
-    requires { ⌜ Stacked s ⌝ }
-    ensures { λ r. ⌜ r ≡ topFrame s ⌝ }
+// The session that stands at a place.
+pub fn session_at(at: Place, frames: [Slot; 64], choices: Choices) -> Session
+    ensures { λ r. ⌜ r ≡ sessionAt at frames choices ⌝ }
 {
-    let top = s.depth as usize - 1;
-    let slot = s.frames[top];
-    slot.frame
-}
-
-// The session after a step: other numbers, and the change of frame.
-pub fn turned(mut s: Session, x: Next) -> Turn
-    requires { ⌜ Turning s x ⌝ }
-    ensures { λ r. ⌜ r ≡ turnOf s x ⌝ }
-{
-    let answer = x.answer;
-    let m = x.mark;
-    let change = x.change;
-    let depth = s.depth;
-    s.position = m.span.position;
-    s.line = m.span.line;
-    s.column = m.span.column;
-    s.tokens = m.tokens;
-    s.bytes = m.bytes;
-    match change {
-        Change::Keep => {}
-        Change::Swap(f) => {
-            let top = depth as usize - 1;
-            s.frames[top] = Slot { frame: f };
-        }
-        Change::Enter(f) => {
-            let next = depth as usize;
-            s.frames[next] = Slot { frame: f };
-            s.depth = depth + 1;
-        }
-        Change::Leave => {
-            s.depth = depth - 1;
-        }
+    let m = at.mark;
+    Session {
+        position: m.span.position,
+        line: m.span.line,
+        column: m.span.column,
+        depth: at.depth,
+        tokens: m.tokens,
+        bytes: m.bytes,
+        frames,
+        choices,
     }
-    Turn { answer, session: s }
 }
 
-// A plan becomes a turn, after the gate.
-fn settle(src: &[u8], end: bool, s: Session, plan: Plan, list: &mut [u32], pool: &mut [u8]) -> Turn
-    requires { ⌜ Settles (now src) end s plan (length (now list)) (length (now pool)) ⌝ }
-    ensures { λ r. ⌜ Gives (gated (now (src .entry)) s (now (list .entry)) (now (pool .entry)) (settled (now (src .entry)) s (now (list .entry)) (now (pool .entry)) (limited (s .depth) (s .position) (outcomeOf (now (src .entry)) end plan)))) r (now (list .exit)) (now (pool .exit)) ⌝ }
+// What a step comes to that only passes bytes, up to p.
+fn moved(m: Mark, p: Span) -> Next
+    ensures { λ r. ⌜ r ≡ movedTo m p ⌝ }
 {
-    let x = commit::commit(src, end, mark_of(s), s.depth, plan, list, pool);
-    turned(s, x)
-}
-
-// A step that only passes bytes: the session at the place after them.
-fn moved(mut s: Session, p: Span) -> Turn
-    ensures { λ r. ⌜ r ≡ done (moved s p) ⌝ }
-{
-    s.position = p.position;
-    s.line = p.line;
-    s.column = p.column;
-    Turn {
+    let mark = Mark {
+        span: p,
+        tokens: m.tokens,
+        bytes: m.bytes,
+    };
+    Next {
         answer: Answer::Done,
-        session: s,
+        mark,
+        change: Change::Keep,
     }
 }
 
-// One step: the routine of the top frame reads on from the cursor. 11 and 12 come first, then what the routine refuses, 9, 7, 8.
-pub fn step(src: &[u8], end: bool, s: Session, list: &mut [u32], pool: &mut [u8]) -> Turn
-    ensures { λ r. ⌜ Gives (stepped (now (src .entry)) end s (now (list .entry)) (now (pool .entry))) r (now (list .exit)) (now (pool .exit)) ⌝ }
+// One call by its plan.
+fn plan_step(
+    call: Call,
+    src: &[u8],
+    end: bool,
+    f: Frame,
+    choices: Choices,
+    at: Place,
+    list: &mut [u32],
+    pool: &mut [u8],
+) -> Next
+    requires { ⌜ Standing (now src) f (at .mark) (length (now list)) (length (now pool)) ⌝ }
+    ensures { λ r. ⌜ Committed (now (src .entry)) (at .mark) (now (list .entry)) (now (pool .entry)) (outcomeAt call (now (src .entry)) end f choices at) r (now (list .exit)) (now (pool .exit)) ⌝ }
 {
-    let shut = state::gate_with_tables(src, list.len(), pool.len(), s);
-    if shut != 0 {
-        return state::refuse_at_gate(shut, s);
-    }
-    let f = top_frame(s);
-    let p = modes::passed(src, f, state::span_of(s));
-    if p.position != s.position {
-        return moved(s, p);
-    }
-    let choices = s.choices;
-    let plan = modes::plan_at(src, end, f, choices, s.depth, s.position as usize);
-    settle(src, end, s, plan, list, pool)
+    let m = at.mark;
+    let depth = at.depth;
+    let plan = modes::plan_of(call, src, end, f, choices, depth, m.span.position as usize);
+    commit::commit(src, end, m, depth, plan, list, pool)
 }
 
-// The number at the cursor. Refused without Scripting on top (10), after 11 and 12.
-pub fn read_number(src: &[u8], end: bool, s: Session, list: &mut [u32], pool: &mut [u8]) -> Turn
-    ensures { λ r. ⌜ Gives (readNumber (now (src .entry)) end s (now (list .entry)) (now (pool .entry))) r (now (list .exit)) (now (pool .exit)) ⌝ }
+// One call, over numbers and the top frame: bytes are passed, or its plan is committed.
+pub fn step_at(
+    call: Call,
+    src: &[u8],
+    end: bool,
+    f: Frame,
+    choices: Choices,
+    at: Place,
+    list: &mut [u32],
+    pool: &mut [u8],
+) -> Next
+    requires { ⌜ Standing (now src) f (at .mark) (length (now list)) (length (now pool)) ⌝ }
+    ensures { λ r. ⌜ Committed (now (src .entry)) (at .mark) (now (list .entry)) (now (pool .entry)) (outcomeAt call (now (src .entry)) end f choices at) r (now (list .exit)) (now (pool .exit)) ⌝ }
 {
-    let shut = state::gate_with_tables(src, list.len(), pool.len(), s);
-    if shut != 0 {
-        return state::refuse_at_gate(shut, s);
+    let m = at.mark;
+    let p = modes::passed(call, src, f, m.span);
+    if p.position != m.span.position {
+        return moved(m, p);
     }
-    if !modes::is_scripting(top_frame(s)) {
-        return state::refuse(byte::OUT_OF_PLACE, state::span_of(s), s);
-    }
-    let at = s.position as usize;
-    let plan = drafts::number(at, src, at, end);
-    settle(src, end, s, plan, list, pool)
-}
-
-// The single-quoted string whose text starts at the cursor. Refused as `read_number` is.
-pub fn read_single(src: &[u8], end: bool, s: Session, list: &mut [u32], pool: &mut [u8]) -> Turn
-    ensures { λ r. ⌜ Gives (readSingle (now (src .entry)) end s (now (list .entry)) (now (pool .entry))) r (now (list .exit)) (now (pool .exit)) ⌝ }
-{
-    let shut = state::gate_with_tables(src, list.len(), pool.len(), s);
-    if shut != 0 {
-        return state::refuse_at_gate(shut, s);
-    }
-    if !modes::is_scripting(top_frame(s)) {
-        return state::refuse(byte::OUT_OF_PLACE, state::span_of(s), s);
-    }
-    let at = s.position as usize;
-    let plan = drafts::literal(
-        token::LITERAL_SINGLE_QUOTED_STRING,
-        at,
-        Mode::Single,
-        src,
-        at,
-        end,
-    );
-    settle(src, end, s, plan, list, pool)
-}
-
-// The double-quoted string whose text starts at the cursor. Refused as `read_number` is.
-pub fn read_double(src: &[u8], end: bool, s: Session, list: &mut [u32], pool: &mut [u8]) -> Turn
-    ensures { λ r. ⌜ Gives (readDouble (now (src .entry)) end s (now (list .entry)) (now (pool .entry))) r (now (list .exit)) (now (pool .exit)) ⌝ }
-{
-    let shut = state::gate_with_tables(src, list.len(), pool.len(), s);
-    if shut != 0 {
-        return state::refuse_at_gate(shut, s);
-    }
-    if !modes::is_scripting(top_frame(s)) {
-        return state::refuse(byte::OUT_OF_PLACE, state::span_of(s), s);
-    }
-    let at = s.position as usize;
-    let plan = drafts::literal(
-        token::LITERAL_DOUBLE_QUOTED_STRING,
-        at,
-        Mode::Double,
-        src,
-        at,
-        end,
-    );
-    settle(src, end, s, plan, list, pool)
+    plan_step(call, src, end, f, choices, at, list, pool)
 }

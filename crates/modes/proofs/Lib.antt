@@ -1,3 +1,4 @@
 pub mod Looks
 pub mod Frames
 pub mod Passes
+pub mod Calls

@@ -20,13 +20,14 @@ use Rattle.byte.proofs.Words.{drop-one}
 use Rattle.source.proofs.Cursor.{passed-position}
 use Rattle.source.proofs.Counts.{passed-same}
 use Rattle.state.specs.declared.Frame.{Frame}
+use Rattle.outcome.specs.declared.Call.{Call}
 use Rattle.outcome.specs.declared.Change.{Change}
 use Rattle.outcome.specs.Outcomes.{goes}
 use Rattle.outcome.specs.Lookings.{named}
 use Rattle.outcome.specs.Scripts.{word, scripting}
-use Rattle.outcome.specs.Steps.{framed}
+use Rattle.outcome.specs.Steps.{framed, callAt}
 use Rattle.plan.specs.Code.{Here}
-use Rattle.modes.specs.Code.{isOther, PassesAt, Passes}
+use Rattle.modes.specs.Code.{isStep, isOther, PassesAt, Passes}
 use Rattle.modes.proofs.Looks.{named-stops}
 
 pub isScripting-arm : (f arm : Frame) (r : Bool) → f ≡ arm → r ≡ isScripting arm → r ≡ isScripting f
@@ -43,6 +44,16 @@ isScripting-frame (Frame.Nowdoc label) e = absurd (false≢true e)
 isScripting-frame Frame.LookingForVarname e = absurd (false≢true e)
 isScripting-frame Frame.LookingForProperty e = absurd (false≢true e)
 isScripting-frame Frame.VarOffset e = absurd (false≢true e)
+
+pub isStep-arm : (call arm : Call) (r : Bool) → call ≡ arm → r ≡ isStep arm → r ≡ isStep call
+isStep-arm call arm r e h = rw e h
+
+isStep-call : (call : Call) → isStep call ≡ true → call ≡ Call.Step
+unfolding isStep
+isStep-call Call.Step e = refl
+isStep-call Call.Number e = absurd (false≢true e)
+isStep-call Call.Single e = absurd (false≢true e)
+isStep-call Call.Double e = absurd (false≢true e)
 
 -- ---- a byte of the last row
 
@@ -170,35 +181,38 @@ pub ruleset passesAts = (passesAt-none, passesAt-word, passesAt-other)
 
 -- ---- the place after
 
-module _ (src : List ℕ) (f : Frame) (p : Span) where
-  pub passes-same : Here src (p .position) → Passes src f p p
+module _ (call : Call) (src : List ℕ) (f : Frame) (p : Span) where
+  pub passes-same : Here src (p .position) → Passes call src f p p
   unfolding passed
   passes-same here =
       let none : p .position - p .position ≡ 0 = omega arith in
       record { low = omega arith; high = here .inside; span = rw none; told = λ h. absurd (h refl) }
 
-  module _ (flag : Bool) (e : flag ≡ isScripting f) (t : not flag ≡ false) (k : ℕ) (q : PassesAt src (p .position) k) where
-    passes-at : (r : Span) → r ≡ passed p (take k (drop (p .position) src)) → Passes src f p r
-    unfolding framed
+  module _ (step flag : Bool) (g : step ≡ isStep call) (u : not step ≡ false) (e : flag ≡ isScripting f)
+      (t : not flag ≡ false) (k : ℕ) (q : PassesAt src (p .position) k) where
+    passes-at : (r : Span) → r ≡ passed p (take k (drop (p .position) src)) → Passes call src f p r
+    unfolding callAt framed
     passes-at r s =
         let size : length (take k (drop (p .position) src)) ≡ k = length-take-le k _ (rw (length-drop (p .position) src) (omega (arith, q .inside))) in
         let place : r .position ≡ p .position + k = rw s (passed-position p (take k (drop (p .position) src)) ∙ rw size) in
         let count : r .position - p .position ≡ k = omega arith in
+        let same : call ≡ Call.Step = isStep-call call (sym g ∙ not-false step u) in
         let frame : f ≡ Frame.Scripting = isScripting-frame f (sym e ∙ not-false flag t) in
         record {
           low = omega arith;
           high = omega (arith, q .inside);
           span = rw count s;
-          told = λ h choices depth end. rw (frame, place) (q .told (λ z. h (omega arith)) depth end);
+          told = λ h choices depth end. rw (same, frame, place) (q .told (λ z. h (omega arith)) depth end);
         }
 
-    pub passes-byte : (r : Span) → k ≡ 1 → r ≡ passedByte p (getD src (p .position) 0) → Passes src f p r
+    pub passes-byte : (r : Span) → k ≡ 1 → r ≡ passedByte p (getD src (p .position) 0) → Passes call src f p r
     unfolding passed
     passes-byte r o s =
         let h : p .position < length src = omega (arith, q .inside) in
         passes-at r (s ∙ rw (o, drop-one src (p .position) h))
 
-    pub passes-line : (k ≡ 1 → ⊥) → Passes src f p (record { line = p .line; column = p .column + k; position = p .position + k })
+    pub passes-line : (k ≡ 1 → ⊥)
+        → Passes call src f p (record { line = p .line; column = p .column + k; position = p .position + k })
     passes-line o =
         let bytes = take k (drop (p .position) src) in
         let size : length bytes ≡ k = length-take-le k _ (rw (length-drop (p .position) src) (omega (arith, q .inside))) in

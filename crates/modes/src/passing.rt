@@ -1,4 +1,5 @@
 // A step at Scripting that only passes bytes: it writes nothing and keeps the frame, so it is told ahead of any plan.
+use outcome::Call;
 use source::Span;
 use state::Frame;
 ghost use mathlib.Core.Path.{_≡_};
@@ -6,7 +7,19 @@ ghost use lib.ListN.{length};
 ghost use Rattle.state.specs.Bounds.{isScripting};
 ghost use Rattle.source.specs.Code.{Reaches};
 ghost use Rattle.plan.specs.Code.{Here};
-ghost use Rattle.modes.specs.Code.{isOther, PassesAt, Passes};
+ghost use Rattle.modes.specs.Code.{isStep, isOther, PassesAt, Passes};
+
+// Whether a call is a step.
+fn is_step(call: Call) -> bool
+    ensures { λ r. ⌜ r ≡ isStep call ⌝ }
+{
+    match call {
+        Call::Step => true,
+        Call::Number => false,
+        Call::Single => false,
+        Call::Double => false,
+    }
+}
 
 // Whether a frame is Scripting.
 pub fn is_scripting(f: Frame) -> bool
@@ -66,11 +79,14 @@ fn passed_at(src: &[u8], at: usize) -> usize
     0
 }
 
-// The place after such a step; the place itself where the step is another.
-pub fn passed(src: &[u8], f: Frame, p: Span) -> Span
+// The place after such a step; the place itself where the call is another.
+pub fn passed(call: Call, src: &[u8], f: Frame, p: Span) -> Span
     requires { ⌜ Here (now src) (p .position) × Reaches p (length (now src)) ⌝ }
-    ensures { λ r. ⌜ Passes (now (src .entry)) f p r ⌝ }
+    ensures { λ r. ⌜ Passes call (now (src .entry)) f p r ⌝ }
 {
+    if !is_step(call) {
+        return p;
+    }
     if !is_scripting(f) {
         return p;
     }

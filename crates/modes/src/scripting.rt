@@ -1,48 +1,33 @@
 // The mode Scripting: document 01's table, which tells by the byte at the cursor, with document 02's comments.
+// Literals and numbers are rows of their own (rows).
 // Of the Rust: the routine `scripting`.
 use crate::lookings;
 use outcome::Change;
 use outcome::Run;
-use plan::Drafts;
 use plan::Plan;
 use plan::Work;
 use state::Frame;
-use token::LITERAL_DOUBLE_QUOTED_STRING;
-use token::LITERAL_SINGLE_QUOTED_STRING;
-use unit::Mode;
 ghost use mathlib.Core.Path.{_≡_};
-ghost use mathlib.Core.List.{[]};
+ghost use mathlib.Core.Bool.{false};
 ghost use Prim.Native.Nat.{_+_, _≤_, _<_};
 ghost use lib.Dec.{ltb};
 ghost use lib.ListN.{length, getD, drop};
 ghost use Rattle.byte.specs.Words.{if_then_else_};
+ghost use Rattle.byte.specs.Bytes.{isDigit};
 ghost use Rattle.outcome.specs.declared.Change.{Change};
 ghost use Rattle.outcome.specs.Lookings.{named};
-ghost use Rattle.unit.specs.Readings.{textAt};
-ghost use Rattle.outcome.specs.Texts.{literal};
 ghost use Rattle.outcome.specs.Scripts.{point, word, closeTag, scripting};
 ghost use Rattle.plan.specs.Code.{Here, Plans};
-ghost use Rattle.modes.specs.Code.{finishedPlan};
+ghost use Rattle.modes.specs.Code.{finishedPlan, NoLiteral};
 
-// The opening quote at a place: a literal of this kind.
-fn quoted(kind: u32, mode: Mode, src: &[u8], at: usize, end: bool) -> Plan
-    requires { ⌜ (at < length (now src)) × (length (now src) ≤ 65536) ⌝ }
-    ensures { λ r. ⌜ Plans (now (src .entry)) end (literal kind at (textAt mode [] end (at + 1) (drop (at + 1) (now (src .entry))))) r ⌝ }
-{
-    drafts::literal(kind, at, mode, src, at + 1, end)
-}
-
-// The `.` at a place: before a digit it begins a number.
+// The `.` at a place, after which no digit stands: it is passed.
 fn point(src: &[u8], at: usize, end: bool) -> Plan
-    requires { ⌜ (at < length (now src)) × (length (now src) ≤ 65536) × (getD (now src) at 0 ≡ 46) ⌝ }
+    requires { ⌜ (at < length (now src)) × (length (now src) ≤ 65536) × (isDigit (getD (now src) (at + 1) 0) ≡ false) ⌝ }
     ensures { λ r. ⌜ Plans (now (src .entry)) end (point end at (drop (at + 1) (now (src .entry)))) r ⌝ }
 {
     let i = at + 1;
     if src.len() <= i {
         return plan::ending(end, plan::goes(i, Change::Keep));
-    }
-    if byte::is_digit(src[i]) {
-        return drafts::number(at, src, at, end);
     }
     plan::goes(i, Change::Keep)
 }
@@ -89,16 +74,16 @@ fn finished(at: usize) -> Plan
     ensures { λ r. ⌜ r ≡ finishedPlan at ⌝ }
 {
     Plan::Told(Work {
-        drafts: Drafts::None,
+        drafts: plan::none(),
         after: at,
         change: Change::Keep,
         finished: true,
     })
 }
 
-// The step of the mode Scripting in a session of this depth.
+// The step of the mode Scripting in a session of this depth, where no literal and no number starts.
 pub fn scripting(src: &[u8], at: usize, end: bool, depth: u32) -> Plan
-    requires { ⌜ Here (now src) at ⌝ }
+    requires { ⌜ Here (now src) at × NoLiteral (now src) at ⌝ }
     ensures { λ r. ⌜ Plans (now (src .entry)) end (scripting depth end at (drop at (now (src .entry)))) r ⌝ }
 {
     if src.len() <= at {
@@ -107,8 +92,6 @@ pub fn scripting(src: &[u8], at: usize, end: bool, depth: u32) -> Plan
     let i = at + 1;
     let b = src[at];
     match b {
-        b'\'' => quoted(LITERAL_SINGLE_QUOTED_STRING, Mode::Single, src, at, end),
-        b'"' => quoted(LITERAL_DOUBLE_QUOTED_STRING, Mode::Double, src, at, end),
         b'`' => plan::goes(i, Change::Swap(Frame::ShellExec)),
         b'.' => point(src, at, end),
         b'{' => plan::goes(i, Change::Enter(Frame::Scripting)),
@@ -118,9 +101,6 @@ pub fn scripting(src: &[u8], at: usize, end: bool, depth: u32) -> Plan
         b'/' => comment::slash(src, at, end),
         b'#' => comment::hash(src, at, end),
         _ => {
-            if byte::is_digit(b) {
-                return drafts::number(at, src, at, end);
-            }
             if byte::is_start(b) {
                 return word(src, at, end);
             }

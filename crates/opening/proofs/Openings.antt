@@ -1,10 +1,9 @@
 -- The plans at the opening of a text block make its outcomes. Assumes nothing.
 use Prim.Native.Nat.{ℕ, _+_, _≤_, _<_}
-use mathlib.Core.Path.{_≡_, refl, sym, _∙_}
+use mathlib.Core.Path.{_≡_, sym, _∙_}
 use mathlib.Core.Bool.{Bool}
 use mathlib.Core.List.{List}
 use native.Mathlib.Omega.{arith}
-use native.Mathlib.Numerals.{add-one}
 use lib.ListN.{length, drop, length-drop}
 use Rattle.state.specs.declared.Frame.{Frame}
 use Rattle.state.specs.declared.Label.{Label}
@@ -14,7 +13,8 @@ use Rattle.outcome.specs.declared.Opening.{Opening}
 use Rattle.outcome.specs.Openings.{opening, docFrame, opened}
 use Rattle.outcome.proofs.Openings.{LabelInside, opening-label}
 use Rattle.plan.specs.declared.Plan.{Plan}
-use Rattle.plan.specs.Code.{piecesOf, outcomeOf, Plans, goesPlan}
+use Rattle.plan.specs.Code.{Plans, goesPlan}
+use Rattle.plan.proofs.Plans.{goes-plans, wait-plans, sign-plans}
 use Rattle.opening.specs.Code.{blockPlan}
 
 pub docFrame-arm : (kind arm : DocStringKind) (label : Label) (r : Frame) → kind ≡ arm → r ≡ docFrame arm label → r ≡ docFrame kind label
@@ -38,16 +38,17 @@ module _ (src : List ℕ) (at : ℕ) (end : Bool) (h : at < length src) (small :
 
       pub opened-block : (r : Plan) → r ≡ blockPlan kind start len after
           → Plans src end (opened at (opening end (at + 1) (drop (at + 1) src))) r
-      unfolding opened outcomeOf piecesOf
-      opened-block r g = rw (g, ← e, f) (record { told = refl; ready = tt })
+      unfolding opened
+      opened-block r g =
+          rw (g, ← e, f) (goes-plans src end after (Change.Swap (docFrame kind (record { start = start; len = len }))))
 
     pub opened-other : (r : Plan) → o ≡ Opening.Other → r ≡ goesPlan (at + 1) Change.Keep
         → Plans src end (opened at (opening end (at + 1) (drop (at + 1) src))) r
-    unfolding opened outcomeOf piecesOf
-    opened-other r f g = rw (g, ← e, f) (record { told = rw (add-one at); ready = tt })
+    unfolding opened
+    opened-other r f g = rw (← e, f) (sign-plans src end at r g)
 
     pub opened-wait : o ≡ Opening.Undecided → Plans src end (opened at (opening end (at + 1) (drop (at + 1) src))) Plan.Wait
-    unfolding opened outcomeOf
-    opened-wait f = rw (← e, f) (record { told = refl; ready = tt })
+    unfolding opened
+    opened-wait f = rw (← e, f) (wait-plans src end)
 
 pub ruleset blocks = (label-start, label-length, opened-block, opened-other, opened-wait)

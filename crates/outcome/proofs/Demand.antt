@@ -3,7 +3,7 @@
 --   Splits         two continuations get outcomes that are apart so
 --   Demands        what is told stays; what is not has two continuations; with the end announced all is told
 --   Answers        the same at one part, so that a choice goes way by way
---   mode-waits, limited-waits   a mode's demand 3; and at each depth, with the limit of 64 frames
+--   limited-waits  a mode's demand 3 at each depth, with the limit of 64 frames
 --   waits-along    demand 3 of the rest of a text is demand 3 of the text
 use mathlib.Core.Path.{_≡_, refl, sym, ap, _∙_}
 use mathlib.Core.Bool.{Bool, true, false}
@@ -149,12 +149,6 @@ module _ (p : ℕ) where
         splits = λ part. a part .splits;
         told = λ xs e. a xs .told (ap (mode true) (append-nil xs) ∙ e);
       }
-
-pub mode-waits : (p : ℕ) (mode : Bool → List ℕ → Outcome) → Demands p mode → (part : List ℕ)
-    → Waits Outcome.Wait (mode false) (mode true) part
-mode-waits p mode d part =
-    waits Outcome.Wait _ _ part (is-wait _) (λ k rest. d .stays part rest k)
-    (λ k. apart-by (λ c. closed p (mode true (part ++ c))) (mode true) [] part (λ one two e. ap (closed p) e) (d .splits part k))
 
 module _ (p : ℕ) (mode : Bool → List ℕ → Outcome) (d : Demands p mode) (depth : ℕ) where
   pub limited-stays : (part rest : List ℕ)

@@ -91,6 +91,7 @@ module _ {src : List ℕ} {n : ℕ} (a : Asked src n) (end : Bool) where
             lies = one-inside n (length src) inlineHtml (n + length xs) xs (omega arith) (omega arith);
             stack = λ g. tt;
             on = λ g. tt;
+            still = refl;
           }
       go Tagged.Undecided i = waits a
 
@@ -173,7 +174,7 @@ module _ {src : List ℕ} {n : ℕ} (a : Asked src n) (end : Bool) where
   unfolding scripting isFrame isBottom
   scripting-ways [] e y =
       ending-ways a end
-      (record { lies = goes-inside n (length src) n (omega arith) (a .inside); stack = λ g. tt; on = λ g. tt })
+      (record { lies = goes-inside n (length src) n (omega arith) (a .inside); stack = λ g. tt; on = λ g. tt; still = refl })
   scripting-ways (b ∷ xs) e y =
       if-ways a (b is "'") _ _ (quoted-ways Mode.Single _ xs (omega arith))
       (if-ways a (b is "\"") _ _ (quoted-ways Mode.Double _ xs (omega arith))

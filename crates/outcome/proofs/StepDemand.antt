@@ -1,14 +1,11 @@
 -- Demand 3 for a step and the three readings, over a session. Assumes nothing.
---   step-waits          with more announced a step waits exactly when two continuations of the source get different
+--   call-waits          with more announced a call waits exactly when two continuations of the source get different
 --                       outcomes; else every longer source gets the same
---   step-never-waits    with the end announced no step waits
---   Reads, number-reads, single-reads, double-reads   the same of the readings, wherever the cursor stands, and that
---                       they are readable; number-, single-, double-outcome-waits say demand 3 alone
-use mathlib.Core.Path.{_≡_, refl, ap}
+--   call-never-waits    with the end announced no call waits
+use mathlib.Core.Path.{_≡_, refl}
 use mathlib.Core.Bool.{Bool, true, false}
 use mathlib.Core.List.{List, [], _++_}
-use Prim.Native.Nat.{ℕ, _≤_}
-use lib.ListN.{length}
+use Prim.Native.Nat.{ℕ}
 use lib.Seq.{drop-append-le}
 use Rattle.byte.specs.Words.{every}
 use Rattle.byte.specs.Demand.{isByte, Waits}
@@ -16,19 +13,18 @@ use Rattle.state.specs.declared.Frame.{Frame}
 use Rattle.state.specs.declared.Label as state
 use Rattle.state.specs.declared.Choices.{Choices}
 use Rattle.state.specs.declared.Session.{Session}
-use Rattle.state.specs.Bounds.{labelBytes, isLabel, isFrame, isGood}
+use Rattle.state.specs.Bounds.{labelBytes, isLabel, isFrame, isGood, isScripting}
 use Rattle.state.proofs.Kept.{good-numbers}
 use Rattle.state.proofs.Longer.{isLabel-facts, labelBytes-append, top-good, every-part}
 use Rattle.token.specs.Kinds.{literalSingleQuotedString, literalDoubleQuotedString}
 use Rattle.unit.specs.declared.Mode.{Mode}
 use Rattle.unit.specs.Labels.{Label}
-use Rattle.unit.specs.Readings.{textAt}
-use Rattle.number.specs.Numbers.{numberAt}
+use Rattle.outcome.specs.declared.Call.{Call}
 use Rattle.outcome.specs.Outcomes.{Outcome, limited}
-use Rattle.outcome.specs.Texts.{literal, numbered}
-use Rattle.outcome.specs.Steps.{topFrame, framed, rest, stepOutcome, numberOutcome, singleOutcome, doubleOutcome}
-use Rattle.outcome.proofs.Demand.{waits-along, Demands, mode-waits, limited-waits, limited-told}
-use Rattle.outcome.proofs.StepWays.{label-some, Readable, number-readable, single-readable, double-readable}
+use Rattle.outcome.specs.Steps.{topFrame, framed, scripted, callAt, rest, callOutcome}
+use Rattle.outcome.proofs.Demand.{waits-along, refused-waits, Demands, if-answers, settled, demands-answers, answers-demands}
+use Rattle.outcome.proofs.Demand.{limited-waits, limited-told}
+use Rattle.outcome.proofs.StepWays.{label-some}
 use Rattle.outcome.proofs.InitialDemand.{initial-demands}
 use Rattle.outcome.proofs.LookingDemand.{lookingForVarname-demands, lookingForProperty-demands, varOffset-demands}
 use Rattle.outcome.proofs.ScriptDemand.{scripting-demands}
@@ -74,93 +70,57 @@ framed-append Frame.LookingForVarname part more e choices depth end n xs = refl
 framed-append Frame.LookingForProperty part more e choices depth end n xs = refl
 framed-append Frame.VarOffset part more e choices depth end n xs = refl
 
--- ---- the step
+-- ---- the step and the readings
 
-module _ (part : List ℕ) (s : Session) (b : every isByte part ≡ true) (good : isGood part s ≡ true) where
-  -- the step over what is left, with the labels of the part
-  abbrev stepAt : Bool → List ℕ → Outcome
-  stepAt end xs = framed (topFrame s) part (s .choices) (s .depth) end (s .position) xs
+scripted-demands : (f : Frame) (n p : ℕ) (read : Bool → List ℕ → Outcome) → Demands p read
+    → Demands p (λ end xs. scripted f n (read end xs))
+scripted-demands f n p read d =
+    answers-demands p (λ end xs. scripted f n (read end xs))
+    (λ xs. if-answers p (isScripting f) (demands-answers p read d xs) (settled p _ refused-waits))
 
-  stepAt-demands : Demands (s .position) stepAt
-  stepAt-demands = framed-demands (topFrame s) part b (top-good part s good) (s .choices) (s .depth) (s .position) (s .position)
+callAt-demands : (call : Call) (f : Frame) (src : List ℕ) → every isByte src ≡ true → isFrame src f ≡ true → (choices : Choices)
+    (depth n p : ℕ) → Demands p (λ end. callAt call f src choices depth end n)
+unfolding callAt
+callAt-demands Call.Step f src b e choices depth n p = framed-demands f src b e choices depth n p
+callAt-demands Call.Number f src b e choices depth n p = scripted-demands f n p _ (numbered-demands n n p)
+callAt-demands Call.Single f src b e choices depth n p =
+    scripted-demands f n p _ (literal-demands literalSingleQuotedString n Mode.Single refl tt n p)
+callAt-demands Call.Double f src b e choices depth n p =
+    scripted-demands f n p _ (literal-demands literalDoubleQuotedString n Mode.Double refl tt n p)
 
-  step-append : (end : Bool) (more : List ℕ)
-      → stepOutcome (part ++ more) end s ≡ limited (s .depth) (s .position) (stepAt end (rest part s ++ more))
-  unfolding stepOutcome
-  step-append end more =
+callAt-append : (call : Call) (f : Frame) (part more : List ℕ) → isFrame part f ≡ true → (choices : Choices) (depth : ℕ) (end : Bool)
+    (n : ℕ) (xs : List ℕ) → callAt call f (part ++ more) choices depth end n xs ≡ callAt call f part choices depth end n xs
+unfolding callAt
+callAt-append Call.Step f part more e choices depth end n xs = framed-append f part more e choices depth end n xs
+callAt-append Call.Number f part more e choices depth end n xs = refl
+callAt-append Call.Single f part more e choices depth end n xs = refl
+callAt-append Call.Double f part more e choices depth end n xs = refl
+
+module _ (call : Call) (part : List ℕ) (s : Session) (b : every isByte part ≡ true) (good : isGood part s ≡ true) where
+  -- the call over what is left, with the labels of the part
+  abbrev over : Bool → List ℕ → Outcome
+  over end xs = callAt call (topFrame s) part (s .choices) (s .depth) end (s .position) xs
+
+  over-demands : Demands (s .position) over
+  over-demands =
+      callAt-demands call (topFrame s) part b (top-good part s good) (s .choices) (s .depth) (s .position) (s .position)
+
+  over-append : (end : Bool) (more : List ℕ)
+      → callOutcome call (part ++ more) end s ≡ limited (s .depth) (s .position) (over end (rest part s ++ more))
+  unfolding callOutcome
+  over-append end more =
       rw (
-        framed-append (topFrame s) part more (top-good part s good) (s .choices) (s .depth) end (s .position) (rest (part ++ more) s),
+        callAt-append call (topFrame s) part more (top-good part s good) (s .choices) (s .depth) end (s .position) (rest (part ++ more) s),
         drop-append-le (s .position) part more (good-numbers part s good .position),
       )
 
-  rest-waits : (xs : List ℕ)
-      → Waits Outcome.Wait (λ ys. limited (s .depth) (s .position) (stepAt false ys))
-      (λ ys. limited (s .depth) (s .position) (stepAt true ys))
-      xs
-  rest-waits xs = limited-waits (s .position) stepAt stepAt-demands (s .depth) xs
+  pub call-waits : Waits Outcome.Wait (λ xs. callOutcome call xs false s) (λ xs. callOutcome call xs true s) part
+  unfolding callOutcome
+  call-waits =
+      waits-along Outcome.Wait _ _ (λ xs. callOutcome call xs false s) (λ xs. callOutcome call xs true s) (rest part s) part refl
+      (over-append true)
+      (limited-waits (s .position) over over-demands (s .depth) (rest part s))
 
-  pub step-waits : Waits Outcome.Wait (λ xs. stepOutcome xs false s) (λ xs. stepOutcome xs true s) part
-  unfolding stepOutcome
-  step-waits =
-      waits-along Outcome.Wait _ _ (λ xs. stepOutcome xs false s) (λ xs. stepOutcome xs true s) (rest part s) part refl
-      (step-append true)
-      (rest-waits (rest part s))
-
-  pub step-never-waits : stepOutcome part true s ≡ Outcome.Wait → ⊥
-  unfolding stepOutcome
-  step-never-waits e = limited-told (s .position) stepAt stepAt-demands (s .depth) (rest part s) e
-
--- ---- the readings
-
--- demand 3 of a reading's outcome, wherever the cursor stands
-abbrev OutcomeWaits : (List ℕ → Bool → Session → Outcome) → Session → Type 0
-OutcomeWaits outcome s = (part : List ℕ) → s .position ≤ length part
-    → Waits Outcome.Wait (λ xs. outcome xs false s) (λ xs. outcome xs true s) part
-
--- what the calls ask of a reading: it enters no frame, lies within the source and waits as it should
-pub record Reads (outcome : List ℕ → Bool → Session → Outcome) : Type 0 where
-  pub readable : (src : List ℕ) (end : Bool) (s : Session) → Readable src s (outcome src end s)
-  pub waits : (s : Session) → OutcomeWaits outcome s
-  pub never : (src : List ℕ) (s : Session) → outcome src true s ≡ Outcome.Wait → ⊥
-
--- of what is left from the cursor on, whatever is read of it
-module _ (read : ℕ → Bool → List ℕ → Outcome) (d : (n : ℕ) → Demands n (read n)) where
-  rest-reads : ((src : List ℕ) (end : Bool) (s : Session) → Readable src s (read (s .position) end (rest src s)))
-      → Reads (λ src end s. read (s .position) end (rest src s))
-  rest-reads readable =
-      record {
-        readable = readable;
-        waits = λ s part h.
-            waits-along Outcome.Wait _ _ (λ xs. read (s .position) false (rest xs s))
-            (λ xs. read (s .position) true (rest xs s)) (rest part s) part refl
-            (λ more. ap (read (s .position) true) (drop-append-le (s .position) part more h))
-            (mode-waits (s .position) (read (s .position)) (d (s .position)) (rest part s));
-        never = λ src s e. d (s .position) .told (rest src s) e;
-      }
-
-pub number-reads : Reads numberOutcome
-unfolding numberOutcome
-number-reads = rest-reads (λ n end xs. numbered n (numberAt end n xs)) (λ n. numbered-demands n n n) number-readable
-
-pub single-reads : Reads singleOutcome
-unfolding singleOutcome
-single-reads =
-    rest-reads (λ n end xs. literal literalSingleQuotedString n (textAt Mode.Single [] end n xs))
-    (λ n. literal-demands literalSingleQuotedString n Mode.Single refl tt n n)
-    single-readable
-
-pub double-reads : Reads doubleOutcome
-unfolding doubleOutcome
-double-reads =
-    rest-reads (λ n end xs. literal literalDoubleQuotedString n (textAt Mode.Double [] end n xs))
-    (λ n. literal-demands literalDoubleQuotedString n Mode.Double refl tt n n)
-    double-readable
-
-pub number-outcome-waits : (s : Session) → OutcomeWaits numberOutcome s
-number-outcome-waits = number-reads .waits
-
-pub single-outcome-waits : (s : Session) → OutcomeWaits singleOutcome s
-single-outcome-waits = single-reads .waits
-
-pub double-outcome-waits : (s : Session) → OutcomeWaits doubleOutcome s
-double-outcome-waits = double-reads .waits
+  pub call-never-waits : callOutcome call part true s ≡ Outcome.Wait → ⊥
+  unfolding callOutcome
+  call-never-waits e = limited-told (s .position) over over-demands (s .depth) (rest part s) e

@@ -1,8 +1,7 @@
 -- Every outcome of a step and of a reading lies between the cursor and the end of the source; so positions never fall,
 -- and a step has no more value bytes than it passes. The mode stack stays good, and a step that is done goes on.
 --   framed-ways    of any frame's routine
---   step-ways      of the step; `step-inside` says where it lies
---   Readable, number-readable, single-readable, double-readable   of the readings
+--   callAt-ways, call-ways   of the step and the three readings; `call-inside` says where it lies
 --   Room, Limited, limited-room   with the limit of 64 frames there is room for the frame that is entered
 -- Assumes nothing.
 use Prim.Native.Nat.{ℕ, _+_, _≤_, _<_}
@@ -20,22 +19,21 @@ use Rattle.state.specs.declared.Label.{Label}
 use Rattle.state.specs.declared.Choices.{Choices}
 use Rattle.state.specs.declared.Reading.{Reading}
 use Rattle.state.specs.declared.Session.{Session}
-use Rattle.state.specs.Bounds.{labelBytes, isLabel, isFrame, isBottom}
+use Rattle.state.specs.Bounds.{labelBytes, isLabel, isFrame, isBottom, isScripting}
 use Rattle.state.proofs.Longer.{isLabel-facts}
 use Rattle.token.specs.Kinds.{literalSingleQuotedString, literalDoubleQuotedString}
 use Rattle.unit.specs.declared.Mode.{Mode}
 use Rattle.unit.specs.Readings as unit
 use Rattle.unit.proofs.Inside as unit-inside
 use Rattle.unit.proofs.Stands.{isLiteral}
-use Rattle.number.specs.Numbers as number
 use Rattle.sheet.proofs.Inside.{sheet-inside, sheet-moves}
+use Rattle.outcome.specs.declared.Call.{Call}
 use Rattle.outcome.specs.declared.Change.{Change}
 use Rattle.outcome.specs.Outcomes.{Outcome, limited}
 use Rattle.outcome.specs.Insides.{Inside}
-use Rattle.outcome.specs.Texts.{isLeft, literal, numbered}
-use Rattle.outcome.specs.Steps.{textMode, nowdoc, framed, topFrame, rest, stepOutcome, numberOutcome}
-use Rattle.outcome.specs.Steps.{singleOutcome, doubleOutcome}
-use Rattle.outcome.proofs.Ways.{Asked, Ways, fault-ways, texted-ways, literal-ways, numbered-ways}
+use Rattle.outcome.specs.Texts.{literal}
+use Rattle.outcome.specs.Steps.{textMode, nowdoc, framed, topFrame, scripted, callAt, callOutcome}
+use Rattle.outcome.proofs.Ways.{Asked, Ways, if-ways, fault-ways, texted-ways, literal-ways, numbered-ways}
 use Rattle.outcome.proofs.Ways.{lookingForVarname-ways, lookingForProperty-ways, varOffset-ways}
 use Rattle.outcome.proofs.ScriptWays.{initial-ways, scripting-ways}
 
@@ -123,61 +121,46 @@ limited-room depth n o = limited-either (Limited depth) depth n o tt (λ r. r)
 
 -- ---- the step and the readings
 
-module _ (src : List ℕ) (end : Bool) (s : Session) (h : s .position ≤ length src) where
-  pub step-ways : Ways (asked src (s .depth) (s .position) end h (topFrame s)) (stepOutcome src end s)
-  unfolding stepOutcome
-  step-ways =
-      limited-either (Ways (asked src (s .depth) (s .position) end h (topFrame s))) (s .depth) (s .position) _
-      (fault-ways _ refl (omega arith) h)
-      (λ r. framed-ways src (s .depth) (s .position) end h (topFrame s) (s .choices))
-
-  pub step-inside : Inside (s .position) (length src) (stepOutcome src end s)
-  step-inside = step-ways .lies
-
 -- a reading's cursor may stay
-abbrev pub reading : (src : List ℕ) (s : Session) → s .position ≤ length src → Asked src (s .position)
-reading src s h = record { inside = h; top = Frame.Scripting; depth = s .depth; Good = Unit {0}; Moving = ⊥ }
+abbrev pub Moving : Call → List ℕ → Frame → ℕ → Type 0
+Moving Call.Step src f depth = TopGood src f depth
+Moving Call.Number src f depth = ⊥
+Moving Call.Single src f depth = ⊥
+Moving Call.Double src f depth = ⊥
 
--- an outcome of a reading enters no frame
-pub record Readable (src : List ℕ) (s : Session) (o : Outcome) : Type 0 where
-  pub ways : (h : s .position ≤ length src) → Ways (reading src s h) o
-  pub free : limited (s .depth) (s .position) o ≡ o
+module _ (src : List ℕ) (depth n : ℕ) (end : Bool) (h : n ≤ length src) (f : Frame) where
+  abbrev pub calledBy : Call → Asked src n
+  calledBy call =
+      record { inside = h; top = f; depth = depth; Good = TopGood src f depth; Moving = Moving call src f depth }
 
-module _ (src : List ℕ) (end : Bool) (s : Session) where
-  pub number-readable : Readable src s (numberOutcome src end s)
-  unfolding numberOutcome numbered limited
-  number-readable = record {
-    ways = λ h.
-        numbered-ways (reading src s h) end (rest src s) (omega (arith, length-drop (s .position) src)) (λ g. absurd g);
-    free = go (number.numberAt end (s .position) (rest src s));
-  }
-    where
-      go : (r : number.Reading) → limited (s .depth) (s .position) (numbered (s .position) r) ≡ numbered (s .position) r
-      go (number.Reading.Number kind value after) = refl
-      go number.Reading.Wait = refl
+  scripted-ways : (call : Call) (o : Outcome) → Ways (calledBy call) o → Ways (calledBy call) (scripted f n o)
+  scripted-ways call o w = if-ways (calledBy call) (isScripting f) o _ w (fault-ways _ refl (omega arith) h)
 
-  string-readable : (kind : ℕ) (m : Mode)
-      → Readable src s (literal kind (s .position) (unit.textAt m [] end (s .position) (rest src s)))
-  unfolding literal limited
-  string-readable kind m = record {
-    ways = λ h.
-        literal-ways (reading src s h) kind (s .position) (unit.textAt m [] end (s .position) (rest src s))
-        (omega arith) (λ g. absurd g)
-        (rw (whole src (s .position) h) at (unit-inside.text-inside m [] end (s .position) (rest src s)));
-    free = go (unit.textAt m [] end (s .position) (rest src s));
-  }
-    where
-      go : (r : unit.Reading)
-          → limited (s .depth) (s .position) (literal kind (s .position) r) ≡ literal kind (s .position) r
-      go (unit.Text value stop from after) =
-          choice (λ (o : Outcome). limited (s .depth) (s .position) o ≡ o) (isLeft stop) _ _ (λ e. refl) (λ e. refl)
-      go (unit.Refused number fault) = refl
-      go unit.Wait = refl
+  string-ways : (call : Call) → (Moving call src f depth → ⊥) → (kind : ℕ) (m : Mode)
+      → Ways (calledBy call) (literal kind n (unit.textAt m [] end n (drop n src)))
+  string-ways call stays kind m =
+      literal-ways (calledBy call) kind n (unit.textAt m [] end n (drop n src)) (omega arith) (λ g. absurd (stays g))
+      (rw (whole src n h) at (unit-inside.text-inside m [] end n (drop n src)))
 
-  pub single-readable : Readable src s (singleOutcome src end s)
-  unfolding singleOutcome
-  single-readable = string-readable literalSingleQuotedString Mode.Single
+  pub callAt-ways : (call : Call) (choices : Choices)
+      → Ways (calledBy call) (callAt call f src choices depth end n (drop n src))
+  unfolding callAt
+  callAt-ways Call.Step choices = framed-ways src depth n end h f choices
+  callAt-ways Call.Number choices =
+      scripted-ways Call.Number _
+      (numbered-ways (calledBy Call.Number) end (drop n src) (omega (arith, length-drop n src)) (λ g. absurd g))
+  callAt-ways Call.Single choices =
+      scripted-ways Call.Single _ (string-ways Call.Single (λ g. g) literalSingleQuotedString Mode.Single)
+  callAt-ways Call.Double choices =
+      scripted-ways Call.Double _ (string-ways Call.Double (λ g. g) literalDoubleQuotedString Mode.Double)
 
-  pub double-readable : Readable src s (doubleOutcome src end s)
-  unfolding doubleOutcome
-  double-readable = string-readable literalDoubleQuotedString Mode.Double
+module _ (call : Call) (src : List ℕ) (end : Bool) (s : Session) (h : s .position ≤ length src) where
+  pub call-ways : Ways (calledBy src (s .depth) (s .position) end h (topFrame s) call) (callOutcome call src end s)
+  unfolding callOutcome
+  call-ways =
+      limited-either (Ways (calledBy src (s .depth) (s .position) end h (topFrame s) call)) (s .depth) (s .position) _
+      (fault-ways _ refl (omega arith) h)
+      (λ r. callAt-ways src (s .depth) (s .position) end h (topFrame s) call (s .choices))
+
+  pub call-inside : Inside (s .position) (length src) (callOutcome call src end s)
+  call-inside = call-ways .lies

@@ -4,6 +4,7 @@
 --   Welcome, ChangeGood, Changes   a frame that comes in is good, at the bottom one that may stand there, and none is
 --                                  left at depth 1
 --   Onward, Progress               the cursor has moved, or LookingForVarname was swapped for Scripting
+--   Still                          where nothing is left to read, the frame stays
 --   Asked                          the frame on top, and under which premises the stack stays good and the cursor moves
 --   Ways                           of an outcome from the place n on
 -- Assumes nothing.
@@ -66,6 +67,13 @@ Progress f n (Outcome.Told pieces after change false) = Onward f n after change
 Progress f n (Outcome.Refused number place) = Unit {0}
 Progress f n Outcome.Wait = Unit {0}
 
+-- where nothing is left to read, the frame stays
+abbrev pub Still : Outcome → Type 0
+Still (Outcome.Told pieces after change true) = change ≡ Change.Keep
+Still (Outcome.Told pieces after change false) = Unit {0}
+Still (Outcome.Refused number place) = Unit {0}
+Still Outcome.Wait = Unit {0}
+
 -- from n on; of a reading `Moving` never holds
 pub record Asked (src : List ℕ) (n : ℕ) : Type 1 where
   pub inside : n ≤ length src
@@ -78,6 +86,7 @@ pub record Ways {src : List ℕ} {n : ℕ} (a : Asked src n) (o : Outcome) : Typ
   pub lies : Inside n (length src) o
   pub stack : a .Good → Changes src (a .depth) o
   pub on : a .Moving → Progress (a .top) n o
+  pub still : Still o
 
 pub scripting-in : (src : List ℕ) → Welcome src Frame.Scripting
 unfolding isFrame isBottom
@@ -121,7 +130,7 @@ module _ {src : List ℕ} {n : ℕ} (a : Asked src n) where
   if-ways t o p x y = choice Way t o p (λ e. x) (λ e. y)
 
   pub waits : Way Outcome.Wait
-  waits = record { lies = tt; stack = λ g. tt; on = λ g. tt }
+  waits = record { lies = tt; stack = λ g. tt; on = λ g. tt; still = tt }
 
   -- no byte is left: decided at the announced end alone
   pub ending-ways : (end : Bool) {o : Outcome} → Way o → Way (if end then o else Outcome.Wait)
@@ -129,12 +138,13 @@ module _ {src : List ℕ} {n : ℕ} (a : Asked src n) where
 
   pub fault-ways : {number place : ℕ} → eqb number wait ≡ false → n ≤ place → place ≤ length src
       → Way (Outcome.Refused number place)
-  fault-ways e x y = record { lies = record { told = e; low = x; high = y }; stack = λ g. tt; on = λ g. tt }
+  fault-ways e x y =
+      record { lies = record { told = e; low = x; high = y }; stack = λ g. tt; on = λ g. tt; still = tt }
 
   pub told-ways : {pieces : List Piece} {after : ℕ} {change : Change} → ToldInside n (length src) pieces after
       → (a .Good → ChangeGood src (a .depth) change) → (a .Moving → n < after)
       → Way (Outcome.Told pieces after change false)
-  told-ways i c o = record { lies = i; stack = c; on = λ g. moves (o g) }
+  told-ways i c o = record { lies = i; stack = c; on = λ g. moves (o g); still = tt }
 
   pub goes-ways : {after : ℕ} {change : Change} → n < after → after ≤ length src
       → (a .Good → ChangeGood src (a .depth) change)
@@ -227,6 +237,7 @@ module _ {src : List ℕ} {n : ℕ} (a : Asked src n) (end : Bool) where
           lies = goes-inside n (length src) n (omega arith) (a .inside);
           stack = λ g. scripting-in src;
           on = λ g. looks top refl;
+          still = tt;
         }
 
     varname-ways : (xs : List ℕ) (r : Run) → n + length xs ≤ length src → RunInside 1 (length xs) r

@@ -1,22 +1,27 @@
 -- What a step and the three readings come to (document 01, "Step"), with unlimited tables and script length.
 --   topFrame        the session's top frame
 --   framed          the top frame's routine, from the position n on, where xs is what is left
---   stepOutcome     what the step's contract cites
---   numberOutcome, singleOutcome, doubleOutcome   the readings, with the span at the cursor; asked where Scripting is on top
+--   scripted        a reading asks for Scripting on top; else it is refusal 10, at the cursor
+--   callAt          the step, or a reading, whose token bears the span at the cursor
+--   callOutcome     what contracts cite: the same in a session, with the 64-frame limit
+--   stepOutcome     the step's
 use Prim.Native.Nat.{ℕ, _-_}
 use mathlib.Core.Bool.{Bool}
 use mathlib.Core.List.{List, []}
 use lib.ListN.{getD, drop}
+use Rattle.byte.specs.Words.{if_then_else_}
+use Rattle.byte.specs.Refusals.{outOfPlace}
 use Rattle.state.specs.declared.Frame.{Frame}
 use Rattle.state.specs.declared.Reading.{Reading}
 use Rattle.state.specs.declared.Choices.{Choices}
 use Rattle.state.specs.declared.Session.{Session}
-use Rattle.state.specs.Bounds.{labelBytes, noSlot}
+use Rattle.state.specs.Bounds.{labelBytes, noSlot, isScripting}
 use Rattle.token.specs.Kinds.{literalSingleQuotedString, literalDoubleQuotedString}
 use Rattle.unit.specs.declared.Mode.{Mode}
 use Rattle.unit.specs.Readings.{textAt}
 use Rattle.number.specs.Numbers.{numberAt}
 use Rattle.sheet.specs.Sheets.{sheetAt}
+use Rattle.outcome.specs.declared.Call.{Call}
 use Rattle.outcome.specs.Outcomes.{Outcome, limited}
 use Rattle.outcome.specs.Initials.{initial}
 use Rattle.outcome.specs.Texts.{texted, literal, numbered}
@@ -46,21 +51,25 @@ framed Frame.LookingForVarname src choices depth end n xs = lookingForVarname en
 framed Frame.LookingForProperty src choices depth end n xs = lookingForProperty end n xs
 framed Frame.VarOffset src choices depth end n xs = varOffset end n xs
 
+abbrev pub scripted : Frame → ℕ → Outcome → Outcome
+scripted f n o = if isScripting f then o else Outcome.Refused outOfPlace n
+
+unfoldable pub callAt : Call → Frame → List ℕ → Choices → ℕ → Bool → ℕ → List ℕ → Outcome
+callAt Call.Step f src choices depth end n xs = framed f src choices depth end n xs
+callAt Call.Number f src choices depth end n xs = scripted f n (numbered n (numberAt end n xs))
+callAt Call.Single f src choices depth end n xs =
+    scripted f n (literal literalSingleQuotedString n (textAt Mode.Single [] end n xs))
+callAt Call.Double f src choices depth end n xs =
+    scripted f n (literal literalDoubleQuotedString n (textAt Mode.Double [] end n xs))
+
 -- what is left to read
 abbrev pub rest : List ℕ → Session → List ℕ
 rest src s = drop (s .position) src
 
-unfoldable pub stepOutcome : List ℕ → Bool → Session → Outcome
-stepOutcome src end s =
-    limited (s .depth) (s .position) (framed (topFrame s) src (s .choices) (s .depth) end (s .position) (rest src s))
+unfoldable pub callOutcome : Call → List ℕ → Bool → Session → Outcome
+callOutcome call src end s =
+    limited (s .depth) (s .position)
+    (callAt call (topFrame s) src (s .choices) (s .depth) end (s .position) (rest src s))
 
-unfoldable pub numberOutcome : List ℕ → Bool → Session → Outcome
-numberOutcome src end s = numbered (s .position) (numberAt end (s .position) (rest src s))
-
-unfoldable pub singleOutcome : List ℕ → Bool → Session → Outcome
-singleOutcome src end s =
-    literal literalSingleQuotedString (s .position) (textAt Mode.Single [] end (s .position) (rest src s))
-
-unfoldable pub doubleOutcome : List ℕ → Bool → Session → Outcome
-doubleOutcome src end s =
-    literal literalDoubleQuotedString (s .position) (textAt Mode.Double [] end (s .position) (rest src s))
+abbrev pub stepOutcome : List ℕ → Bool → Session → Outcome
+stepOutcome src end s = callOutcome Call.Step src end s

@@ -4,6 +4,7 @@
 --   stopKind, stopDetail, stopChange   what ends a text in a mode: the token's kind and detail, and the change of frame
 --   texted       a mode's text: its part, if it is not empty, and the token after it; both bear the span where the call began
 --   literal      a quoted string: closed, it is one token; before an interpolation its part, empty or not
+--   textRead     either of them, by its mode
 --   numbered     a number
 use Prim.Native.Nat.{ℕ, _-_}
 use mathlib.Core.Bool.{Bool, true, false}
@@ -13,6 +14,7 @@ use Rattle.byte.specs.Words.{if_then_else_}
 use Rattle.state.specs.declared.Frame.{Frame}
 use Rattle.token.specs.Kinds.{stringPart, dollarLeftBrace, leftBrace, doubleQuote, backtick, variable}
 use Rattle.token.specs.Kinds.{endDocStringNone, endDocStringSpace, endDocStringTab, literalInteger, literalFloat}
+use Rattle.token.specs.Kinds.{literalSingleQuotedString, literalDoubleQuotedString}
 use Rattle.unit.specs.declared.Follow.{Follow}
 use Rattle.unit.specs.declared.Indentation.{Indentation}
 use Rattle.unit.specs.declared.Mode.{Mode}
@@ -100,6 +102,15 @@ literal kind place (unit.Text value stop from after) =
     else Outcome.Told (piece kind place value ∷ []) after Change.Keep false
 literal kind place (unit.Refused number fault) = Outcome.Refused number fault
 literal kind place unit.Wait = Outcome.Wait
+
+-- a text that is read from n on: a literal, whose token bears the span of `place`, or a mode's
+unfoldable pub textRead : Mode → ℕ → ℕ → List ℕ → unit.Reading → Outcome
+textRead Mode.Single place n xs r = literal literalSingleQuotedString place r
+textRead Mode.Double place n xs r = literal literalDoubleQuotedString place r
+textRead Mode.DoubleQuote place n xs r = texted Mode.DoubleQuote n xs r
+textRead Mode.ShellExec place n xs r = texted Mode.ShellExec n xs r
+textRead Mode.Heredoc place n xs r = texted Mode.Heredoc n xs r
+textRead Mode.Nowdoc place n xs r = texted Mode.Nowdoc n xs r
 
 unfoldable pub numberKind : Literal → ℕ
 numberKind Literal.Integer = literalInteger

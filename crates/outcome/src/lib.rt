@@ -2,6 +2,14 @@
 // The definitions and theorems over them stand in specs/ and proofs/; the code that follows them in the crates modes and lexer.
 use state::Frame;
 
+// What is asked for: a step, or one of the three readings.
+pub enum Call {
+    Step,
+    Number,
+    Single,
+    Double,
+}
+
 // What a step does to the mode stack.
 pub enum Change {
     Keep,

@@ -16,7 +16,8 @@ use Rattle.outcome.specs.Lookings.{token}
 use Rattle.plan.specs.declared.Draft.{Draft}
 use Rattle.plan.specs.declared.Drafts.{Drafts}
 use Rattle.plan.specs.declared.Plan.{Plan}
-use Rattle.plan.specs.Code.{madeBy, made, pieceOf, piecesOf, outcomeOf, Named, Ready, Plans, copiedDraft}
+use Rattle.plan.specs.Code.{madeBy, made, pieceOf, pieces, outcomeOf, Named, Ready, Plans, copiedDraft}
+use Rattle.plan.specs.Code.{noDraft, noDrafts, oneDraft, twoDrafts}
 use Rattle.plan.specs.Code.{workPlan, goesPlan, onePlan, partedPlan, endingPlan}
 
 -- the bytes that a label names, as a part of the source
@@ -30,11 +31,25 @@ pub named-short : (src : List ℕ) (label : Label) (part : List ℕ) → Named s
     → length part ≤ 64
 named-short src label part name e = rw e (simp (length-take, length-drop) (omega (arith, name .short)))
 
+-- drafts and plans from their parts
+pub noDrafts-made : (first second : Draft) → first ≡ noDraft → second ≡ noDraft
+    → record { count = 0; first = first; second = second } ≡ noDrafts
+noDrafts-made first second e f = rw (e, f)
+
+pub oneDraft-made : (d second : Draft) → second ≡ noDraft → record { count = 1; first = d; second = second } ≡ oneDraft d
+oneDraft-made d second e = rw e
+
+pub workPlan-made : (ds ds′ : Drafts) (after : ℕ) (change : Change) → ds ≡ ds′
+    → Plan.Told (record { drafts = ds; after = after; change = change; finished = false }) ≡ workPlan ds′ after change
+workPlan-made ds ds′ after change e = rw e
+
+pub ruleset making = (noDrafts-made, oneDraft-made, workPlan-made)
+
 module _ (part d : Draft) (after : ℕ) (change : Change) where
   pub partedPlan-empty : (r : Plan) → part .len ≡ 0 → r ≡ onePlan d after change → r ≡ partedPlan part d after change
   partedPlan-empty r z e = e ∙ rw (eq-eqb (part .len) 0 z)
 
-  pub partedPlan-some : (part .len ≡ 0 → ⊥) → workPlan (Drafts.Two part d) after change ≡ partedPlan part d after change
+  pub partedPlan-some : (part .len ≡ 0 → ⊥) → workPlan (twoDrafts part d) after change ≡ partedPlan part d after change
   partedPlan-some z = rw (ne-eqb (part .len) 0 z)
 
 pub ruleset parting = (partedPlan-empty, partedPlan-some)
@@ -56,16 +71,19 @@ token-made kind at k change d r e h = h ∙ rw e
 -- k bytes from `at` on as a token
 pub token-plans : (src : List ℕ) (end : Bool) (kind at k : ℕ) (change : Change) → at + k ≤ length src
     → Plans src end (token kind at (drop at src) k change) (onePlan (copiedDraft kind 0 at at (at + k)) (at + k) change)
-unfolding madeBy outcomeOf piecesOf
+unfolding madeBy outcomeOf pieces
 token-plans src end kind at k change inside =
     let n : at + k - at ≡ k = omega arith in
-    record { told = rw n; ready = copied-ready src end kind 0 at at (at + k) (omega arith) inside }
+    record {
+      told = rw n;
+      ready = record { few = omega arith; all = (copied-ready src end kind 0 at at (at + k) (omega arith) inside, tt) };
+    }
 
 -- plans that write nothing, refuse or wait
 module _ (src : List ℕ) (end : Bool) where
   pub goes-plans : (after : ℕ) (change : Change) → Plans src end (goes after change) (goesPlan after change)
-  unfolding outcomeOf piecesOf
-  goes-plans after change = record { told = refl; ready = tt }
+  unfolding outcomeOf pieces
+  goes-plans after change = record { told = refl; ready = record { few = omega arith; all = tt } }
 
   pub refused-plans : (number place : ℕ) → Plans src end (Outcome.Refused number place) (Plan.Refused number place)
   unfolding outcomeOf
@@ -99,13 +117,13 @@ module _ (src : List ℕ) (end : Bool) (part d : Draft) (after : ℕ) (change : 
   parted-value : (value : List ℕ) → made src end part ≡ value → part .detail ≡ 0 → Ready src end part → Ready src end d
       → Plans src end (Outcome.Told (unlessEmpty (part .kind) (part .place) value ++ pieceOf src end d ∷ []) after change false)
       (partedPlan part d after change)
-  unfolding outcomeOf piecesOf unlessEmpty
+  unfolding outcomeOf pieces unlessEmpty
   parted-value [] v z p q =
       let e : part .len ≡ 0 = p .size ∙ rw v in
-      rw (eq-eqb (part .len) 0 e) (record { told = refl; ready = q })
+      rw (eq-eqb (part .len) 0 e) (record { told = refl; ready = record { few = omega arith; all = (q, tt) } })
   parted-value (b ∷ rest) v z p q =
       let e : part .len ≡ suc (length rest) = p .size ∙ rw v in
-      rw (ne-eqb (part .len) 0 (λ y. omega arith)) (record { told = rw (v, z); ready = (p, q) })
+      rw (ne-eqb (part .len) 0 (λ y. omega arith)) (record { told = rw (v, z); ready = record { few = omega arith; all = (p, (q, tt)) } })
 
   pub parted-plans : part .detail ≡ 0 → Ready src end part → Ready src end d
       → Plans src end

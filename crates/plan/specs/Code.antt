@@ -1,7 +1,9 @@
 -- What a plan stands for: the outcome that it makes of a source.
 --   madeBy, made      the value of a draft
+--   draftsOf          the drafts that count, in order
 --   pieceOf, piecesOf, outcomeOf   a draft, drafts and a plan in the outcome's words
 --   Able, Ready       a draft whose value can be written: its length is the value's, and its ranges lie within the source
+--   AllReady, DraftsReady   the same of drafts
 --   Plans             the plan makes this outcome, and can be written: what each routine's contract says
 --   Here              a place of a source that is not too long; its end is one
 --   Named             a label's range within the source
@@ -38,10 +40,16 @@ made src end d = madeBy (d .making) src end (d .from) (d .to)
 abbrev pub pieceOf : List ℕ → Bool → Draft → Piece
 pieceOf src end d = record { kind = d .kind; detail = d .detail; place = d .place; value = made src end d }
 
-unfoldable pub piecesOf : List ℕ → Bool → Drafts → List Piece
-piecesOf src end Drafts.None = []
-piecesOf src end (Drafts.One d) = pieceOf src end d ∷ []
-piecesOf src end (Drafts.Two d e) = pieceOf src end d ∷ pieceOf src end e ∷ []
+-- the drafts that count, in order
+abbrev pub draftsOf : Drafts → List Draft
+draftsOf ds = take (ds .count) (ds .first ∷ ds .second ∷ [])
+
+unfoldable pub pieces : List ℕ → Bool → List Draft → List Piece
+pieces src end [] = []
+pieces src end (d ∷ more) = pieceOf src end d ∷ pieces src end more
+
+abbrev pub piecesOf : List ℕ → Bool → Drafts → List Piece
+piecesOf src end ds = pieces src end (draftsOf ds)
 
 unfoldable pub outcomeOf : List ℕ → Bool → Plan → Outcome
 outcomeOf src end (Plan.Told w) = Outcome.Told (piecesOf src end (w .drafts)) (w .after) (w .change) (w .finished)
@@ -74,13 +82,17 @@ pub record Ready (src : List ℕ) (end : Bool) (d : Draft) : Type 0 where
   pub size : d .len ≡ length (made src end d)
   pub able : Able (d .making) src (d .from) (d .to)
 
-abbrev pub AllReady : Drafts → List ℕ → Bool → Type 0
-AllReady Drafts.None src end = Unit {0}
-AllReady (Drafts.One d) src end = Ready src end d
-AllReady (Drafts.Two d e) src end = Ready src end d × Ready src end e
+abbrev pub AllReady : List Draft → List ℕ → Bool → Type 0
+AllReady [] src end = Unit {0}
+AllReady (d ∷ more) src end = Ready src end d × AllReady more src end
+
+-- none is counted that is not there
+pub record DraftsReady (ds : Drafts) (src : List ℕ) (end : Bool) : Type 0 where
+  pub few : ds .count ≤ 2
+  pub all : AllReady (draftsOf ds) src end
 
 abbrev pub PlanReady : Plan → List ℕ → Bool → Type 0
-PlanReady (Plan.Told w) src end = AllReady (w .drafts) src end
+PlanReady (Plan.Told w) src end = DraftsReady (w .drafts) src end
 PlanReady (Plan.Refused number place) src end = Unit {0}
 PlanReady Plan.Wait src end = Unit {0}
 
@@ -92,17 +104,29 @@ abbrev pub copiedDraft : ℕ → ℕ → ℕ → ℕ → ℕ → Draft
 copiedDraft kind detail place from to =
     record { kind = kind; detail = detail; place = place; making = Making.Copied; from = from; to = to; len = to - from }
 
+abbrev pub noDraft : Draft
+noDraft = copiedDraft 0 0 0 0 0
+
+abbrev pub noDrafts : Drafts
+noDrafts = record { count = 0; first = noDraft; second = noDraft }
+
+abbrev pub oneDraft : Draft → Drafts
+oneDraft d = record { count = 1; first = d; second = noDraft }
+
+abbrev pub twoDrafts : Draft → Draft → Drafts
+twoDrafts d e = record { count = 2; first = d; second = e }
+
 abbrev pub workPlan : Drafts → ℕ → Change → Plan
 workPlan drafts after change = Plan.Told (record { drafts = drafts; after = after; change = change; finished = false })
 
 abbrev pub goesPlan : ℕ → Change → Plan
-goesPlan after change = workPlan Drafts.None after change
+goesPlan after change = workPlan noDrafts after change
 
 abbrev pub onePlan : Draft → ℕ → Change → Plan
-onePlan d after change = workPlan (Drafts.One d) after change
+onePlan d after change = workPlan (oneDraft d) after change
 
 abbrev pub partedPlan : Draft → Draft → ℕ → Change → Plan
-partedPlan part d after change = if eqb (part .len) 0 then onePlan d after change else workPlan (Drafts.Two part d) after change
+partedPlan part d after change = if eqb (part .len) 0 then onePlan d after change else workPlan (twoDrafts part d) after change
 
 -- nothing is left of the text: this at the announced end, else wait
 abbrev pub endingPlan : Bool → Plan → Plan

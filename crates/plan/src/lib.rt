@@ -6,7 +6,7 @@ use unit::Mode;
 ghost use mathlib.Core.Path.{_≡_};
 ghost use Prim.Native.Nat.{_+_, _-_, _≤_};
 ghost use Rattle.state.specs.Bounds.{labelBytes, noLabel};
-ghost use Rattle.plan.specs.Code.{Named, copiedDraft, goesPlan, onePlan, partedPlan, endingPlan};
+ghost use Rattle.plan.specs.Code.{Named, copiedDraft, noDraft, noDrafts, oneDraft, goesPlan, onePlan, partedPlan, endingPlan};
 
 // How a token's value comes about.
 pub enum Making {
@@ -31,11 +31,11 @@ pub struct Draft {
     pub len: usize,
 }
 
-// A step writes at most two tokens.
-pub enum Drafts {
-    None,
-    One(Draft),
-    Two(Draft, Draft),
+// The tokens that a step writes: the first `count` of these, in order.
+pub struct Drafts {
+    pub count: u32,
+    pub first: Draft,
+    pub second: Draft,
 }
 
 // What a step does: what it writes, the place after, the change of frame, and whether nothing is left to read.
@@ -85,12 +85,41 @@ pub fn copied(kind: u32, detail: usize, place: usize, from: usize, to: usize) ->
     }
 }
 
+// A draft that is not counted.
+fn no_draft() -> Draft
+    ensures { λ r. ⌜ r ≡ noDraft ⌝ }
+{
+    copied(0, 0, 0, 0, 0)
+}
+
+// No token.
+pub fn none() -> Drafts
+    ensures { λ r. ⌜ r ≡ noDrafts ⌝ }
+{
+    Drafts {
+        count: 0,
+        first: no_draft(),
+        second: no_draft(),
+    }
+}
+
+// One token.
+pub fn only(draft: Draft) -> Drafts
+    ensures { λ r. ⌜ r ≡ oneDraft draft ⌝ }
+{
+    Drafts {
+        count: 1,
+        first: draft,
+        second: no_draft(),
+    }
+}
+
 // Nothing is written.
 pub fn goes(after: usize, change: Change) -> Plan
     ensures { λ r. ⌜ r ≡ goesPlan after change ⌝ }
 {
     Plan::Told(Work {
-        drafts: Drafts::None,
+        drafts: none(),
         after,
         change,
         finished: false,
@@ -102,7 +131,7 @@ pub fn one(draft: Draft, after: usize, change: Change) -> Plan
     ensures { λ r. ⌜ r ≡ onePlan draft after change ⌝ }
 {
     Plan::Told(Work {
-        drafts: Drafts::One(draft),
+        drafts: only(draft),
         after,
         change,
         finished: false,
@@ -135,8 +164,13 @@ pub fn parted(part: Draft, draft: Draft, after: usize, change: Change) -> Plan
     if part.len == 0 {
         return one(draft, after, change);
     }
+    let drafts = Drafts {
+        count: 2,
+        first: part,
+        second: draft,
+    };
     Plan::Told(Work {
-        drafts: Drafts::Two(part, draft),
+        drafts,
         after,
         change,
         finished: false,

@@ -1,5 +1,5 @@
 -- What a host can rely on, beyond what each call says. Assumes nothing.
---   called-kept              a call that is refused leaves session, list and pool as they were; step-refused, reading-refused
+--   called-kept              a call that is refused leaves session, list and pool as they were; call-refused
 --   walk-still               a walk of no step, or whose first step is refused, leaves session, list and pool as they were
 --   crossed-one, called-one, walked-one, begun-one, filed-one   two results that meet one statement are equal
 -- That reading what was written gives the session again, and that numbers which are no session are refused, is proved in crate layout.
@@ -14,12 +14,12 @@ use borrow.Author.Tests.{ne-eqb}
 use Rattle.source.specs.declared.Span.{Span}
 use Rattle.state.specs.declared.Answer.{Answer}
 use Rattle.state.specs.declared.Turn.{Turn}
-use Rattle.outcome.specs.Outcomes.{Outcome}
+use Rattle.outcome.specs.declared.Call.{Call}
 use Rattle.lexer.specs.Turns.{After}
-use Rattle.lexer.specs.Calls.{stepped, reading}
-use Rattle.demands.specs.Walks.{walked}
-use Rattle.demands.proofs.Kept.{Kept, step-kept, reading-kept}
-use Rattle.walk.proofs.Walks.{walked-refused}
+use Rattle.lexer.specs.Calls.{called, stepped}
+use Rattle.demands.specs.Walks.{walked, isDone}
+use Rattle.demands.proofs.Kept.{Kept, call-kept}
+use Rattle.walk.proofs.Walking.{walked-calledOn, calledOn-over}
 use Rattle.layout.specs.Sessions.{sessionIn}
 use Rattle.layout.specs.Answers.{refusalIn, sessionAfter}
 use Rattle.puretakoi.specs.Calls.{areLong, Crossed, Called, walkSession, WalkCalled, Begun, Filed}
@@ -46,13 +46,11 @@ module _ (a : After) (session list pool answer : List ℕ) (r : ℕ) (session′
           (c .turn .holds ∙ rw (e, ne-eqb (refusalIn (a .turn .answer)) 0 refused), c .records ∙ rw e (k .back number span f .1), c .values ∙ rw e (k .back number span f .2)))
 
 module _ (src session list pool answer : List ℕ) (r : ℕ) (session′ list′ pool′ answer′ : List ℕ) where
-  pub step-refused : (end : Bool) → Called (stepped src end (sessionIn session) list pool) session list pool answer r session′ list′ pool′ answer′
+  pub call-refused : (call : Call) (end : Bool)
+      → Called (called call src end (sessionIn session) list pool) session list pool answer r session′ list′ pool′ answer′
       → (r ≡ 0 → ⊥) → (session′ ≡ session) × (list′ ≡ list) × (pool′ ≡ pool)
-  step-refused end = called-kept _ session list pool answer r session′ list′ pool′ answer′ (step-kept src (sessionIn session) list pool end)
-
-  pub reading-refused : (o : Outcome) → Called (reading o src (sessionIn session) list pool) session list pool answer r session′ list′ pool′ answer′
-      → (r ≡ 0 → ⊥) → (session′ ≡ session) × (list′ ≡ list) × (pool′ ≡ pool)
-  reading-refused o = called-kept _ session list pool answer r session′ list′ pool′ answer′ (reading-kept src (sessionIn session) list pool o)
+  call-refused call end =
+      called-kept _ session list pool answer r session′ list′ pool′ answer′ (call-kept src (sessionIn session) list pool call end)
 
 -- a walk that stands still: no step is wanted, or the first is refused
 module _ (most : ℕ) (src : List ℕ) (end : Bool) (session list pool answer : List ℕ) (r : ℕ) (session′ list′ pool′ answer′ : List ℕ) where
@@ -74,7 +72,7 @@ module _ (most : ℕ) (src : List ℕ) (end : Bool) (session list pool answer : 
   pub walk-still : (most ≡ 0) ⊎ (refusalIn (first .turn .answer) ≡ 0 → ⊥)
       → WalkCalled most first all session list pool answer r session′ list′ pool′ answer′
       → (session′ ≡ session) × (list′ ≡ list) × (pool′ ≡ pool)
-  unfolding walkSession walked
+  unfolding walkSession walked isDone
   walk-still (inl z) = still (rw z) (rw z) (rw z)
   walk-still (inr h) = go most refl
     where
@@ -83,9 +81,12 @@ module _ (most : ℕ) (src : List ℕ) (end : Bool) (session list pool answer : 
       go zero z = still (rw z) (rw z) (rw z)
       go (suc n) z =
           told (first .turn .answer) h _ (λ number span f.
-          let k = step-kept src (sessionIn session) list pool end .back number span f in
+          let k = call-kept src (sessionIn session) list pool Call.Step end .back number span f in
           let some : most ≡ 0 → ⊥ = λ none. omega (arith, z, none) in
-          let w : all ≡ first = walked-refused src end (sessionIn session) list pool most number span (omega (arith, some)) f in
+          let over : isDone (first .turn .answer) ≡ false = rw f in
+          let w : all ≡ first =
+          sym (walked-calledOn most src end (sessionIn session) list pool)
+          ∙ calledOn-over Call.Step src end (sessionIn session) list pool most (omega (arith, some)) over in
           still (rw (ne-eqb most 0 some, ne-eqb (refusalIn (first .turn .answer)) 0 h)) (rw w (k .1)) (rw w (k .2)))
 
 pub crossed-one : (t : Turn) (session answer : List ℕ) (r r′ : ℕ) (s s′ a a′ : List ℕ) → Crossed t session answer r s a

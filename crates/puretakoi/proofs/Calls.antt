@@ -16,10 +16,9 @@ use Rattle.state.specs.declared.Session.{Session}
 use Rattle.state.specs.declared.Turn.{Turn}
 use Rattle.state.specs.Calls.{freshSession, skipped, pushed, popped}
 use Rattle.token.specs.Files.{fileAnswer, Written}
-use Rattle.lexer.specs.Turns.{After, Gives}
 use Rattle.layout.specs.Sessions.{numbersOf, frameIn, areChoices, choicesIn, sessionIn}
 use Rattle.layout.specs.Answers.{refusalIn, Turned}
-use Rattle.puretakoi.specs.Calls.{areLong, Crossed, Called, freshRefusal, Begun, Filed}
+use Rattle.puretakoi.specs.Calls.{areLong, Crossed, freshRefusal, Begun, Filed}
 
 -- the refusal in the answer of a record file's call
 refusal-file : (number : ℕ) → refusalIn (fileAnswer number) ≡ number
@@ -67,23 +66,6 @@ module _ (session answer : List ℕ) (flag : Bool) (e : flag ≡ areLong (length
 
     pub crossed-short : (t : Turn) → Crossed t session answer 10 session answer
     crossed-short t = record { number = rw short; holds = rw short; tells = rw short }
-
-    pub called-short : (a : After) (list pool : List ℕ) → Called a session list pool answer 10 session list pool answer
-    called-short a list pool = record { turn = crossed-short (a .turn); records = rw short; values = rw short }
-
--- the step and the readings, with list and pool
-pub call-done : (call : List ℕ → Bool → Session → List ℕ → List ℕ → After) (session answer : List ℕ) (flag : Bool)
-    → flag ≡ areLong (length session) (length answer) → not flag ≡ false
-    → (src : List ℕ) (end : Bool) (s : Session) (list pool : List ℕ) (t : Turn) (list′ pool′ : List ℕ) → s ≡ sessionIn session
-    → Gives (call src end s list pool) t list′ pool′ → (r : ℕ) (session′ answer′ : List ℕ) → Turned t session answer r session′ answer′
-    → Called (call src end (sessionIn session) list pool) session list pool answer r session′ list′ pool′ answer′
-call-done call session answer flag e h src end s list pool t list′ pool′ f g r session′ answer′ w =
-    let l = long session answer flag e h in
-    record {
-      turn = crossed session answer flag e h (call src end (sessionIn session) list pool .turn) r session′ answer′ (rw (← f, ← g .turn) w);
-      records = g .list ∙ rw (f, l);
-      values = g .pool ∙ rw (f, l);
-    }
 
 pub ruleset crossings = (session-long, answer-long, crossed-short, skip-done, push-done, pop-done)
 

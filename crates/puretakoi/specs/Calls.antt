@@ -3,9 +3,8 @@
 --   areLong               a session has its 199 numbers and an answer its 5; else 10, and nothing is written
 --   Crossed               the refusal or 0, and what the slices of session and answer hold, for a call with a turn
 --   Called                the same with list and pool, for the step and the readings
---   Stepped, NumberRead, SingleRead, DoubleRead   these four: the numbers read, the call, the numbers written back
---   WalkedOn              a walk after a step that was done: the session is written back, refused or not
---   walkSession, WalkCalled, Walked   the walk: where no step is taken, or the first is refused, the session stays
+--   Answered              these four: the numbers read, the call, the numbers written back
+--   walkSession, WalkCalled, Turns, Walked   a call and steps after it: where none is wanted, or the first is refused, the session stays
 --   freshRefusal, Begun   a fresh session
 --   Filed                 a record file or a list: the refusal or 0, and what the lent slice holds
 use Prim.Native.Nat.{ℕ}
@@ -19,11 +18,12 @@ use Rattle.byte.specs.Laid.{laid}
 use Rattle.byte.specs.Refusals.{outOfPlace, badSession}
 use Rattle.state.specs.declared.Turn.{Turn}
 use Rattle.state.specs.Calls.{freshSession}
+use Rattle.outcome.specs.declared.Call.{Call}
 use Rattle.lexer.specs.Turns.{After}
-use Rattle.lexer.specs.Calls.{stepped, readNumber, readSingle, readDouble}
-use Rattle.demands.specs.Walks.{walked}
+use Rattle.lexer.specs.Calls.{called, stepped}
+use Rattle.demands.specs.Walks.{walked, calledOn}
 use Rattle.layout.specs.Sessions.{areChoices, choicesIn, numbersOf, sessionIn}
-use Rattle.layout.specs.Answers.{answerNumbers, refusalIn, sessionAfter, Stored}
+use Rattle.layout.specs.Answers.{answerNumbers, refusalIn, sessionAfter}
 
 unfoldable pub areLong : ℕ → ℕ → Bool
 areLong session answer = leb 199 session && leb 5 answer
@@ -38,22 +38,9 @@ pub record Called (a : After) (session list pool answer : List ℕ) (r : ℕ) (s
   pub records : list′ ≡ (if areLong (length session) (length answer) then a .list else list)
   pub values : pool′ ≡ (if areLong (length session) (length answer) then a .pool else pool)
 
-abbrev pub Stepped : List ℕ → ℕ → List ℕ → List ℕ → List ℕ → List ℕ → ℕ → List ℕ → List ℕ → List ℕ → List ℕ → Type 0
-Stepped src end session list pool answer = Called (stepped src (announced end) (sessionIn session) list pool) session list pool answer
-
-abbrev pub NumberRead : List ℕ → ℕ → List ℕ → List ℕ → List ℕ → List ℕ → ℕ → List ℕ → List ℕ → List ℕ → List ℕ → Type 0
-NumberRead src end session list pool answer = Called (readNumber src (announced end) (sessionIn session) list pool) session list pool answer
-
-abbrev pub SingleRead : List ℕ → ℕ → List ℕ → List ℕ → List ℕ → List ℕ → ℕ → List ℕ → List ℕ → List ℕ → List ℕ → Type 0
-SingleRead src end session list pool answer = Called (readSingle src (announced end) (sessionIn session) list pool) session list pool answer
-
-abbrev pub DoubleRead : List ℕ → ℕ → List ℕ → List ℕ → List ℕ → List ℕ → ℕ → List ℕ → List ℕ → List ℕ → List ℕ → Type 0
-DoubleRead src end session list pool answer = Called (readDouble src (announced end) (sessionIn session) list pool) session list pool answer
-
-pub record WalkedOn (a : After) (session answer : List ℕ) (r : ℕ) (session′ list′ pool′ answer′ : List ℕ) : Type 0 where
-  pub turn : Stored (a .turn) session answer r session′ answer′
-  pub records : list′ ≡ a .list
-  pub values : pool′ ≡ a .pool
+abbrev pub Answered : Call → List ℕ → ℕ → List ℕ → List ℕ → List ℕ → List ℕ → ℕ → List ℕ → List ℕ → List ℕ → List ℕ → Type 0
+Answered call src end session list pool answer =
+    Called (called call src (announced end) (sessionIn session) list pool) session list pool answer
 
 -- the session's numbers after a walk: where no step is taken, or the first is refused, they stay as they were
 unfoldable pub walkSession : ℕ → Turn → Turn → List ℕ → List ℕ
@@ -62,7 +49,7 @@ walkSession most first last session =
     else if eqb (refusalIn (first .answer)) 0 then laid session 0 (numbersOf (last .session))
     else session
 
--- of at most so many steps: what the first comes to, and what they all do
+-- of at most so many calls: what the first comes to, and what they all do
 pub record WalkCalled (most : ℕ) (first a : After) (session list pool answer : List ℕ) (r : ℕ) (session′ list′ pool′ answer′ : List ℕ) : Type 0 where
   pub number : r ≡ (if areLong (length session) (length answer) then refusalIn (a .turn .answer) else outOfPlace)
   pub holds : session′ ≡ (if areLong (length session) (length answer) then walkSession most (first .turn) (a .turn) session else session)
@@ -70,9 +57,15 @@ pub record WalkCalled (most : ℕ) (first a : After) (session list pool answer :
   pub records : list′ ≡ (if areLong (length session) (length answer) then a .list else list)
   pub values : pool′ ≡ (if areLong (length session) (length answer) then a .pool else pool)
 
+abbrev pub Turns : Call → List ℕ → ℕ → ℕ → List ℕ → List ℕ → List ℕ → List ℕ → ℕ → List ℕ → List ℕ → List ℕ → List ℕ → Type 0
+Turns call src end most session list pool answer =
+    WalkCalled most (called call src (announced end) (sessionIn session) list pool)
+    (calledOn call most src (announced end) (sessionIn session) list pool) session list pool answer
+
 abbrev pub Walked : List ℕ → ℕ → ℕ → List ℕ → List ℕ → List ℕ → List ℕ → ℕ → List ℕ → List ℕ → List ℕ → List ℕ → Type 0
 Walked src end most session list pool answer =
-    WalkCalled most (stepped src (announced end) (sessionIn session) list pool) (walked most src (announced end) (sessionIn session) list pool) session list pool answer
+    WalkCalled most (stepped src (announced end) (sessionIn session) list pool)
+    (walked most src (announced end) (sessionIn session) list pool) session list pool answer
 
 -- 10 for a slice that is too short, 12 for a bit that is no choice's flag, or 0
 unfoldable pub freshRefusal : ℕ → ℕ → ℕ

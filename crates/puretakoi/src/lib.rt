@@ -1,19 +1,19 @@
 // Functions that a host in C or Rust calls; include/puretakoi.h tells each. A `&[u8]` crosses as a pointer and a length, a session and an
 // answer as lent numbers. Any numbers at all may come in: what can't be taken is refused by its number.
 // In order: the calls without a session; a fresh session; the step, the walk and the three readings; skip, push and pop; the record file.
+use outcome::Call;
 use source::Span;
 use state::Answer;
-use state::Session;
 ghost use mathlib.Core.Path.{_≡_};
 ghost use lib.ListN.{length};
-ghost use Prim.Native.Nat.{_/_, _≤_};
+ghost use Prim.Native.Nat.{_/_};
 ghost use Rattle.source.specs.Identifiers.{identifierAt};
 ghost use Rattle.state.specs.Calls.{skipped, pushed, popped};
-ghost use Rattle.demands.specs.Walks.{walked};
+ghost use Rattle.outcome.specs.declared.Call.{Call};
 ghost use Rattle.token.specs.Files.{fileOf, listOf, toFileRefusal, toListRefusal};
 ghost use Rattle.puretakoi.specs.Places.{isSmall, Past};
 ghost use Rattle.layout.specs.Sessions.{frameIn, sessionIn};
-ghost use Rattle.puretakoi.specs.Calls.{areLong, Crossed, Stepped, WalkedOn, Walked, NumberRead, SingleRead, DoubleRead, Begun, Filed};
+ghost use Rattle.puretakoi.specs.Calls.{areLong, Crossed, Answered, Turns, Walked, Begun, Filed};
 
 // How long the identifier at a place of the source is; 0 where there is none.
 #[no_mangle]
@@ -80,6 +80,34 @@ pub extern "C" fn puretakoi_fresh(choices: u32, session: &mut [u32]) -> u32
     0
 }
 
+// A call and the steps after it, at most `most` in all. Where none is wanted, or the first is refused, the session stays as it was.
+fn turns(
+    call: Call,
+    src: &[u8],
+    end: u32,
+    most: u32,
+    session: &mut [u32],
+    list: &mut [u32],
+    pool: &mut [u8],
+    answer: &mut [u32],
+) -> u32
+    ensures { λ r. ⌜ Turns call (now (src .entry)) end most (now (session .entry)) (now (list .entry)) (now (pool .entry)) (now (answer .entry)) r (now (session .exit)) (now (list .exit)) (now (pool .exit)) (now (answer .exit)) ⌝ }
+{
+    if !are_long(session.len(), answer.len()) {
+        return byte::OUT_OF_PLACE;
+    }
+    if most == 0 {
+        layout::put_answer(answer, Answer::Done);
+        return 0;
+    }
+    let s = layout::session_in(session);
+    let w = walk::turns(call, src, end != 0, most, s, list, pool);
+    if w.begun {
+        return layout::put_walk(w.turn, session, answer);
+    }
+    layout::put_turn(w.turn, session, answer)
+}
+
 // One step: the routine of the top frame reads on from the cursor.
 #[no_mangle]
 pub extern "C" fn puretakoi_step(
@@ -90,32 +118,9 @@ pub extern "C" fn puretakoi_step(
     pool: &mut [u8],
     answer: &mut [u32],
 ) -> u32
-    ensures { λ r. ⌜ Stepped (now (src .entry)) end (now (session .entry)) (now (list .entry)) (now (pool .entry)) (now (answer .entry)) r (now (session .exit)) (now (list .exit)) (now (pool .exit)) (now (answer .exit)) ⌝ }
+    ensures { λ r. ⌜ Answered Call.Step (now (src .entry)) end (now (session .entry)) (now (list .entry)) (now (pool .entry)) (now (answer .entry)) r (now (session .exit)) (now (list .exit)) (now (pool .exit)) (now (answer .exit)) ⌝ }
 {
-    if !are_long(session.len(), answer.len()) {
-        return byte::OUT_OF_PLACE;
-    }
-    let s = layout::session_in(session);
-    let t = lexer::step(src, end != 0, s, list, pool);
-    layout::put_turn(t, session, answer)
-}
-
-// A walk on from a session, after a step that was done: what it comes to is written back, refused or not.
-fn walk_on(
-    src: &[u8],
-    end: bool,
-    most: u32,
-    s: Session,
-    session: &mut [u32],
-    list: &mut [u32],
-    pool: &mut [u8],
-    answer: &mut [u32],
-) -> u32
-    requires { ⌜ (199 ≤ length (now session)) × (5 ≤ length (now answer)) ⌝ }
-    ensures { λ r. ⌜ WalkedOn (walked most (now (src .entry)) end s (now (list .entry)) (now (pool .entry))) (now (session .entry)) (now (answer .entry)) r (now (session .exit)) (now (list .exit)) (now (pool .exit)) (now (answer .exit)) ⌝ }
-{
-    let t = walk::walk(src, end, most, s, list, pool);
-    layout::put_walk(t, session, answer)
+    turns(Call::Step, src, end, 1, session, list, pool, answer)
 }
 
 // At most `most` steps, up to one that is not done. Where there is none, or the first is refused, the session stays as it was.
@@ -131,30 +136,7 @@ pub extern "C" fn puretakoi_walk(
 ) -> u32
     ensures { λ r. ⌜ Walked (now (src .entry)) end most (now (session .entry)) (now (list .entry)) (now (pool .entry)) (now (answer .entry)) r (now (session .exit)) (now (list .exit)) (now (pool .exit)) (now (answer .exit)) ⌝ }
 {
-    if !are_long(session.len(), answer.len()) {
-        return byte::OUT_OF_PLACE;
-    }
-    if most == 0 {
-        layout::put_answer(answer, Answer::Done);
-        return 0;
-    }
-    let s = layout::session_in(session);
-    let first = lexer::step(src, end != 0, s, list, pool);
-    let a = first.answer;
-    match a {
-        Answer::Done => walk_on(
-            src,
-            end != 0,
-            most - 1,
-            first.session,
-            session,
-            list,
-            pool,
-            answer,
-        ),
-        Answer::Finished => layout::put_turn(first, session, answer),
-        Answer::Refused { number: _, span: _ } => layout::put_turn(first, session, answer),
-    }
+    turns(Call::Step, src, end, most, session, list, pool, answer)
 }
 
 // The number at the cursor.
@@ -167,14 +149,9 @@ pub extern "C" fn puretakoi_read_number(
     pool: &mut [u8],
     answer: &mut [u32],
 ) -> u32
-    ensures { λ r. ⌜ NumberRead (now (src .entry)) end (now (session .entry)) (now (list .entry)) (now (pool .entry)) (now (answer .entry)) r (now (session .exit)) (now (list .exit)) (now (pool .exit)) (now (answer .exit)) ⌝ }
+    ensures { λ r. ⌜ Answered Call.Number (now (src .entry)) end (now (session .entry)) (now (list .entry)) (now (pool .entry)) (now (answer .entry)) r (now (session .exit)) (now (list .exit)) (now (pool .exit)) (now (answer .exit)) ⌝ }
 {
-    if !are_long(session.len(), answer.len()) {
-        return byte::OUT_OF_PLACE;
-    }
-    let s = layout::session_in(session);
-    let t = lexer::read_number(src, end != 0, s, list, pool);
-    layout::put_turn(t, session, answer)
+    turns(Call::Number, src, end, 1, session, list, pool, answer)
 }
 
 // The single-quoted string whose text starts at the cursor.
@@ -187,14 +164,9 @@ pub extern "C" fn puretakoi_read_single(
     pool: &mut [u8],
     answer: &mut [u32],
 ) -> u32
-    ensures { λ r. ⌜ SingleRead (now (src .entry)) end (now (session .entry)) (now (list .entry)) (now (pool .entry)) (now (answer .entry)) r (now (session .exit)) (now (list .exit)) (now (pool .exit)) (now (answer .exit)) ⌝ }
+    ensures { λ r. ⌜ Answered Call.Single (now (src .entry)) end (now (session .entry)) (now (list .entry)) (now (pool .entry)) (now (answer .entry)) r (now (session .exit)) (now (list .exit)) (now (pool .exit)) (now (answer .exit)) ⌝ }
 {
-    if !are_long(session.len(), answer.len()) {
-        return byte::OUT_OF_PLACE;
-    }
-    let s = layout::session_in(session);
-    let t = lexer::read_single(src, end != 0, s, list, pool);
-    layout::put_turn(t, session, answer)
+    turns(Call::Single, src, end, 1, session, list, pool, answer)
 }
 
 // The double-quoted string whose text starts at the cursor.
@@ -207,14 +179,9 @@ pub extern "C" fn puretakoi_read_double(
     pool: &mut [u8],
     answer: &mut [u32],
 ) -> u32
-    ensures { λ r. ⌜ DoubleRead (now (src .entry)) end (now (session .entry)) (now (list .entry)) (now (pool .entry)) (now (answer .entry)) r (now (session .exit)) (now (list .exit)) (now (pool .exit)) (now (answer .exit)) ⌝ }
+    ensures { λ r. ⌜ Answered Call.Double (now (src .entry)) end (now (session .entry)) (now (list .entry)) (now (pool .entry)) (now (answer .entry)) r (now (session .exit)) (now (list .exit)) (now (pool .exit)) (now (answer .exit)) ⌝ }
 {
-    if !are_long(session.len(), answer.len()) {
-        return byte::OUT_OF_PLACE;
-    }
-    let s = layout::session_in(session);
-    let t = lexer::read_double(src, end != 0, s, list, pool);
-    layout::put_turn(t, session, answer)
+    turns(Call::Double, src, end, 1, session, list, pool, answer)
 }
 
 // The cursor goes on by `count` bytes.

@@ -3,6 +3,7 @@
 use libc::STDERR_FILENO;
 use libc::STDIN_FILENO;
 use libc::STDOUT_FILENO;
+use outcome::Call;
 use source::Span;
 use state::Answer;
 use state::Choices;
@@ -69,7 +70,7 @@ fn print_script(src: &[u8]) {
     let mut s = state::fresh(choices);
     let mut left: u32 = 32770;
     while 0 < left {
-        let t = walk::walk(src, true, 32770, s, &mut list, &mut pool);
+        let t = walk::calls(Call::Step, src, true, 32770, s, &mut list, &mut pool);
         s = t.session;
         print_rows(&list, s.tokens);
         let a = t.answer;

@@ -1,6 +1,6 @@
 -- Laws of the cursor by counting: how many LFs a part has, where its last line starts, and that the cursor counted so is the
 -- one that passes byte after byte. Assumes nothing.
-use mathlib.Core.Path.{_≡_, refl, sym, _∙_}
+use mathlib.Core.Path.{_≡_, refl, sym, ap, _∙_}
 use mathlib.Core.Bool.{Bool, true, false, not, false≢true}
 use mathlib.Core.List.{List, [], _∷_, _++_}
 use Prim.Native.Nat.{ℕ, zero, suc, _+_, _-_, _<_, _≤_}
@@ -177,19 +177,31 @@ passed-break p xs =
     let position : passed p xs .position + 1 ≡ p .position + (length xs + 1) = omega (arith, passed-position p xs) in
     rw (passed-append p xs (10 ∷ []), breaks-append xs (10 ∷ []), length-append xs (10 ∷ []), line, position)
 
--- both ways of `past`
-module _ (part : List ℕ) (p : Span) (start : ℕ) (s : LineStart part start) where
-  pub passed-same : start ≡ 0 → record { line = p .line; column = p .column + length part; position = p .position + length part } ≡ passed p part
-  passed-same e = sym (passed-unbroken p part (rw e at (s .last .clear)))
+-- the last line starts at 0
+pub passed-same : (part : List ℕ) (p : Span) (start : ℕ) → LineStart part start → start ≡ 0
+    → record { line = p .line; column = p .column + length part; position = p .position + length part }
+    ≡ passed p part
+passed-same part p start s e = sym (passed-unbroken p part (rw e at (s .last .clear)))
 
-  module _ (h : start ≡ 0 → ⊥) where
+-- both ways of `past`
+module _ (part : List ℕ) (p : Span) (hit : Bool) (has : hit ≡ not (every isNoBreak part)) where
+  pub passed-clear : not hit ≡ true
+      → record { line = p .line; column = p .column + length part; position = p .position + length part }
+      ≡ passed p part
+  passed-clear f = sym (passed-unbroken p part (not-false (every isNoBreak part) (sym has ∙ not-true hit f)))
+
+  module _ (start : ℕ) (s : LineStart part start) (f : not hit ≡ false) where
+    -- a part with an LF has a line before its last
+    lineStart-some : start ≡ 0 → ⊥
+    lineStart-some e = false≢true (sym (ap not (rw e at (s .last .clear))) ∙ sym has ∙ not-false hit f)
+
     -- past the last LF
     first : passed p (take start part) ≡ record { line = p .line + breaks (take start part); column = 1; position = p .position + start }
     first =
-        let inside : start - 1 < length part = omega (arith, s .last .inside, h) in
-        let place : suc (start - 1) ≡ start = omega (arith, h) in
+        let inside : start - 1 < length part = omega (arith, s .last .inside, lineStart-some) in
+        let place : suc (start - 1) ≡ start = omega (arith, lineStart-some) in
         let split : take (start - 1) part ++ getD part (start - 1) 0 ∷ [] ≡ take start part = sym (take-suc part (start - 1) 0 inside) ∙ rw place in
-        let byte : getD part (start - 1) 0 ≡ 10 = s .behind (omega (arith, h)) in
+        let byte : getD part (start - 1) 0 ≡ 10 = s .behind (omega (arith, lineStart-some)) in
         let ends : take (start - 1) part ++ 10 ∷ [] ≡ take start part = rw byte at split in
         rw (ends, length-take-le start part (s .last .inside)) at (passed-break p (take (start - 1) part))
 
@@ -205,4 +217,7 @@ module _ (part : List ℕ) (p : Span) (start : ℕ) (s : LineStart part start) w
     pub passed-room : (n : ℕ) → n ≡ breaks (take (start - 0) (drop 0 part)) → Reaches p (length part) → p .line + n < 4294967296
     passed-room n e r = omega (arith, r .line, s .last .inside, breaks-take (start - 0) part)
 
-pub ruleset passingLines = (passed-same, passed-lines, passed-room)
+    pub passed-column : Reaches p (length part) → length part - start + 1 < 4294967296
+    passed-column r = omega (arith, r .line, s .last .inside, lineStart-some)
+
+pub ruleset passingLines = (passed-clear, passed-lines, passed-room, passed-column)

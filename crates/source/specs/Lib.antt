@@ -1,3 +1,4 @@
 pub mod Cursor
 pub mod Identifiers
+pub mod Marks
 pub mod Code

@@ -1,4 +1,4 @@
-// The source: the first break or stop from a place on, the cursor, the identifier at a place.
+// The source: the first break or stop from a place on, the cursor, the identifier at a place; bytes by words (words).
 // Of the Rust: state/source.rs, and `peek_identifier` of mod.rs. A cursor is a value beside the lent bytes.
 ghost use mathlib.Core.Path.{_≡_};
 ghost use mathlib.Core.Bool.{not};
@@ -9,6 +9,9 @@ ghost use Rattle.byte.specs.Bytes.{isIdentifier, isNoBreak, isNoneOf};
 ghost use Rattle.source.specs.Cursor.{passedByte, passed};
 ghost use Rattle.source.specs.Code.{Reaches, breaks, Unbroken, LineStart, RunEnd, Passing, IdentifierEnd};
 ghost use Rattle.source.specs.Identifiers.{identifierAt};
+ghost use Rattle.source.specs.Marks.{wordOf, marksOf};
+
+mod words;
 
 // A place in a script. Lines and columns count from 1, columns in bytes; the position counts from 0.
 pub struct Span {
@@ -61,30 +64,27 @@ pub fn break_end(src: &[u8], at: usize) -> usize
     i
 }
 
-// Whether one of four bytes stands among 8.
-fn stop_in_8(src: &[u8], at: usize, w: u8, x: u8, y: u8, z: u8) -> bool
+// The top bit of each of eight bytes that is one of four.
+fn stop_marks(src: &[u8], at: usize, w: u8, x: u8, y: u8, z: u8) -> u64
     requires { ⌜ at + 8 ≤ length (now src) ⌝ }
-    ensures { λ r. ⌜ r ≡ not (every (isNoneOf w x y z) (take 8 (drop at (now (src .entry))))) ⌝ }
+    ensures { λ r. ⌜ r ≡ wordOf (marksOf (isNoneOf w x y z) (take 8 (drop at (now (src .entry))))) ⌝ }
 {
-    let mut hit = false;
-    let mut j = 0;
-    while j < 8 {
-        let b = src[at + j];
-        hit = hit | (b == w) | (b == x) | (b == y) | (b == z);
-        j += 1;
-    }
-    hit
+    words::marks(src, at, w)
+        | words::marks(src, at, x)
+        | words::marks(src, at, y)
+        | words::marks(src, at, z)
 }
 
-// From `at` on past blocks of 8 bytes, up to one with one of the four bytes or to fewer than 8.
+// From `at` on past blocks of 8 bytes, up to one of the four bytes or to fewer than 8.
 fn stop_blocks(src: &[u8], at: usize, w: u8, x: u8, y: u8, z: u8) -> usize
     requires { ⌜ at ≤ length (now src) ⌝ }
     ensures { λ r. ⌜ Passing (isNoneOf w x y z) (now (src .entry)) at r ⌝ }
 {
     let mut i = at;
     while 8 <= src.len() - i {
-        if stop_in_8(src, i, w, x, y, z) {
-            return i;
+        let m = stop_marks(src, i, w, x, y, z);
+        if m != 0 {
+            return i + words::before(m);
         }
         i += 8;
     }
@@ -189,20 +189,63 @@ fn line_start(part: &[u8]) -> usize
     0
 }
 
-// The cursor past all bytes of a part: the LFs are counted, and only the last line's bytes make its column.
+// Whether an LF stands among 16 bytes.
+fn break_in_16(part: &[u8], at: usize) -> bool
+    requires { ⌜ at + 16 ≤ length (now part) ⌝ }
+    ensures { λ r. ⌜ r ≡ not (every isNoBreak (take 16 (drop at (now (part .entry))))) ⌝ }
+{
+    let mut hit = false;
+    let mut j = 0;
+    while j < 16 {
+        hit = hit | (part[at + j] == b'\n');
+        j += 1;
+    }
+    hit
+}
+
+// Whether a part has an LF, by blocks of 16 bytes: the last block lies over the one before.
+fn break_in_long(part: &[u8]) -> bool
+    requires { ⌜ 16 ≤ length (now part) ⌝ }
+    ensures { λ r. ⌜ r ≡ not (every isNoBreak (now (part .entry))) ⌝ }
+{
+    let last = part.len() - 16;
+    let mut i = 0usize;
+    while i < last {
+        if break_in_16(part, i) {
+            return true;
+        }
+        i += 16;
+    }
+    break_in_16(part, last)
+}
+
+// Whether a part has an LF.
+fn has_break(part: &[u8]) -> bool
+    ensures { λ r. ⌜ r ≡ not (every isNoBreak (now (part .entry))) ⌝ }
+{
+    if part.len() < 8 {
+        return break_end(part, 0) != part.len();
+    }
+    if part.len() < 16 {
+        return break_in_8(part, 0) | break_in_8(part, part.len() - 8);
+    }
+    break_in_long(part)
+}
+
+// The cursor past all bytes of a part: if it has LFs they are counted, and only the last line's bytes make its column.
 pub fn past(part: &[u8], p: Span) -> Span
     requires { ⌜ Reaches p (length (now part)) ⌝ }
     ensures { λ r. ⌜ r ≡ passed p (now (part .entry)) ⌝ }
 {
     let len = part.len() as u32;
-    let start = line_start(part);
-    if start == 0 {
+    if !has_break(part) {
         return Span {
             line: p.line,
             column: p.column + len,
             position: p.position + len,
         };
     }
+    let start = line_start(part);
     Span {
         line: p.line + breaks(&part[0..start]),
         column: len - start as u32 + 1,

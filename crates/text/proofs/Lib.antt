@@ -1,3 +1,4 @@
+pub mod Labels
 pub mod Lines
 pub mod Runs
 pub mod Scans

@@ -1,15 +1,15 @@
--- The scan of a nowdoc, line by line: a break is text or ends it, and all other bytes stand for themselves. Assumes nothing.
+-- The lines of a nowdoc: a break is text or ends it, and all other bytes stand for themselves. Assumes nothing.
 use Prim.Native.Nat.{ℕ, suc, _+_, _-_, _<_, _≤_}
 use mathlib.Core.Path.{_≡_, refl, sym, _∙_}
 use mathlib.Core.Bool.{Bool, true, false}
 use mathlib.Core.List.{List, [], _∷_}
 use native.Mathlib.Omega.{arith}
-use lib.Dec.{eqb}
-use lib.ListN.{length, getD, drop}
-use borrow.Author.Tests.{eqb-true, not-false}
+use lib.ListN.{length, getD, take, drop}
+use borrow.Author.Tests.{ne-eqb}
 use Rattle.byte.specs.Bytes.{isBlank, isNoBreak}
 use Rattle.source.specs.Code.{RunEnd}
 use Rattle.byte.proofs.Tests.{choice, arm-here}
+use Rattle.byte.proofs.Words.{drop-one}
 use Rattle.unit.specs.declared.Indentation.{Indentation}
 use Rattle.unit.specs.declared.Match.{Match}
 use Rattle.unit.specs.declared.Mode.{Mode}
@@ -18,11 +18,11 @@ use Rattle.unit.specs.declared.TextUnit.{TextUnit}
 use Rattle.unit.specs.Interpolations.{plain}
 use Rattle.unit.specs.Closers.{indented, closer, judged, line}
 use Rattle.unit.specs.Units.{unitAt}
-use Rattle.unit.specs.Readings.{Reading, Text, Refused, Wait, afterOf, losesBreak, textAt}
+use Rattle.unit.specs.Readings.{Reading, Text, Refused, Wait, onto, collected, losesBreak, textAt}
 use Rattle.text.specs.declared.Scanned.{Scanned}
 use Rattle.text.specs.Code.{isPlain, bytesOf, valueLength, ended, unclosed, measured}
-use Rattle.text.proofs.Runs.{run-after, runEnd-stop}
-use Rattle.text.proofs.Scans.{behind, Scanning, scanning-first, scanning-end, unit-stop, unit-on, run-on}
+use Rattle.text.proofs.Runs.{run-after, run-turn, collected-byte}
+use Rattle.text.proofs.Scans.{behind, Scanning, scanning-first, scanning-end, unit-stop, bytes-on}
 
 -- a unit that is the break at n, where it is text at all
 unfoldable TextBreak : ℕ → TextUnit → Type 0
@@ -62,13 +62,17 @@ nowdoc-behind len broken (Text text stop from after) =
 nowdoc-behind len broken (Refused number place) = refl
 nowdoc-behind len broken Wait = refl
 
--- the loop of `scan_nowdoc`: all bytes from `at` to i are text
+-- all bytes of a nowdoc from `at` to i are text
 pub record Lining (label : List ℕ) (end : Bool) (src : List ℕ) (at i : ℕ) : Type 0 where
   pub order : at ≤ i
   pub inside : i ≤ length src
   pub text : Scanning Mode.Nowdoc label end src at i (i - at) false
 
 module _ (label : List ℕ) (end : Bool) (src : List ℕ) (at : ℕ) where
+  -- the reading from i on
+  abbrev from : ℕ → Reading
+  from i = collected Mode.Nowdoc label end 0 i (drop i src)
+
   unbroken : (i len : ℕ) (broken : Bool) → Scanning Mode.Nowdoc label end src at i len broken
       → Scanning Mode.Nowdoc label end src at i len false
   unbroken i len broken s = record { inside = s .inside; small = s .small; same = s .same ∙ nowdoc-behind len broken _ }
@@ -79,59 +83,50 @@ module _ (label : List ℕ) (end : Bool) (src : List ℕ) (at : ℕ) where
       record { order = omega arith; inside = h; text = rw (← z) (scanning-first Mode.Nowdoc label end src at h) }
 
   module _ (i : ℕ) (s : Lining label end src at i) where
-    pub lining-end : (r : Scanned) → length src ≤ i → r ≡ unclosed end i → r ≡ measured (textAt Mode.Nowdoc label end at (drop at src))
+    pub lining-end : (r : Scanned) → length src ≤ i → r ≡ unclosed end i
+        → r ≡ measured (textAt Mode.Nowdoc label end at (drop at src))
     lining-end = scanning-end Mode.Nowdoc label end src at i (i - at) false (s .text)
 
-    module _ (n : ℕ) (p : RunEnd isNoBreak src i n) where
-      run : RunEnd (isPlain Mode.Nowdoc) src i n
-      unfolding isPlain
-      run = p
+    pub lining-bytes : (n : ℕ) → i ≤ n → n ≤ length src → from i ≡ onto (take (n - i) (drop i src)) (from n)
+        → Lining label end src at n
+    lining-bytes n order inside e =
+        let k : i - at + (n - i) ≡ n - at = omega (arith, s .order) in
+        let on = bytes-on Mode.Nowdoc label end src at i (i - at) false (s .text) n order inside e in
+        record { order = omega (arith, s .order); inside = inside; text = unbroken n (n - at) _ (rw k at on) }
 
-      pub lining-order : i ≤ n
-      lining-order = run-after Mode.Nowdoc label end src i n run
+    -- up to the next break
+    pub lining-run : (n : ℕ) → RunEnd isNoBreak src i n → Lining label end src at n
+    unfolding isPlain
+    lining-run n p =
+        let order = run-after Mode.Nowdoc label end src i n p in
+        lining-bytes n order (p .inside) (run-turn Mode.Nowdoc label end src i n p)
 
-      pub lining-less : i < length src → n < length src → length src - (n + 1) < length src - i
-      lining-less h k = omega (arith, lining-order)
+    module _ (h : i < length src) where
+      -- a byte that is text
+      byte-on : unitAt Mode.Nowdoc label end i (getD src i 0) (drop (i + 1) src) ≡ plain (getD src i 0) i
+          → Lining label end src at (i + 1)
+      byte-on e =
+          let one : i + 1 - i ≡ 1 = omega arith in
+          let next : suc i ≡ i + 1 = omega arith in
+          let same = rw next at (collected-byte Mode.Nowdoc label end i (getD src i 0) (drop (i + 1) src) e) in
+          lining-bytes (i + 1) (omega arith) (omega arith) (rw (one, drop-one src i h) same)
 
-      pub lining-last : i < length src → length src ≤ n → length src - n < length src - i
-      lining-last h k = omega arith
+      pub lining-other : (getD src i 0 ≡ 10 → ⊥) → Lining label end src at (i + 1)
+      unfolding unitAt
+      lining-other z = byte-on (rw (ne-eqb (getD src i 0) 10 z))
 
-      -- no break is left
-      pub lining-past : Lining label end src at n
-      lining-past =
-          let k : i - at + (n - i) ≡ n - at = omega (arith, s .order, lining-order) in
-          record {
-            order = omega (arith, s .order, lining-order);
-            inside = p .inside;
-            text = unbroken n (n - at) _ (rw k at (run-on Mode.Nowdoc label end src at i (i - at) false (s .text) n run));
-          }
-
-      module _ (h : n < length src) (u : TextUnit) (e : u ≡ line label end n Indentation.None 0 (drop (n + 1) src))
-          (width : ℕ) (w : width ≡ length (bytesOf u)) where
-        break : getD src n 0 ≡ 10
-        unfolding isNoBreak
-        break = eqb-true (getD src n 0) 10 (not-false (eqb (getD src n 0) 10) (runEnd-stop isNoBreak src i n p h))
-
-        unit : u ≡ unitAt Mode.Nowdoc label end n (getD src n 0) (drop (n + 1) src)
+      module _ (break : getD src i 0 ≡ 10) (u : TextUnit)
+          (e : u ≡ line label end i Indentation.None 0 (drop (i + 1) src)) where
+        unit : u ≡ unitAt Mode.Nowdoc label end i (getD src i 0) (drop (i + 1) src)
         unfolding unitAt
-        unit = arm-here u _ _ (getD src n 0) 10 break e
+        unit = arm-here u _ _ (getD src i 0) 10 break e
 
-        pub lining-stop : (r : Scanned) → width ≡ 0 → r ≡ ended Mode.Nowdoc (n - at) false u
-            → r ≡ measured (textAt Mode.Nowdoc label end at (drop at src))
-        lining-stop r z f = f ∙ unit-stop Mode.Nowdoc label end src at n (n - at) false (lining-past .text) h u unit (sym w ∙ z)
+        pub lining-stop : length (bytesOf u) ≡ 0
+            → ended Mode.Nowdoc (i - at) false u ≡ measured (textAt Mode.Nowdoc label end at (drop at src))
+        lining-stop z = unit-stop Mode.Nowdoc label end src at i (i - at) false (s .text) h u unit z
 
-        -- the break is text
-        pub lining-on : (width ≡ 0 → ⊥) → Lining label end src at (n + 1)
-        unfolding TextBreak bytesOf afterOf
+        pub lining-on : (length (bytesOf u) ≡ 0 → ⊥) → Lining label end src at (i + 1)
+        unfolding TextBreak
         lining-on z =
-            let same : u ≡ plain 10 n = e ∙ line-break label end n Indentation.None 0 (drop (n + 1) src) (λ y. z (w ∙ rw e y)) in
-            let k : n - at + 1 ≡ n + 1 - at = omega (arith, lining-past .order) in
-            let l : suc n ≡ n + 1 = omega arith in
-            let on = rw same at (unit-on Mode.Nowdoc label end src at n (n - at) false (lining-past .text) h u unit (λ y. z (w ∙ y))) in
-            record {
-              order = omega (arith, lining-past .order);
-              inside = omega arith;
-              text = unbroken (n + 1) (n + 1 - at) _ (rw (l, k) at on);
-            }
-
-pub ruleset lining = (lining-first, lining-end, lining-order, lining-less, lining-last, lining-past, lining-stop, lining-on)
+            let text = line-break label end i Indentation.None 0 (drop (i + 1) src) (λ y. z (rw e y)) in
+            byte-on (sym unit ∙ rw break (e ∙ text))

@@ -50,13 +50,13 @@ plain-unit Mode.Heredoc label end n b rest e =
     rw (h .first, h .second, h .third, h .fourth)
 plain-unit Mode.Nowdoc label end n b rest e = rw (not-true (b is "\n") e)
 
-onto-nil : (r : Reading) → r ≡ onto [] r
+pub onto-nil : (r : Reading) → r ≡ onto [] r
 unfolding onto
 onto-nil (Text text stop from after) = refl
 onto-nil (Refused number place) = refl
 onto-nil Wait = refl
 
-onto-cons : (b : ℕ) (vs : List ℕ) (r : Reading) → onto (b ∷ []) (onto vs r) ≡ onto (b ∷ vs) r
+pub onto-cons : (b : ℕ) (vs : List ℕ) (r : Reading) → onto (b ∷ []) (onto vs r) ≡ onto (b ∷ vs) r
 unfolding onto
 onto-cons b vs (Text text stop from after) = refl
 onto-cons b vs (Refused number place) = refl
@@ -68,12 +68,12 @@ module _ (m : Mode) (label : List ℕ) (end : Bool) where
   abbrev from : ℕ → List ℕ → ℕ → Reading
   from n xs k = collected m label end 0 (n + k) (drop k xs)
 
-  collected-plain : (n b : ℕ) (rest : List ℕ) → isPlain m b ≡ true
+  pub collected-byte : (n b : ℕ) (rest : List ℕ) → unitAt m label end n b rest ≡ plain b n
       → collected m label end 0 n (b ∷ rest) ≡ onto (b ∷ []) (collected m label end 0 (suc n) rest)
   unfolding collected taken afterOf
-  collected-plain n b rest e =
+  collected-byte n b rest e =
       let z : suc n - suc n ≡ 0 = omega arith in
-      rw (plain-unit m label end n b rest e, z)
+      rw (e, z)
 
   collected-run : (n : ℕ) (xs : List ℕ)
       → collected m label end 0 n xs ≡ onto (take (run (isPlain m) xs) xs) (from n xs (run (isPlain m) xs))
@@ -92,7 +92,7 @@ module _ (m : Mode) (label : List ℕ) (end : Bool) where
       passed e later =
           let k = run (isPlain m) rest in
           let p : suc n + k ≡ n + suc k = omega arith in
-          collected-plain n b rest e
+          collected-byte n b rest (plain-unit m label end n b rest e)
           ∙ ap (onto (b ∷ [])) later
           ∙ onto-cons b (take k rest) (from (suc n) rest k)
           ∙ ap (λ (j : ℕ). onto (b ∷ take k rest) (collected m label end 0 j (drop k rest))) p

@@ -6,7 +6,7 @@ use mathlib.Core.List.{List, [], _∷_, _++_}
 use native.Mathlib.Omega.{arith}
 use lib.Dec.{ltb, eqb}
 use lib.ListN.{length, getD, take, drop, length-append, length-drop, drop-of-length-le}
-use lib.Seq.{take-suc, getD-drop, drop-drop}
+use lib.Seq.{take-suc, length-take-le, getD-drop, drop-drop}
 use borrow.Author.Tests.{ne-eqb, ltb-false, not-true, not-false}
 use Rattle.byte.specs.Words.{if_then_else_, _is_}
 use Rattle.source.specs.Code.{RunEnd}
@@ -23,7 +23,7 @@ use Rattle.unit.proofs.Readings.{collected-turn}
 use Rattle.text.specs.declared.Scanned.{Scanned}
 use Rattle.text.specs.Code.{Here, isPlain, bytesOf, isBreak, lastBreak, valueLength, ended, unclosed, measured}
 use Rattle.text.specs.Code.{isWritable}
-use Rattle.text.proofs.Runs.{run-after, run-turn, run-length}
+use Rattle.text.proofs.Runs.{run-after, run-turn}
 
 pub positive : (n : ℕ) → (n ≡ 0 → ⊥) → 0 < n
 positive zero h = absurd (h refl)
@@ -161,6 +161,20 @@ behind-onto m len broken vs (Text text stop from after) =
 behind-onto m len broken vs (Refused number place) = refl
 behind-onto m len broken vs Wait = refl
 
+-- a reading that is not closed has no text
+abbrev pub openAt : Bool → ℕ → Reading
+openAt end n = if end then Refused 1 n else Wait
+
+pub onto-open : (vs : List ℕ) (end : Bool) (n : ℕ) → onto vs (openAt end n) ≡ openAt end n
+unfolding onto
+onto-open vs true n = refl
+onto-open vs false n = refl
+
+pub behind-open : (m : Mode) (len : ℕ) (broken end : Bool) (n : ℕ) → behind m len broken (openAt end n) ≡ unclosed end n
+unfolding behind unclosed
+behind-open m len broken true n = refl
+behind-open m len broken false n = refl
+
 pub utf8-some : (c : ℕ) → 0 < length (utf8 c)
 unfolding utf8
 utf8-some c = choice Some (ltb c 0x80) _ _ (λ e. omega arith) (λ e. choice Some (ltb c 0x800) _ _ (λ f. omega arith) (λ f. choice Some (ltb c 0x10000) _ _ (λ g. omega arith) (λ g. omega arith)))
@@ -268,12 +282,8 @@ module _ (m : Mode) (label : List ℕ) (end : Bool) (src : List ℕ) (at : ℕ) 
 
   module _ (i len : ℕ) (broken : Bool) (s : Scanning m label end src at i len broken) where
     pub scanning-end : (r : Scanned) → length src ≤ i → r ≡ unclosed end i → r ≡ measured (textAt m label end at (drop at src))
-    unfolding collected behind unclosed
-    scanning-end r h f = f ∙ sym (s .same ∙ rw (drop-of-length-le src h) (closed end))
-      where
-        closed : (t : Bool) → behind m len broken (if t then Refused 1 i else Wait) ≡ (if t then Scanned.Refused 1 i else Scanned.Wait)
-        closed true = refl
-        closed false = refl
+    unfolding collected
+    scanning-end r h f = f ∙ sym (s .same ∙ rw (drop-of-length-le src h) (behind-open m len broken end i))
 
     pub unit-stop : i < length src → (u : TextUnit) → u ≡ unitAt m label end i (getD src i 0) (drop (i + 1) src)
         → length (bytesOf u) ≡ 0 → ended m len broken u ≡ measured (textAt m label end at (drop at src))
@@ -292,18 +302,23 @@ module _ (m : Mode) (label : List ℕ) (end : Bool) (src : List ℕ) (at : ℕ) 
               ∙ rw (unit-turn m label end src i h u e (text .on), text-taken u later z, behind-onto m len broken (bytesOf u) later, text-break u broken z);
         }
 
-    -- a run of bytes that stand for themselves
+    -- bytes that are read as they stand, and a run of those that stand for themselves
+    pub bytes-on : (n : ℕ) → i ≤ n → n ≤ length src
+        → collected m label end 0 i (drop i src)
+        ≡ onto (take (n - i) (drop i src)) (collected m label end 0 n (drop n src))
+        → Scanning m label end src at n (len + (n - i)) (lastBreak broken (take (n - i) (drop i src)))
+    bytes-on n order inside e =
+        let bytes = take (n - i) (drop i src) in
+        let size : length bytes ≡ n - i = length-take-le (n - i) (drop i src) (omega (arith, length-drop i src)) in
+        record {
+          inside = inside;
+          small = omega (arith, s .small);
+          same = s .same ∙ rw (e, behind-onto m len broken bytes (collected m label end 0 n (drop n src)), size);
+        }
+
     pub run-on : (n : ℕ) → RunEnd (isPlain m) src i n
         → Scanning m label end src at n (len + (n - i)) (lastBreak broken (take (n - i) (drop i src)))
-    run-on n p =
-        let bytes = take (n - i) (drop i src) in
-        record {
-          inside = p .inside;
-          small = omega (arith, s .small, run-after m label end src i n p);
-          same =
-              s .same
-              ∙ rw (run-turn m label end src i n p, behind-onto m len broken bytes (collected m label end 0 n (drop n src)), run-length m label end src i n p);
-        }
+    run-on n p = bytes-on n (run-after m label end src i n p) (p .inside) (run-turn m label end src i n p)
 
   -- a turn: the run from i to n, and the unit after it
   module _ (i len : ℕ) (broken : Bool) (s : Scanning m label end src at i len broken) (n : ℕ) (p : RunEnd (isPlain m) src i n) where

@@ -9,16 +9,18 @@
 --   unclosed      what a text comes to that is not closed
 --   measured      a reading without its bytes: what `scan_text` answers
 --   valueOf       the value of a reading: what `write_text` writes
+--   BeforeBlanks  a place before another where no blank stands
+--   Searchable    a label whose first byte can be looked for
 --   Writable, Measured   when a unit or a value may be written: there is room
 use Prim.Native.Nat.{ℕ, _+_, _-_, _≤_, _<_}
 use Prim.Native.Char.{code}
 use mathlib.Core.Bool.{Bool, false}
 use mathlib.Core.List.{List, [], _∷_}
 use mathlib.Core.Path.{_≡_}
-use lib.ListN.{length, drop}
+use lib.ListN.{length, getD, drop}
 use Rattle.byte.specs.Refusals.{unexpectedEndOfFile}
 use Rattle.byte.specs.Words.{if_then_else_, _is_}
-use Rattle.byte.specs.Bytes.{isNoBreak, isNoneOf}
+use Rattle.byte.specs.Bytes.{isBlank, isNoBreak, isNoneOf}
 use Rattle.unit.specs.declared.Mode.{Mode}
 use Rattle.unit.specs.declared.Stop.{Stop}
 use Rattle.unit.specs.declared.TextUnit.{TextUnit}
@@ -80,6 +82,19 @@ unfoldable pub valueOf : Reading → List ℕ
 valueOf (Text value stop from after) = value
 valueOf (Refused number place) = []
 valueOf Wait = []
+
+-- k is such a place before n, from `from` on
+pub record BeforeBlanks (src : List ℕ) (from n k : ℕ) : Type 0 where
+  pub first : from ≤ k
+  pub last : k < n
+  pub inside : n ≤ length src
+  pub other : isBlank (getD src k 0) ≡ false
+
+-- it has bytes, and the first is no LF
+pub record Searchable (label : List ℕ) : Type 0 where
+  pub some : 0 < length label
+  pub short : length label ≤ 64
+  pub unbroken : getD label 0 0 ≡ code "\n" → ⊥
 
 -- a code point of at most four bytes
 unfoldable pub isWritable : TextUnit → Type 0

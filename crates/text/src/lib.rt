@@ -11,7 +11,8 @@ ghost use Rattle.byte.specs.Laid.{laid};
 ghost use Rattle.unit.specs.declared.Mode.{Mode};
 ghost use Rattle.unit.specs.declared.TextUnit.{TextUnit};
 ghost use Rattle.unit.specs.Readings.{afterOf, losesBreak, textAt};
-ghost use Rattle.text.specs.Code.{bytesOf, isBreak, lastBreak, valueLength, ended, unclosed, measured, valueOf, Writable, Measured};
+ghost use Rattle.text.specs.Code.{bytesOf, isBreak, lastBreak, valueLength, ended, unclosed, measured, valueOf};
+ghost use Rattle.text.specs.Code.{BeforeBlanks, Searchable, Writable, Measured};
 
 mod units;
 
@@ -210,25 +211,57 @@ fn scan_units(m: Mode, src: &[u8], label: &[u8], at: usize, end: bool) -> Scanne
     unclosed(end, i)
 }
 
-// A nowdoc's text, line by line.
+// The last place before n where no blank stands. At `from` there is none.
+fn before_blanks(src: &[u8], from: usize, n: usize) -> usize
+    requires { ⌜ BeforeBlanks (now src) from n from ⌝ }
+    ensures { λ r. ⌜ BeforeBlanks (now (src .entry)) from n r ⌝ }
+{
+    let mut k = n - 1;
+    while from < k {
+        if !byte::is_blank(src[k]) {
+            return k;
+        }
+        k -= 1;
+    }
+    from
+}
+
+// A nowdoc's text: from an LF on the label's first byte is looked for, and the label where blanks alone stand before it.
+fn scan_label(src: &[u8], label: &[u8], at: usize, end: bool) -> Scanned
+    requires { ⌜ (at ≤ length (now src)) × (length (now src) ≤ 65536) × Searchable (now label) ⌝ }
+    ensures { λ r. ⌜ r ≡ measured (textAt Mode.Nowdoc (now (label .entry)) end at (drop at (now (src .entry)))) ⌝ }
+{
+    let w = label[0];
+    let mut i = at;
+    while i < src.len() {
+        let lf = source::break_end(src, i);
+        let n = source::stop_end(src, lf, w, w, w, w);
+        if src.len() <= n {
+            return unclosed(end, n);
+        }
+        let k = before_blanks(src, lf, n);
+        if src[k] == b'\n' {
+            let u = closer::line_at(src, label, k, end);
+            if width_of(u) == 0 {
+                return ended_as(Mode::Nowdoc, k - at, false, u);
+            }
+        }
+        i = k + 1;
+    }
+    unclosed(end, i)
+}
+
+// A nowdoc's text, by its label; unit by unit where the label has no byte to look for.
 fn scan_nowdoc(src: &[u8], label: &[u8], at: usize, end: bool) -> Scanned
     requires { ⌜ (at ≤ length (now src)) × (length (now src) ≤ 65536) × (length (now label) ≤ 64) ⌝ }
     ensures { λ r. ⌜ r ≡ measured (textAt Mode.Nowdoc (now (label .entry)) end at (drop at (now (src .entry)))) ⌝ }
 {
-    let mut i = at;
-    while i < src.len() {
-        let n = source::break_end(src, i);
-        if n < src.len() {
-            let u = closer::line_at(src, label, n, end);
-            if width_of(u) == 0 {
-                return ended_as(Mode::Nowdoc, n - at, false, u);
-            }
-            i = n + 1;
-        } else {
-            i = n;
+    if 0 < label.len() {
+        if label[0] != b'\n' {
+            return scan_label(src, label, at, end);
         }
     }
-    unclosed(end, i)
+    scan_units(Mode::Nowdoc, src, label, at, end)
 }
 
 // The text from `at` on, measured: nothing is written.

@@ -1,3 +1,4 @@
 pub mod Records
+pub mod Copies
 pub mod Files
 pub mod RoundTrips

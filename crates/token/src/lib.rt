@@ -4,7 +4,7 @@ use source::Span;
 use state::Answer;
 ghost use mathlib.Core.Path.{_≡_};
 ghost use Prim.Native.Nat.{_+_, _*_, _≤_};
-ghost use lib.ListN.{length};
+ghost use lib.ListN.{length, take, drop};
 ghost use Rattle.source.specs.Cursor.{origin};
 ghost use Rattle.byte.specs.Laid.{laid};
 ghost use Rattle.token.specs.Records.{recordOf, roomRefusal};
@@ -93,8 +93,31 @@ pub fn put_token(list: &mut [u32], place: usize, t: Token)
     list[at + 7] = 0;
 }
 
-// The bytes of a part, copied to the start of another.
-fn copy(part: &[u8], rest: &mut [u8])
+// Eight bytes: all are read before any is written, so that both are one move.
+fn copy_8(part: &[u8], from: usize, rest: &mut [u8], to: usize)
+    requires { ⌜ (from + 8 ≤ length (now part)) × (to + 8 ≤ length (now rest)) ⌝ }
+    ensures { λ r. ⌜ now (rest .exit) ≡ laid (now (rest .entry)) to (take 8 (drop from (now (part .entry)))) ⌝ }
+{
+    let a = part[from];
+    let b = part[from + 1];
+    let c = part[from + 2];
+    let d = part[from + 3];
+    let e = part[from + 4];
+    let f = part[from + 5];
+    let g = part[from + 6];
+    let h = part[from + 7];
+    rest[to] = a;
+    rest[to + 1] = b;
+    rest[to + 2] = c;
+    rest[to + 3] = d;
+    rest[to + 4] = e;
+    rest[to + 5] = f;
+    rest[to + 6] = g;
+    rest[to + 7] = h;
+}
+
+// Fewer than eight, one by one.
+fn copy_few(part: &[u8], rest: &mut [u8])
     requires { ⌜ length (now part) ≤ length (now rest) ⌝ }
     ensures { λ r. ⌜ now (rest .exit) ≡ laid (now (rest .entry)) 0 (now (part .entry)) ⌝ }
 {
@@ -103,6 +126,24 @@ fn copy(part: &[u8], rest: &mut [u8])
         rest[i] = part[i];
         i += 1;
     }
+}
+
+// The bytes of a part, copied to the start of another by blocks of eight: the last block lies over the one before.
+fn copy(part: &[u8], rest: &mut [u8])
+    requires { ⌜ length (now part) ≤ length (now rest) ⌝ }
+    ensures { λ r. ⌜ now (rest .exit) ≡ laid (now (rest .entry)) 0 (now (part .entry)) ⌝ }
+{
+    if part.len() < 8 {
+        copy_few(part, rest);
+        return;
+    }
+    let last = part.len() - 8;
+    let mut i = 0;
+    while i < last {
+        copy_8(part, i, rest, i);
+        i += 8;
+    }
+    copy_8(part, last, rest, last);
 }
 
 // A value in the pool from its fill mark on: the free rest of the pool is passed on as a part.

@@ -1,2 +1,2 @@
 pub mod Places
-pub mod Walks
+pub mod Walking

@@ -1,139 +1,84 @@
-// The walk: as many steps as wanted in one call. The gate is asked once, and the frames stay in one place.
+// The walk: a call and, where it is done, as many steps after it as are wanted. The gate is asked once, and the frames stay in one place.
+// A step and each reading is a walk of one call.
 use commit::Mark;
-use commit::Next;
+use lexer::Place;
+use outcome::Call;
 use outcome::Change;
-use source::Span;
 use state::Answer;
 use state::Choices;
-use state::Frame;
 use state::Session;
 use state::Slot;
 use state::Turn;
 ghost use mathlib.Core.Path.{_≡_};
-ghost use mathlib.Core.Bool.{false};
-ghost use Prim.Native.Nat.{_≤_};
+ghost use Prim.Native.Nat.{_<_};
 ghost use lib.ListN.{length};
 ghost use Rattle.state.specs.Gates.{lentRefusal};
-ghost use Rattle.commit.specs.Code.{isFull, Committed};
 ghost use Rattle.lexer.specs.Turns.{Gives};
-ghost use Rattle.lexer.specs.Code.{turnOf};
-ghost use Rattle.demands.specs.Walks.{walked};
-ghost use Rattle.walk.specs.Code.{sessionAt, outcomeAt, movedTo, Standing};
+ghost use Rattle.demands.specs.Walks.{calledOn, isDone};
+ghost use Rattle.walk.specs.Walks.{Walks};
+ghost use Rattle.walk.specs.Code.{endedAt};
 
-// The session that a walk stands at.
-fn session_at(m: Mark, depth: u32, frames: [Slot; 64], choices: Choices) -> Session
-    ensures { λ r. ⌜ r ≡ sessionAt m depth frames choices ⌝ }
+// What a walk comes to, and whether its first call was done: then its session is another than before, also where a later step is refused.
+pub struct Walked {
+    pub turn: Turn,
+    pub begun: bool,
+}
+
+// Done, and not finished.
+fn is_done(a: Answer) -> bool
+    ensures { λ r. ⌜ r ≡ isDone a ⌝ }
 {
-    Session {
-        position: m.span.position,
-        line: m.span.line,
-        column: m.span.column,
-        depth,
-        tokens: m.tokens,
-        bytes: m.bytes,
-        frames,
-        choices,
+    match a {
+        Answer::Done => true,
+        Answer::Finished => false,
+        Answer::Refused { number: _, span: _ } => false,
     }
 }
 
-// The turn of a step that ends a walk.
-fn turn_at(m: Mark, depth: u32, frames: [Slot; 64], choices: Choices, x: Next) -> Turn
-    requires { ⌜ (1 ≤ depth) × (depth ≤ 64) × (isFull (x .change) depth ≡ false) ⌝ }
-    ensures { λ r. ⌜ r ≡ turnOf (sessionAt m depth frames choices) x ⌝ }
+// The turn of a walk that ends at a place.
+fn ended(answer: Answer, at: Place, frames: [Slot; 64], choices: Choices) -> Turn
+    ensures { λ r. ⌜ r ≡ endedAt answer at frames choices ⌝ }
 {
-    lexer::turned(session_at(m, depth, frames, choices), x)
+    let session = lexer::session_at(at, frames, choices);
+    Turn { answer, session }
 }
 
-// What a step comes to that only passes bytes, up to p.
-fn moved(m: Mark, p: Span) -> Next
-    ensures { λ r. ⌜ r ≡ movedTo m p ⌝ }
-{
-    let mark = Mark {
-        span: p,
-        tokens: m.tokens,
-        bytes: m.bytes,
-    };
-    Next {
-        answer: Answer::Done,
-        mark,
-        change: Change::Keep,
-    }
-}
-
-// One step by the top frame's plan.
-fn plan_step(
+// After the gate, where a call is wanted.
+fn walk_on(
+    first: Call,
     src: &[u8],
     end: bool,
-    f: Frame,
-    choices: Choices,
-    depth: u32,
-    m: Mark,
+    most: u32,
+    s: Session,
     list: &mut [u32],
     pool: &mut [u8],
-) -> Next
-    requires { ⌜ Standing (now src) f m (length (now list)) (length (now pool)) ⌝ }
-    ensures { λ r. ⌜ Committed (now (src .entry)) m (now (list .entry)) (now (pool .entry)) (outcomeAt (now (src .entry)) end f choices depth (m .span .position)) r (now (list .exit)) (now (pool .exit)) ⌝ }
-{
-    let plan = modes::plan_at(src, end, f, choices, depth, m.span.position as usize);
-    commit::commit(src, end, m, depth, plan, list, pool)
-}
-
-// One step, over numbers and the top frame: bytes are passed, or its plan is committed.
-fn step_at(
-    src: &[u8],
-    end: bool,
-    f: Frame,
-    choices: Choices,
-    depth: u32,
-    m: Mark,
-    list: &mut [u32],
-    pool: &mut [u8],
-) -> Next
-    requires { ⌜ Standing (now src) f m (length (now list)) (length (now pool)) ⌝ }
-    ensures { λ r. ⌜ Committed (now (src .entry)) m (now (list .entry)) (now (pool .entry)) (outcomeAt (now (src .entry)) end f choices depth (m .span .position)) r (now (list .exit)) (now (pool .exit)) ⌝ }
-{
-    let p = modes::passed(src, f, m.span);
-    if p.position != m.span.position {
-        return moved(m, p);
-    }
-    plan_step(src, end, f, choices, depth, m, list, pool)
-}
-
-// At most `most` steps after the gate.
-fn walk_on(src: &[u8], end: bool, most: u32, s: Session, list: &mut [u32], pool: &mut [u8]) -> Turn
-    requires { ⌜ lentRefusal (now src) (length (now list)) (length (now pool)) s ≡ 0 ⌝ }
-    ensures { λ r. ⌜ Gives (walked most (now (src .entry)) end s (now (list .entry)) (now (pool .entry))) r (now (list .exit)) (now (pool .exit)) ⌝ }
+) -> Walked
+    requires { ⌜ (lentRefusal (now src) (length (now list)) (length (now pool)) s ≡ 0) × (0 < most) ⌝ }
+    ensures { λ r. ⌜ Walks first most (now (src .entry)) end s (now (list .entry)) (now (pool .entry)) r (now (list .exit)) (now (pool .exit)) ⌝ }
 {
     let mut frames = s.frames;
     let choices = s.choices;
+    let mut call = first;
     let mut depth = s.depth;
-    let mut m = Mark {
-        span: Span {
-            line: s.line,
-            column: s.column,
-            position: s.position,
-        },
-        tokens: s.tokens,
-        bytes: s.bytes,
-    };
+    let mut mark = lexer::mark_of(s);
     let mut left = most;
     while 0 < left {
-        left -= 1;
         let top = depth as usize - 1;
         let slot = frames[top];
         let f = slot.frame;
-        let x = step_at(src, end, f, choices, depth, m, list, pool);
+        let at = Place { mark, depth };
+        let x = lexer::step_at(call, src, end, f, choices, at, list, pool);
+        mark = x.mark;
         let answer = x.answer;
-        match answer {
-            Answer::Done => {}
-            Answer::Finished => {
-                return turn_at(m, depth, frames, choices, x);
-            }
-            Answer::Refused { number: _, span: _ } => {
-                return turn_at(m, depth, frames, choices, x);
-            }
+        if !is_done(answer) {
+            let turn = ended(answer, Place { mark, depth }, frames, choices);
+            return Walked {
+                turn,
+                begun: left < most,
+            };
         }
-        m = x.mark;
+        call = Call::Step;
+        left -= 1;
         let change = x.change;
         match change {
             Change::Keep => {}
@@ -150,26 +95,51 @@ fn walk_on(src: &[u8], end: bool, most: u32, s: Session, list: &mut [u32], pool:
             }
         }
     }
-    let session = session_at(m, depth, frames, choices);
-    Turn {
-        answer: Answer::Done,
-        session,
-    }
+    let turn = ended(Answer::Done, Place { mark, depth }, frames, choices);
+    Walked { turn, begun: true }
 }
 
-// At most `most` steps, up to one that is not done.
-pub fn walk(src: &[u8], end: bool, most: u32, s: Session, list: &mut [u32], pool: &mut [u8]) -> Turn
-    ensures { λ r. ⌜ Gives (walked most (now (src .entry)) end s (now (list .entry)) (now (pool .entry))) r (now (list .exit)) (now (pool .exit)) ⌝ }
+// A call, and at most `most` in all with the steps after it, up to one that is not done.
+pub fn turns(
+    call: Call,
+    src: &[u8],
+    end: bool,
+    most: u32,
+    s: Session,
+    list: &mut [u32],
+    pool: &mut [u8],
+) -> Walked
+    ensures { λ r. ⌜ Walks call most (now (src .entry)) end s (now (list .entry)) (now (pool .entry)) r (now (list .exit)) (now (pool .exit)) ⌝ }
 {
     if most == 0 {
-        return Turn {
+        let turn = Turn {
             answer: Answer::Done,
             session: s,
         };
+        return Walked { turn, begun: false };
     }
     let shut = state::gate_with_tables(src, list.len(), pool.len(), s);
     if shut != 0 {
-        return state::refuse_at_gate(shut, s);
+        let turn = state::refuse_at_gate(shut, s);
+        return Walked { turn, begun: false };
     }
-    walk_on(src, end, most, s, list, pool)
+    walk_on(call, src, end, most, s, list, pool)
+}
+
+// The same without telling whether it has begun. With `most` 1 it is a step, in which the routine of the top frame reads on from the
+// cursor; or a reading: the number at the cursor, or the quoted string whose text starts there. 11 and 12 come first, then 10 for a
+// reading without Scripting on top, then what the routine refuses, 9, 7, 8.
+pub fn calls(
+    call: Call,
+    src: &[u8],
+    end: bool,
+    most: u32,
+    s: Session,
+    list: &mut [u32],
+    pool: &mut [u8],
+) -> Turn
+    ensures { λ r. ⌜ Gives (calledOn call most (now (src .entry)) end s (now (list .entry)) (now (pool .entry))) r (now (list .exit)) (now (pool .exit)) ⌝ }
+{
+    let w = turns(call, src, end, most, s, list, pool);
+    w.turn
 }

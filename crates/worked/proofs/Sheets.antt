@@ -26,10 +26,10 @@ use Rattle.outcome.specs.Lookings.{named, isBracketed, varname, lookingForVarna
 use Rattle.outcome.specs.Lookings.{varOffset}
 use Rattle.outcome.specs.Comments.{isNext, ends, endTaken, commentEnd, endless, commented, slash, hash}
 use Rattle.outcome.specs.Scripts.{point, word, closeTag, scripting}
-use Rattle.outcome.specs.Steps.{textMode, nowdoc, framed, stepOutcome, numberOutcome, singleOutcome, doubleOutcome}
-use Rattle.commit.specs.Records.{records}
-use Rattle.lexer.specs.Turns.{framesAfter, depthAfter, settled}
-use Rattle.lexer.specs.Calls.{stepped, reading}
+use Rattle.outcome.specs.Steps.{textMode, nowdoc, framed, callAt, callOutcome}
+use Rattle.commit.specs.Records.{put, reached}
+use Rattle.lexer.specs.Turns.{framesAfter, depthAfter}
+use Rattle.lexer.specs.Calls as lexer
 use Rattle.worked.specs.Sheets.{standing, called, tokensIn, found, table, comments}
 use Rattle.worked.specs.Sheets.{AllHold}
 
@@ -40,8 +40,8 @@ unfolding bytes every run isDigit isOctal isHex isLetter isStart isIdentifier is
     docBreak docQuote docEnd docName docStart docLabel thirdLess opening docFrame opened slice docKind quoteKind
     stopKind stopDetail variableChange stopChange texted isLeft literal numberKind numbered named
     isBracketed varname lookingForVarname property arrowHead questioned lookingForProperty varOffset point word
-    closeTag scripting textMode nowdoc framed stepOutcome numberOutcome singleOutcome doubleOutcome records
-    framesAfter depthAfter settled isScripting stepped reading standing called tokensIn found table digitValue
+    closeTag scripting textMode nowdoc framed callAt callOutcome put
+    framesAfter depthAfter reached isScripting lexer.called standing called tokensIn found table digitValue
     isScalar utf8 letterValue fitted digits hex codePoint braced escape quoteEscape interpolations.property
     interpolations.arrow interpolations.questionArrow interpolations.follow interpolations.variable
     interpolations.name interpolations.dollar interpolations.brace interpolations.findDollar
@@ -58,7 +58,7 @@ sheets-hold = (refl, (refl, (refl, (refl, (refl, (refl, (refl, (refl, (refl, (re
 pub comments-hold : AllHold comments
 unfolding bytes every isDigit isLetter isStart passedByte passed laid isFrame isBottom isStack isWithin isGood fitsTables
     sourceFits tablesFit gateRefusal lentRefusal roomRefusal values limited isNext ends endTaken commentEnd endless commented
-    slash hash scripting framed stepOutcome records framesAfter depthAfter settled isScripting stepped standing called tokensIn
+    slash hash scripting framed callAt callOutcome put framesAfter depthAfter reached isScripting lexer.called standing called tokensIn
     found comments
 comments-hold =
     (refl, (refl, (refl, (refl, (refl, (refl, (refl, (refl, (refl, (refl, (refl, (refl, (refl, (refl, (refl, (refl, (refl, (refl, (refl, (refl, (refl, (refl, tt))))))))))))))))))))))

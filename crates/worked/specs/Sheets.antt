@@ -28,7 +28,8 @@ use Rattle.state.specs.declared.Session.{Session}
 use Rattle.token.specs.Kinds.{inlineHtml, openTagFull, openTagShort, stringPart, variable, endDocStringNone, endDocStringSpace}
 use Rattle.token.specs.Kinds.{literalSingleQuotedString, literalDoubleQuotedString, literalInteger, comment}
 use Rattle.lexer.specs.Turns.{After}
-use Rattle.lexer.specs.Calls.{stepped, readNumber, readSingle, readDouble}
+use Rattle.outcome.specs.declared.Call as outcome
+use Rattle.lexer.specs.Calls as lexer
 
 pub data Call : Type 0 where
   Step : Frame → Choices → Call
@@ -77,11 +78,14 @@ standing f choices = record {
 }
 
 -- room for three tokens and thirty-two value bytes
+abbrev answered : outcome.Call → Bool → List ℕ → Session → After
+answered call end src s = lexer.called call src end s (replicate 24 0) (replicate 32 0)
+
 unfoldable pub called : Call → Bool → List ℕ → After
-called (Step f choices) end src = stepped src end (standing f choices) (replicate 24 0) (replicate 32 0)
-called Number end src = readNumber src end (standing Frame.Scripting ported) (replicate 24 0) (replicate 32 0)
-called Single end src = readSingle src end (standing Frame.Scripting ported) (replicate 24 0) (replicate 32 0)
-called Double end src = readDouble src end (standing Frame.Scripting ported) (replicate 24 0) (replicate 32 0)
+called (Step f choices) end src = answered outcome.Call.Step end src (standing f choices)
+called Number end src = answered outcome.Call.Number end src (standing Frame.Scripting ported)
+called Single end src = answered outcome.Call.Single end src (standing Frame.Scripting ported)
+called Double end src = answered outcome.Call.Double end src (standing Frame.Scripting ported)
 
 -- the first so many tokens of a list, with their values in the pool
 unfoldable pub tokensIn : ℕ → List ℕ → List ℕ → List Written

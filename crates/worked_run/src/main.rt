@@ -4,6 +4,7 @@
 // A line of sheets x and y has marks in place of that, for 32 bytes from the one named on, as each follows a label: c where the block
 // closes, r where the label begins a row, w where the step waits.
 use libc::STDOUT_FILENO;
+use outcome::Call;
 use source::Span;
 use state::Answer;
 use state::Choices;
@@ -130,39 +131,22 @@ fn standing(f: Frame, choices: Choices) -> Session {
     s
 }
 
-// A step over a text, with room for three tokens and thirty-two value bytes.
+// One call over a text, with room for three tokens and thirty-two value bytes.
+fn called(letter: u8, call: Call, s: Session, src: &[u8], end: bool) {
+    let mut list = [0u32; 24];
+    let mut pool = [0u8; 32];
+    let t = walk::calls(call, src, end, 1, s, &mut list, &mut pool);
+    print_turn(letter, t, &list, &pool);
+}
+
+// A step over a text.
 fn step(letter: u8, f: Frame, choices: Choices, src: &[u8], end: bool) {
-    let mut list = [0u32; 24];
-    let mut pool = [0u8; 32];
-    let t = lexer::step(src, end, standing(f, choices), &mut list, &mut pool);
-    print_turn(letter, t, &list, &pool);
+    called(letter, Call::Step, standing(f, choices), src, end);
 }
 
-// The number at a text's beginning.
-fn number(letter: u8, src: &[u8], end: bool) {
-    let mut list = [0u32; 24];
-    let mut pool = [0u8; 32];
-    let s = standing(Frame::Scripting, ported());
-    let t = lexer::read_number(src, end, s, &mut list, &mut pool);
-    print_turn(letter, t, &list, &pool);
-}
-
-// The single-quoted string that a text is the rest of.
-fn single(letter: u8, src: &[u8]) {
-    let mut list = [0u32; 24];
-    let mut pool = [0u8; 32];
-    let s = standing(Frame::Scripting, ported());
-    let t = lexer::read_single(src, true, s, &mut list, &mut pool);
-    print_turn(letter, t, &list, &pool);
-}
-
-// The double-quoted string that a text is the rest of.
-fn double(letter: u8, src: &[u8]) {
-    let mut list = [0u32; 24];
-    let mut pool = [0u8; 32];
-    let s = standing(Frame::Scripting, ported());
-    let t = lexer::read_double(src, true, s, &mut list, &mut pool);
-    print_turn(letter, t, &list, &pool);
+// A reading of a text.
+fn reading(letter: u8, call: Call, src: &[u8], end: bool) {
+    called(letter, call, standing(Frame::Scripting, ported()), src, end);
 }
 
 // Sheets a to c: the mode Initial.
@@ -175,22 +159,22 @@ fn initial_sheets() {
 
 // Sheets d to h: quoted strings.
 fn quoted_sheets() {
-    single(b'd', b"a\\'b\\n'");
-    double(b'e', b"\\377\"");
-    double(b'f', b"\\400\"");
-    double(b'g', b"\\u{20AC}\"");
-    double(b'h', b"\\u{}\"");
-    double(b'h', b"\\u{110000}\"");
+    reading(b'd', Call::Single, b"a\\'b\\n'", true);
+    reading(b'e', Call::Double, b"\\377\"", true);
+    reading(b'f', Call::Double, b"\\400\"", true);
+    reading(b'g', Call::Double, b"\\u{20AC}\"", true);
+    reading(b'h', Call::Double, b"\\u{}\"", true);
+    reading(b'h', Call::Double, b"\\u{110000}\"", true);
 }
 
 // Sheets i to k: numbers.
 fn number_sheets() {
-    number(b'i', b"1__0", true);
-    number(b'i', b"0x", true);
-    number(b'j', b"1E5", true);
-    number(b'j', b"1.5e+x", true);
-    number(b'k', b"1e", false);
-    number(b'k', b"1e+x", false);
+    reading(b'i', Call::Number, b"1__0", true);
+    reading(b'i', Call::Number, b"0x", true);
+    reading(b'j', Call::Number, b"1E5", true);
+    reading(b'j', Call::Number, b"1.5e+x", true);
+    reading(b'k', Call::Number, b"1e", false);
+    reading(b'k', Call::Number, b"1e+x", false);
 }
 
 // A nowdoc block whose label EOT starts at this place of the text.
@@ -245,7 +229,7 @@ fn print_mark(b: u8, end: bool) {
     let mut list = [0u32; 24];
     let mut pool = [0u8; 32];
     let s = standing(nowdoc(2), as_sheets());
-    let t = lexer::step(&src, end, s, &mut list, &mut pool);
+    let t = walk::calls(Call::Step, &src, end, 1, s, &mut list, &mut pool);
     let answer = t.answer;
     let mark = [mark_of(answer)];
     io::write_all(STDOUT_FILENO, &mark);

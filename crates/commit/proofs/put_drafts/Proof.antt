@@ -1,12 +1,19 @@
--- `commit::put_drafts` meets its contract: none, one or two drafts, a law each. Assumes nothing.
+-- `commit::put_drafts` meets its contract: the loop keeps `Putting`. Assumes nothing.
+use Prim.Native.Nat.{_-_}
 use borrow.Author.Needs.{needs}
-use Rattle.commit.proofs.Records.{puts}
+use Rattle.commit.proofs.Records.{Putting, putting, putting-on}
 use Rattle.commit.proofs.put_drafts.Statement.{statement}
 use Rattle.commit.proofs.put_drafts.Tie as tie
+
+abbrev Inv : tie.InvT-loop
+Inv src end ds list₀ pool₀ at₀ i₀ list pool at i = Putting src end at₀ ds list₀ pool₀ at i list pool
+
+abbrev left : tie.MeasureT-loop
+left src end ds list₀ pool₀ at₀ i₀ list pool at i = ds .count - i
 
 pub put-drafts-spec : {M : Type 1} → statement M
 put-drafts-spec =
     tie.close
-    (tie.spec (λ c. search needs) (λ c. search needs) (λ c κs. search (puts, needs)) (λ c. search needs)
-    (λ c κs. search (puts, needs)) (λ c. search puts) (λ c. search needs) (λ c. search needs) (λ c. search puts)
-    (λ c. search needs) (λ c. search needs) (λ c. search puts))
+    (tie.spec Inv left (λ c. search putting) (λ c κs. search needs) (λ c κs. search (putting, needs))
+    (λ c. search (putting, needs)) (λ c. search needs) (λ c. search putting-on) (λ c. search needs) (λ c. search needs)
+    (λ c. search putting))

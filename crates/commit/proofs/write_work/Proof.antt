@@ -7,6 +7,7 @@ use Rattle.commit.proofs.write_work.Tie as tie
 pub write-work-spec : {M : Type 1} → statement M
 write-work-spec =
     tie.close
-    (tie.spec (λ c κs. search needs) (λ c κs. search (works, needs)) (λ c. search works) (λ c κs. search needs)
-    (λ c κs. search needs) (λ c. search works) (λ c κs. search (works, needs)) (λ c κs. search (works, needs))
-    (λ c. search needs) (λ c. search needs) (λ c. search works))
+    (tie.spec (λ c κs. search (works, needs)) (λ c. search (works, needs)) (λ c κs. search (works, needs))
+    (λ c κs. search (works, needs)) (λ c. search (works, needs)) (λ c κs. search (works, needs))
+    (λ c κs. search (works, needs)) (λ c. search (works, needs)) (λ c. search (works, needs))
+    (λ c. search (works, needs)))

@@ -7,5 +7,4 @@ use Rattle.drafts.proofs.literal_plan.Tie as tie
 pub literal-plan-spec : {M : Type 1} → statement M
 literal-plan-spec =
     tie.close
-    (tie.spec (λ c κs. search needs) (λ c κs. search needs) (λ c κs. search needs) (λ c κs. search needs)
-    (λ c. search literalPlans) (λ c κs. search needs) (λ c κs. search needs) (λ c. search literalPlans))
+    (tie.spec (λ c κs. search needs) (λ c. search literalPlans) (λ c κs. search needs) (λ c. search literalPlans))

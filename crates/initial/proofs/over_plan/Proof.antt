@@ -5,4 +5,4 @@ use Rattle.initial.proofs.over_plan.Statement.{statement}
 use Rattle.initial.proofs.over_plan.Tie as tie
 
 pub over-plan-spec : {M : Type 1} → statement M
-over-plan-spec = tie.close (tie.spec (λ c κs. search needs) (λ c. search plans))
+over-plan-spec = tie.close (tie.spec (λ c κs. search needs) (λ c κs. search needs) (λ c. search plans))

@@ -1,6 +1,6 @@
 -- `lexer::mark_of` meets its contract: its span is the session's. Assumes nothing.
 use borrow.Author.Needs.{needs}
-use Rattle.lexer.proofs.Nexts.{markOf-made}
+use Rattle.lexer.proofs.Calls.{markOf-made}
 use Rattle.lexer.proofs.mark_of.Statement.{statement}
 use Rattle.lexer.proofs.mark_of.Tie as tie
 

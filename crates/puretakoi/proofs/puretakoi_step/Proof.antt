@@ -1,13 +1,11 @@
--- `puretakoi::puretakoi_step` meets its contract: the numbers read, the call, the numbers written back. Assumes nothing.
+-- `puretakoi::puretakoi_step` meets its contract: it is one call. Assumes nothing.
 use borrow.Author.Needs.{needs}
-use Rattle.puretakoi.proofs.Calls.{session-long, answer-long, called-short, call-done}
-use Rattle.lexer.specs.Calls.{stepped}
+use Rattle.puretakoi.proofs.Walks.{turned-one}
 use Rattle.puretakoi.proofs.puretakoi_step.Statement.{statement}
 use Rattle.puretakoi.proofs.puretakoi_step.Tie as tie
 
 pub puretakoi-step-spec : {M : Type 1} → statement M
 puretakoi-step-spec =
     tie.close
-    (tie.spec (λ c κs. search needs) (λ c. search called-short) (λ c κs. search session-long) (λ c κs. search needs)
-    (λ c κs. search (session-long, answer-long, needs)) (λ c. search needs) (λ c. search needs) (λ c. search needs)
-    (λ c. search needs) (λ c. search (call-done stepped)))
+    (tie.spec (λ c κs. search needs) (λ c. search needs) (λ c. search needs) (λ c. search needs) (λ c. search needs)
+    (λ c. search turned-one))

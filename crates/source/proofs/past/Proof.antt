@@ -8,5 +8,6 @@ pub past-spec : {M : Type 1} → statement M
 past-spec =
     tie.close
     (tie.spec (λ c. search needs) (λ c κs. search needs) (λ c. search needs) (λ c. search needs) (λ c. search passingLines)
-    (λ c. search needs) (λ c. search needs) (λ c. search needs) (λ c κs. search needs) (λ c. search passingLines) (λ c. search needs)
-    (λ c. search needs) (λ c. search needs) (λ c. search needs) (λ c. search passingLines))
+    (λ c κs. search needs) (λ c. search needs) (λ c. search needs) (λ c. search needs) (λ c κs. search needs)
+    (λ c. search passingLines) (λ c. search needs) (λ c. search needs) (λ c. search passingLines) (λ c. search needs)
+    (λ c. search passingLines))

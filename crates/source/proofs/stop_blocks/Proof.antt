@@ -5,7 +5,7 @@ use borrow.Author.Needs.{needs}
 use Rattle.byte.specs.Bytes.{isNoneOf}
 use Rattle.source.specs.Code.{Passing}
 use Rattle.source.proofs.Runs.{passing-first}
-use Rattle.source.proofs.Blocks.{passing-block}
+use Rattle.source.proofs.Marks.{passingWords}
 use Rattle.source.proofs.stop_blocks.Statement.{statement}
 use Rattle.source.proofs.stop_blocks.Tie as tie
 
@@ -18,5 +18,6 @@ left src at w x y z i₀ i = length src - i
 pub stop-blocks-spec : {M : Type 1} → statement M
 stop-blocks-spec =
     tie.close
-    (tie.spec Inv left (λ c. search passing-first) (λ c. search needs) (λ c κs. search needs) (λ c. search needs) (λ c. search needs)
-    (λ c. search needs) (λ c. search passing-block) (λ c. search needs))
+    (tie.spec Inv left (λ c. search passing-first) (λ c. search needs) (λ c κs. search needs)
+    (λ c κs. search needs) (λ c. search needs) (λ c. search passingWords) (λ c. search needs)
+    (λ c. search needs) (λ c. search passingWords) (λ c. search needs))

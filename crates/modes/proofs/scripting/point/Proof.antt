@@ -7,5 +7,5 @@ use Rattle.modes.proofs.scripting.point.Tie as tie
 pub point-spec : {M : Type 1} → statement M
 point-spec =
     tie.close
-    (tie.spec (λ c. search needs) (λ c κs. search needs) (λ c κs. search needs) (λ c. search points) (λ c. search needs)
-    (λ c κs. search needs) (λ c κs. search needs) (λ c. search points) (λ c κs. search needs) (λ c. search points))
+    (tie.spec (λ c. search needs) (λ c κs. search needs) (λ c κs. search needs) (λ c. search points)
+    (λ c κs. search needs) (λ c. search points))

@@ -7,10 +7,10 @@ use Rattle.modes.proofs.scripting.scripting.Tie as tie
 pub scripting-spec : {M : Type 1} → statement M
 scripting-spec =
     tie.close
-    (tie.spec (λ c κs. search needs) (λ c κs. search needs) (λ c. search scriptings) (λ c. search needs) (λ c. search needs)
+    (tie.spec (λ c κs. search needs) (λ c κs. search needs) (λ c. search scriptings) (λ c. search needs)
+    (λ c. search needs) (λ c κs. search needs) (λ c κs. search (scriptings, needs)) (λ c κs. search needs)
     (λ c κs. search needs) (λ c κs. search needs) (λ c κs. search needs) (λ c κs. search needs) (λ c κs. search needs)
-    (λ c κs. search needs) (λ c κs. search needs) (λ c κs. search needs) (λ c κs. search needs) (λ c κs. search needs)
-    (λ c κs. search needs) (λ c κs. search needs) (λ c κs. search needs) (λ c. search scriptings) (λ c κs. search needs)
-    (λ c κs. search needs) (λ c. search scriptings) (λ c κs. search needs) (λ c. search scriptings) (λ c. search scriptings)
+    (λ c κs. search needs) (λ c κs. search needs) (λ c κs. search needs) (λ c. search scriptings)
+    (λ c κs. search needs) (λ c. search scriptings) (λ c. search scriptings) (λ c. search scriptings)
     (λ c. search scriptings) (λ c. search scriptings) (λ c. search scriptings) (λ c. search scriptings)
-    (λ c. search scriptings) (λ c. search scriptings) (λ c. search scriptings) (λ c. search scriptings) (λ c. search scriptings))
+    (λ c. search scriptings) (λ c. search scriptings))
