@@ -4,3 +4,8 @@ pub mod Runs
 pub mod Extents
 pub mod Writing
 pub mod Manual
+pub mod Leading
+pub mod Texts
+pub mod Covers
+pub mod Longest
+pub mod Grammar

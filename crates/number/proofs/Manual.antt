@@ -99,7 +99,7 @@ module _ (base : Base) (end : Bool) (rest : List ℕ) (stops : Stops base end re
 ||-true false b e = e
 
 -- a class within a wider one
-range-in : (b low high low′ high′ : ℕ) → low′ ≤ low → high ≤ high′ → (leb low b && leb b high) ≡ true
+pub range-in : (b low high low′ high′ : ℕ) → low′ ≤ low → high ≤ high′ → (leb low b && leb b high) ≡ true
     → (leb low′ b && leb b high′) ≡ true
 range-in b low high low′ high′ h k e =
     let above : low ≤ b = leb-true low b (&&-left (leb low b) (leb b high) e) in
@@ -119,7 +119,7 @@ one-identifier Base.Hex b h =
     rw (d, ||-true (leb 65 b && leb b 90) _ (range-in b 97 102 97 122 (omega arith) (omega arith) lower)) refl))
 
 -- a byte that names no base, told by a test
-names-none : (c : ℕ) (test : ℕ → Bool) → test 98 ≡ false → test 66 ≡ false → test 111 ≡ false → test 79 ≡ false
+pub names-none : (c : ℕ) (test : ℕ → Bool) → test 98 ≡ false → test 66 ≡ false → test 111 ≡ false → test 79 ≡ false
     → test 120 ≡ false → test 88 ≡ false → test c ≡ true → baseNamed c ≡ Base.Decimal
 unfolding baseNamed
 names-none c test b B o O x X h =
@@ -127,7 +127,7 @@ names-none c test b B o O x X h =
     (rw (other c 120 test x h, other c 88 test X h) refl)
 
 -- after a 0 it names no base, so after no byte
-abbrev Nameless : List ℕ → Type 0
+abbrev pub Nameless : List ℕ → Type 0
 Nameless xs = baseOf (48 ∷ xs) ≡ Base.Decimal
 
 base-nameless : (b : ℕ) (ys : List ℕ) → Nameless ys → baseOf (b ∷ ys) ≡ Base.Decimal
@@ -173,19 +173,19 @@ module _ (end : Bool) where
       (rw (other b 46 outside refl h, mark) refl, rw mark refl)
 
 -- an LNUM has a first digit
-data Lnum : List ℕ → Type 0 where
+pub data Lnum : List ℕ → Type 0 where
   digit : (b : ℕ) (xs : List ℕ) → isDigit b ≡ true → grouped isDigit true xs ≡ true → Lnum (b ∷ xs)
 
-lnum : (xs : List ℕ) → isLnum xs ≡ true → Lnum xs
+pub lnum : (xs : List ℕ) → isLnum xs ≡ true → Lnum xs
 unfolding isLnum grouped
 lnum [] g = absurd (false≢true g)
 lnum (b ∷ xs) g =
     either (isDigit b) (λ first. digit b xs first (rw first at g)) (λ none. absurd (false≢true (rw none at g)))
 
-lnum-base : (xs rest : List ℕ) → Lnum xs → Nameless rest → baseOf (xs ++ rest) ≡ Base.Decimal
+pub lnum-base : (xs rest : List ℕ) → Lnum xs → Nameless rest → baseOf (xs ++ rest) ≡ Base.Decimal
 lnum-base _ rest (digit b xs first more) p = base-nameless b (xs ++ rest) (digits-nameless xs rest more p)
 
-lnum-maybe : (xs : List ℕ) → isLnum xs ≡ true → maybeLnum xs ≡ true
+pub lnum-maybe : (xs : List ℕ) → isLnum xs ≡ true → maybeLnum xs ≡ true
 unfolding maybeLnum
 lnum-maybe [] h = refl
 lnum-maybe (b ∷ xs) h = h
@@ -244,7 +244,7 @@ module _ (end : Bool) where
       (run-digits base end rest (closes-stops end base rest h) (suc (suc n)) ds g ∙ ap Place.At (omega arith))))
 
 -- octal digits are decimal digits
-grouped-octal : (behind wider : Bool) (xs : List ℕ) → (behind ≡ true → wider ≡ true) → grouped isOctal behind xs ≡ true → grouped isDigit wider xs ≡ true
+pub grouped-octal : (behind wider : Bool) (xs : List ℕ) → (behind ≡ true → wider ≡ true) → grouped isOctal behind xs ≡ true → grouped isDigit wider xs ≡ true
 unfolding grouped isOctal isDigit
 grouped-octal behind wider [] k g = k g
 grouped-octal behind wider (b ∷ xs) k g =
@@ -295,12 +295,12 @@ mark end e ys h =
     (record { stops = (refl, refl); nameless = refl; point = refl })
 
 -- a digit is no sign
-digit-sign : (b : ℕ) → isDigit b ≡ true → isSign b ≡ false
+pub digit-sign : (b : ℕ) → isDigit b ≡ true → isSign b ≡ false
 unfolding isSign isDigit
 digit-sign b h = rw (other b 43 isDigit refl h, other b 45 isDigit refl h)
 
 module _ (end : Bool) where
-  point-base : (xs ys : List ℕ) → maybeLnum xs ≡ true → baseOf (xs ++ (46 ∷ ys)) ≡ Base.Decimal
+  pub point-base : (xs ys : List ℕ) → maybeLnum xs ≡ true → baseOf (xs ++ (46 ∷ ys)) ≡ Base.Decimal
   unfolding baseOf baseNamed maybeLnum
   point-base [] [] h = refl
   point-base [] (c ∷ ys) h = refl

@@ -16,7 +16,7 @@ use Rattle.unit.specs.Interpolations.{follow, variable, name, dollar, fi
 use Rattle.unit.specs.Closers.{matched, indented, closer, judged, line}
 use Rattle.unit.specs.Units.{unitAt}
 use Rattle.unit.specs.Readings.{Text, Refused, onto, taken, afterOf, collected, trimmed, losesBreak, finished, textAt}
-use Rattle.unit.specs.Manual.{Means, Wrong, digitsOf, allDigits, number, single, octalOf, octal, hexadecimal}
+use Rattle.unit.specs.Manual.{Means, Open, digitsOf, allDigits, number, single, octalOf, octal, hexadecimal}
 use Rattle.unit.specs.Manual.{codeOf, unicode, doubleQuoted, orElse, saidBy}
 
 -- ---- escapes
@@ -39,12 +39,12 @@ capital-hex-manual : saidBy doubleQuoted (bytes "X4\"") ≡ Means (bytes "\\") 0
 unfolding saidBy doubleQuoted orElse single octal octalOf digitsOf hexadecimal unicode digitValue bytes
 capital-hex-manual = refl
 
--- a surrogate is refused, and has no UTF-8 representation that the manual's entry could mean; PHP writes ED A0 80
+-- a surrogate is refused; the manual's form is matched, but it does not say what has no UTF-8; PHP writes ED A0 80
 surrogate : textAt Mode.Double [] true 0 (bytes "\\u{D800}\"") ≡ Refused 2 8
 unfolding textAt finished collected taken unitAt escape letterValue braced codePoint isScalar digitValue bytes
 surrogate = refl
 
-surrogate-manual : saidBy doubleQuoted (bytes "u{D800}\"") ≡ Wrong
+surrogate-manual : saidBy doubleQuoted (bytes "u{D800}\"") ≡ Open
 unfolding saidBy doubleQuoted orElse single octal octalOf digitsOf hexadecimal unicode codeOf allDigits number isScalar digitValue bytes
 surrogate-manual = refl
 
@@ -76,14 +76,31 @@ escaped-brace : textAt Mode.Double [] true 0 (bytes "\\{$\"") ≡ Text (bytes "\
 unfolding textAt finished losesBreak collected taken onto afterOf unitAt escape letterValue digitValue findBrace bytes
 escaped-brace = refl
 
--- `\u{` is always an escape, and with no digit refusal 2; in PHP `\u{$` is text and then an interpolation
+-- `\u{` is always an escape, and with no digit refusal 2; to the manual, and in PHP, `\u` is text and then `{$` begins a variable
 unicode-interpolation : textAt Mode.Double [] true 0 (bytes "\\u{$a}\"") ≡ Refused 2 3
 unfolding textAt finished collected taken unitAt escape letterValue braced codePoint digitValue bytes
 unicode-interpolation = refl
 
-unicode-interpolation-manual : saidBy doubleQuoted (bytes "u{$a}\"") ≡ Wrong
+unicode-interpolation-manual : saidBy doubleQuoted (bytes "u{$a}\"") ≡ Means (bytes "\\") 0
 unfolding saidBy doubleQuoted orElse single octal octalOf digitsOf hexadecimal unicode codeOf allDigits digitValue bytes
 unicode-interpolation-manual = refl
+
+-- so is `\u{` without a digit or without a brace right after its digits; to the manual it is text, and in PHP it is an error
+unmatched-unicode :
+    (textAt Mode.Double [] true 0 (bytes "\\u{\"") ≡ Refused 2 3)
+    × (textAt Mode.Double [] true 0 (bytes "\\u{}\"") ≡ Refused 2 3)
+    × (textAt Mode.Double [] true 0 (bytes "\\u{z\"") ≡ Refused 2 3)
+    × (textAt Mode.Double [] true 0 (bytes "\\u{41\"") ≡ Refused 2 5)
+unfolding textAt finished collected taken unitAt escape letterValue braced codePoint digitValue bytes
+unmatched-unicode = (refl, refl, refl, refl)
+
+unmatched-unicode-manual :
+    (saidBy doubleQuoted (bytes "u{\"") ≡ Means (bytes "\\") 0)
+    × (saidBy doubleQuoted (bytes "u{}\"") ≡ Means (bytes "\\") 0)
+    × (saidBy doubleQuoted (bytes "u{z\"") ≡ Means (bytes "\\") 0)
+    × (saidBy doubleQuoted (bytes "u{41\"") ≡ Means (bytes "\\") 0)
+unfolding saidBy doubleQuoted orElse single octal octalOf digitsOf hexadecimal unicode codeOf allDigits digitValue bytes
+unmatched-unicode-manual = (refl, refl, refl, refl)
 
 -- ---- breaks
 

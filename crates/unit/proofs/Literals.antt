@@ -1,13 +1,16 @@
--- The value of a literal that is read up to its quote is the manual's, in single and in double quotes. (A double-quoted one that meets an
--- interpolation, or an octal number over 255, is not read up to its quote.) Assumes nothing.
+-- A literal in quotes is read as the manual tells it, both ways: closed, with its value and its place, or not closed. Assumes nothing.
+--   single-whole       in single quotes, on every text
+--   double-whole       in double quotes, on every text that is ordinary
+--   double-otherwise   on every other the reading ends at the first other place: at a variable, or refused with 2 or 3
 --   single-manual, double-manual   where `textAt` ends at the quote, `literal` gives the same value and the same place
-use Prim.Native.Nat.{ℕ, zero, suc, _-_}
+use Prim.Native.Nat.{ℕ, zero, suc, _+_, _-_}
 use Prim.Native.Char.{Char, code}
-use mathlib.Core.Path.{_≡_, refl, sym}
-use mathlib.Core.Bool.{Bool, true, false, _||_}
+use mathlib.Core.Path.{_≡_, refl, sym, ap, subst, _∙_}
+use mathlib.Core.Bool.{Bool, true, false, not, _&&_, _||_}
 use mathlib.Core.List.{List, [], _∷_}
 use native.Mathlib.Omega.{arith}
-use lib.Dec.{ltb}
+use lib.Dec.{eqb, ltb}
+use lib.ListN.{length}
 use borrow.Author.Tests.{eqb-true, ltb-true, ltb-false}
 use Rattle.byte.specs.Words.{if_then_else_, _is_}
 use Rattle.byte.specs.Bytes.{isStart}
@@ -17,12 +20,38 @@ use Rattle.unit.specs.declared.Stop.{Stop}
 use Rattle.unit.specs.declared.TextUnit.{TextUnit}
 use Rattle.unit.specs.Digits.{utf8}
 use Rattle.unit.specs.Escapes.{escape, quoteEscape}
-use Rattle.unit.specs.Interpolations.{findDollar, findBrace}
+use Rattle.unit.specs.Interpolations.{found, findDollar, findBrace}
 use Rattle.unit.specs.Units.{unitAt}
 use Rattle.unit.specs.Readings.{Reading, Text, Refused, Wait, onto, taken, afterOf, collected, losesBreak, finished, textAt}
-use Rattle.unit.specs.Manual.{Said, Means, Wrong, Nothing, Literal, Closed, before, meant, takenOf, literal, orElse, saidBy, says, doubleQuoted, singleQuoted, digitsOf, number}
+use Rattle.unit.specs.Manual.{Said, Means, Open, Nothing, isOpen, Literal, Closed, Unsaid, Unclosed, before, meant, takenOf}
+use Rattle.unit.specs.Manual.{literal, orElse, saidBy, says, doubleQuoted, singleQuoted, digitsOf, number, unmatched}
+use Rattle.unit.specs.Manual.{isVariable, isAgreed, firstOther, isOrdinary, readingOf, EndsAt}
 use Rattle.unit.proofs.Stays.{clash}
-use Rattle.unit.proofs.Manual.{escape-manual, escape-overflow, quoteEscape-manual}
+use Rattle.unit.proofs.Manual.{escape-manual, escape-overflow, escape-unmatched, escape-open, quoteEscape-manual, single-open}
+
+-- a reading of a text with this first other place: the manual's literal where there is none
+abbrev Whole : ℕ → Literal → List ℕ → Reading → Type 0
+Whole hi l [] r = r ≡ readingOf hi l
+Whole hi l (b ∷ rest) r = EndsAt hi (b ∷ rest) r
+
+before-onto : (hi : ℕ) (vs : List ℕ) (l : Literal) → onto vs (readingOf hi l) ≡ readingOf hi (before vs l)
+unfolding readingOf onto before
+before-onto hi vs (Closed value after) = refl
+before-onto hi vs Unsaid = refl
+before-onto hi vs Unclosed = refl
+
+endsAt-onto : (hi : ℕ) (vs ys : List ℕ) (r : Reading) → EndsAt hi ys r → EndsAt hi ys (onto vs r)
+unfolding onto
+endsAt-onto hi vs _ _ (EndsAt.variable h) = EndsAt.variable h
+endsAt-onto hi vs _ _ (EndsAt.overflow s h) = EndsAt.overflow s h
+endsAt-onto hi vs _ _ (EndsAt.unmatchedCode s h) = EndsAt.unmatchedCode s h
+endsAt-onto hi vs _ _ (EndsAt.noCodePoint s h) = EndsAt.noCodePoint s h
+
+-- bytes before what is read, and before the literal that it is
+whole-onto : (hi : ℕ) (vs : List ℕ) (l : Literal) (ys : List ℕ) (r : Reading) → Whole hi l ys r
+    → Whole hi (before vs l) ys (onto vs r)
+whole-onto hi vs l [] r e = ap (onto vs) e ∙ before-onto hi vs l
+whole-onto hi vs l (b ∷ rest) r e = endsAt-onto hi vs (b ∷ rest) r e
 
 -- a table always says something
 saidBy-told : (table : List (List ℕ → Said)) (xs : List ℕ) → saidBy table xs ≡ Nothing → ⊥
@@ -32,117 +61,254 @@ saidBy-told (entry ∷ entries) xs e = go (entry xs) (saidBy-told entries xs) e
   where
     go : (s : Said) → (saidBy entries xs ≡ Nothing → ⊥) → orElse s (saidBy entries xs) ≡ Nothing → ⊥
     go (Means vs k) ih e = clash cc
-    go Wrong ih e = clash cc
+    go Open ih e = clash cc
     go Nothing ih e = ih e
 
--- what a unit is to a literal: its quote, what the table says, a byte, or no text up to a quote
-data Agrees (table : List (List ℕ → Said)) (quote : Char) (n b : ℕ) (rest : List ℕ) : TextUnit → Type 0 where
-  closes : b is quote ≡ true → Agrees table quote n b rest (TextUnit.Ends Stop.Quote n (suc n))
-  escapes : {u : TextUnit} → b is quote ≡ false → b is "\\" ≡ true → says (suc n) u ≡ saidBy table rest → Agrees table quote n b rest u
-  plain : b is quote ≡ false → b is "\\" ≡ false → Agrees table quote n b rest (TextUnit.Byte b (suc n))
-  stops : {from after : ℕ} → Agrees table quote n b rest (TextUnit.Ends Stop.Interpolation from after)
-  faults : {number place : ℕ} → Agrees table quote n b rest (TextUnit.Fault number place)
-
--- bytes before what is read, and before the literal that it is
-later : (vs : List ℕ) (r : Reading) (l : Literal) (value : List ℕ) (from after : ℕ)
-    → ((v : List ℕ) (f a : ℕ) → r ≡ Text v Stop.Quote f a → l ≡ Closed v a)
-    → onto vs r ≡ Text value Stop.Quote from after → before vs l ≡ Closed value after
-unfolding onto before
-later vs (Text v stop f a) l value from after ih e =
-    let q : stop ≡ Stop.Quote = cc in
-    rw (ih v f a (rw q)) (cc)
-later vs (Refused number place) l value from after ih e = clash cc
-later vs Wait l value from after ih e = clash cc
-
-module _ (m : Mode) (table : List (List ℕ → Said)) (quote : Char) (agrees : (n b : ℕ) (rest : List ℕ) → Agrees table quote n b rest (unitAt m [] true n b rest)) where
-  literal-read : (skip n : ℕ) (xs value : List ℕ) (from after : ℕ) → collected m [] true skip n xs ≡ Text value Stop.Quote from after
-      → literal table quote skip n xs ≡ Closed value after
-  unfolding collected literal taken afterOf says meant takenOf
-  literal-read skip n [] value from after e = clash cc
-  literal-read (suc k) n (b ∷ rest) value from after e = literal-read k (suc n) rest value from after e
-  literal-read zero n (b ∷ rest) value from after e =
-      go (unitAt m [] true n b rest) (agrees n b rest) (λ k v f a. literal-read k (suc n) rest v f a) e
-    where
-      escaped : (u : TextUnit) → says (suc n) u ≡ saidBy table rest
-          → ((k : ℕ) (v : List ℕ) (f a : ℕ) → collected m [] true k (suc n) rest ≡ Text v Stop.Quote f a → literal table quote k (suc n) rest ≡ Closed v a)
-          → taken u (collected m [] true (afterOf u - suc n) (suc n) rest) ≡ Text value Stop.Quote from after
-          → meant (saidBy table rest) (literal table quote (takenOf (saidBy table rest)) (suc n) rest) ≡ Closed value after
-      escaped (TextUnit.Byte v a) h ih e = rw (← h) (later (v ∷ []) _ _ value from after (ih (a - suc n)) e)
-      escaped (TextUnit.Point c a) h ih e = rw (← h) (later (utf8 c) _ _ value from after (ih (a - suc n)) e)
-      escaped (TextUnit.Ends stop f a) h ih e = absurd (saidBy-told table rest (sym h))
-      escaped (TextUnit.Fault number place) h ih e = clash cc
-      escaped TextUnit.Undecided h ih e = clash cc
-
-      go : (u : TextUnit) → Agrees table quote n b rest u
-          → ((k : ℕ) (v : List ℕ) (f a : ℕ) → collected m [] true k (suc n) rest ≡ Text v Stop.Quote f a → literal table quote k (suc n) rest ≡ Closed v a)
-          → taken u (collected m [] true (afterOf u - suc n) (suc n) rest) ≡ Text value Stop.Quote from after
-          → (if b is quote then Closed [] (suc n)
-          else if b is "\\" then meant (saidBy table rest) (literal table quote (takenOf (saidBy table rest)) (suc n) rest)
-          else before (b ∷ []) (literal table quote zero (suc n) rest))
-          ≡ Closed value after
-      go _ (closes h) ih e = rw h (cc)
-      go u (escapes h s said) ih e = rw (h, s) (escaped u said ih e)
-      go _ (plain h s) ih e =
-          let z : suc n - suc n ≡ 0 = omega arith in
-          rw (h, s) (later (b ∷ []) _ _ value from after (ih 0) (rw z at e))
-      go _ stops ih e = clash cc
-      go _ faults ih e = clash cc
-
-single-agrees : (n b : ℕ) (rest : List ℕ) → Agrees singleQuoted "'" n b rest (unitAt Mode.Single [] true n b rest)
-unfolding unitAt
-single-agrees n b rest = go (b is "'") (b is "\\") refl refl
+-- after a backslash at n: a unit that says what the table says, and the literal after it; t k is the first other place after k bytes
+module _ (m : Mode) (table : List (List ℕ → Said)) (quote : Char) (hi n : ℕ) (rest : List ℕ) (t : ℕ → List ℕ)
+    (ih : (k : ℕ) → Whole hi (literal table quote k (suc n) rest) (t k) (collected m [] true k (suc n) rest))
   where
-    go : (t s : Bool) → b is "'" ≡ t → b is "\\" ≡ s
-        → Agrees singleQuoted "'" n b rest
-        (if t then TextUnit.Ends Stop.Quote n (suc n) else if s then quoteEscape true (suc n) rest else TextUnit.Byte b (suc n))
-    go true s e f = closes e
-    go false true e f = escapes e f (quoteEscape-manual (suc n) rest)
-    go false false e f = plain e f
+    whole-escape : (u : TextUnit) → says (suc n) u ≡ saidBy table rest → isOpen (saidBy table rest) ≡ false
+        → Whole hi (meant (saidBy table rest) (literal table quote (takenOf (saidBy table rest)) (suc n) rest))
+        (t (takenOf (saidBy table rest)))
+        (taken u (collected m [] true (afterOf u - suc n) (suc n) rest))
+    unfolding taken afterOf says meant takenOf isOpen
+    whole-escape (TextUnit.Byte v a) h o = rw (← h) (whole-onto hi (v ∷ []) _ (t (a - suc n)) _ (ih (a - suc n)))
+    whole-escape (TextUnit.Point c a) h o = rw (← h) (whole-onto hi (utf8 c) _ (t (a - suc n)) _ (ih (a - suc n)))
+    whole-escape (TextUnit.Ends stop from after) h o = absurd (saidBy-told table rest (sym h))
+    whole-escape (TextUnit.Fault number place) h o = clash cc
+    whole-escape TextUnit.Undecided h o = absurd (saidBy-told table rest (sym h))
 
-double-agrees : (n b : ℕ) (rest : List ℕ) → Agrees doubleQuoted "\"" n b rest (unitAt Mode.Double [] true n b rest)
-unfolding unitAt findDollar findBrace
-double-agrees n b rest = go (b is "\"") (b is "\\") (b is "$") (b is "{") refl refl refl refl
+    -- a byte that stands for itself
+    whole-byte : (b : ℕ)
+        → Whole hi (before (b ∷ []) (literal table quote zero (suc n) rest)) (t zero)
+        (onto (b ∷ []) (collected m [] true (suc n - suc n) (suc n) rest))
+    whole-byte b =
+        let z : suc n - suc n ≡ 0 = omega arith in
+        rw z (whole-onto hi (b ∷ []) _ (t zero) _ (ih zero))
+
+-- the closing quote at n
+whole-quote : (n hi : ℕ) → Text [] Stop.Quote n (suc n) ≡ readingOf hi (Closed [] (suc n))
+unfolding readingOf
+whole-quote n hi =
+    let one : suc n - 1 ≡ n = omega arith in
+    ap (λ (k : ℕ). Text [] Stop.Quote k (suc n)) (sym one)
+
+-- ---- single quotes
+
+orElse-closed : (s other : Said) → isOpen s ≡ false → isOpen other ≡ false → isOpen (orElse s other) ≡ false
+unfolding orElse isOpen
+orElse-closed (Means vs k) other h e = refl
+orElse-closed Open other h e = h
+orElse-closed Nothing other h e = e
+
+singleQuoted-closed : (xs : List ℕ) → isOpen (saidBy singleQuoted xs) ≡ false
+unfolding saidBy singleQuoted isOpen
+singleQuoted-closed xs = orElse-closed _ _ (single-open "'" "'" xs) (orElse-closed _ _ (single-open "\\" "\\" xs) refl)
+
+single-collected : (skip n : ℕ) (xs : List ℕ)
+    → collected Mode.Single [] true skip n xs ≡ readingOf (n + length xs) (literal singleQuoted "'" skip n xs)
+unfolding collected literal unitAt taken afterOf readingOf
+single-collected skip n [] = ap (Refused 1) (omega arith)
+single-collected (suc k) n (b ∷ xs) =
+    let z : suc n + length xs ≡ n + suc (length xs) = omega arith in
+    rw (← z) (single-collected k (suc n) xs)
+single-collected zero n (b ∷ xs) =
+    let z : suc n + length xs ≡ n + suc (length xs) = omega arith in
+    go (b is "'") (b is "\\") (λ k. rw (← z) (single-collected k (suc n) xs))
   where
-    escaped : b is "\"" ≡ false → b is "\\" ≡ true → (t : Bool) → ltb (number 8 0 (digitsOf 8 3 rest)) 256 ≡ t
-        → Agrees doubleQuoted "\"" n b rest (escape true (suc n) rest)
-    escaped e f true h = escapes e f (escape-manual (suc n) rest (ltb-true _ _ h))
-    escaped e f false h = rw (escape-overflow (suc n) rest (ltb-false _ _ h)) faults
+    hi : ℕ
+    hi = n + suc (length xs)
 
-    dollar : b is "\"" ≡ false → b is "\\" ≡ false → b is "$" ≡ true → (rest′ : List ℕ)
-        → Agrees doubleQuoted "\"" n b rest (findDollar true n rest′)
-    dollar e f g [] = rw (← eqb-true b (code "$") g) (plain e f)
-    dollar e f g (c ∷ rest′) = choice (Agrees doubleQuoted "\"" n b rest) (c is "{" || isStart c) _ _ (λ h. stops) (λ h. rw (← eqb-true b (code "$") g) (plain e f))
+    go : (t s : Bool)
+        → ((k : ℕ) → collected Mode.Single [] true k (suc n) xs ≡ readingOf hi (literal singleQuoted "'" k (suc n) xs))
+        → taken (if t then TextUnit.Ends Stop.Quote n (suc n) else if s then quoteEscape true (suc n) xs else TextUnit.Byte b (suc n))
+        (collected Mode.Single [] true
+        (afterOf (if t then TextUnit.Ends Stop.Quote n (suc n) else if s then quoteEscape true (suc n) xs else TextUnit.Byte b (suc n)) - suc n)
+        (suc n) xs)
+        ≡ readingOf hi
+        (if t then Closed [] (suc n)
+        else if s then meant (saidBy singleQuoted xs) (literal singleQuoted "'" (takenOf (saidBy singleQuoted xs)) (suc n) xs)
+        else before (b ∷ []) (literal singleQuoted "'" zero (suc n) xs))
+    go true s ih = whole-quote n hi
+    go false true ih =
+        whole-escape Mode.Single singleQuoted "'" hi n xs (λ k. []) ih (quoteEscape true (suc n) xs) (quoteEscape-manual (suc n) xs)
+        (singleQuoted-closed xs)
+    go false false ih = whole-byte Mode.Single singleQuoted "'" hi n xs (λ k. []) ih b
 
-    brace : b is "\"" ≡ false → b is "\\" ≡ false → b is "{" ≡ true → (rest′ : List ℕ)
-        → Agrees doubleQuoted "\"" n b rest (findBrace true n rest′)
-    brace e f g [] = rw (← eqb-true b (code "{") g) (plain e f)
-    brace e f g (c ∷ rest′) = choice (Agrees doubleQuoted "\"" n b rest) (c is "$") _ _ (λ h. stops) (λ h. rw (← eqb-true b (code "{") g) (plain e f))
+single-finished : (r : Reading) → finished Mode.Single r ≡ r
+unfolding finished losesBreak
+single-finished (Text value stop from after) = refl
+single-finished (Refused number place) = refl
+single-finished Wait = refl
 
-    go : (t s d o : Bool) → b is "\"" ≡ t → b is "\\" ≡ s → b is "$" ≡ d → b is "{" ≡ o
-        → Agrees doubleQuoted "\"" n b rest
-        (if t then TextUnit.Ends Stop.Quote n (suc n) else if s then escape true (suc n) rest else if d then findDollar true n rest
-        else if o then findBrace true n rest else TextUnit.Byte b (suc n))
-    go true s d o e f g h = closes e
-    go false true d o e f g h = escaped e f _ refl
-    go false false true o e f g h = dollar e f g rest
-    go false false false true e f g h = brace e f h rest
-    go false false false false e f g h = plain e f
+pub single-whole : (n : ℕ) (xs : List ℕ)
+    → textAt Mode.Single [] true n xs ≡ readingOf (n + length xs) (literal singleQuoted "'" 0 n xs)
+unfolding textAt
+single-whole n xs = single-finished _ ∙ single-collected 0 n xs
 
--- what `finished` leaves of a literal is the literal
-literal-finished : (m : Mode) (r : Reading) (value : List ℕ) (from after : ℕ) → losesBreak m Stop.Quote ≡ false → finished m r ≡ Text value Stop.Quote from after → r ≡ Text value Stop.Quote from after
-unfolding finished
-literal-finished m (Text v stop f a) value from after k e =
-    let q : stop ≡ Stop.Quote = cc in
-    rw q (rw (q, k) at e)
-literal-finished m (Refused number place) value from after k e = e
-literal-finished m Wait value from after k e = e
+-- ---- double quotes
+
+-- what is neither quote nor backslash begins a variable, or stands for itself
+dollar-unit : (n b : ℕ) (xs : List ℕ) → b ≡ code "$"
+    → findDollar true n xs ≡ (if isVariable b xs then found n else TextUnit.Byte b (suc n))
+unfolding findDollar isVariable
+dollar-unit n b [] e = rw e
+dollar-unit n b (c ∷ xs) e = rw e (go (c is "{" || isStart c))
+  where
+    go : (t : Bool) → (if t then found n else TextUnit.Byte (code "$") (suc n))
+        ≡ (if t || false then found n else TextUnit.Byte (code "$") (suc n))
+    go true = refl
+    go false = refl
+
+brace-unit : (n b : ℕ) (xs : List ℕ) → b ≡ code "{"
+    → findBrace true n xs ≡ (if isVariable b xs then found n else TextUnit.Byte b (suc n))
+unfolding findBrace isVariable
+brace-unit n b [] e = rw e
+brace-unit n b (c ∷ xs) e = rw e
+
+no-variable : (b : ℕ) (xs : List ℕ) → b is "$" ≡ false → b is "{" ≡ false → isVariable b xs ≡ false
+unfolding isVariable
+no-variable b [] d o = refl
+no-variable b (c ∷ xs) d o = rw (d, o)
+
+variable-unit : (n b : ℕ) (xs : List ℕ)
+    → (if b is "$" then findDollar true n xs else if b is "{" then findBrace true n xs else TextUnit.Byte b (suc n))
+    ≡ (if isVariable b xs then found n else TextUnit.Byte b (suc n))
+variable-unit n b xs =
+    choice (λ u. u ≡ unit) (b is "$") _ _
+    (λ d. dollar-unit n b xs (eqb-true b (code "$") d))
+    (λ d. choice (λ u. u ≡ unit) (b is "{") _ _
+    (λ o. brace-unit n b xs (eqb-true b (code "{") o))
+    (λ o. rw (no-variable b xs d o)))
+  where
+    unit : TextUnit
+    unit = if isVariable b xs then found n else TextUnit.Byte b (suc n)
+
+-- a backslash at n
+module _ (hi n b : ℕ) (rest : List ℕ) (s : b is "\\" ≡ true) (z : hi ≡ n + suc (length rest))
+    (ih : (k : ℕ) → Whole hi (literal doubleQuoted "\"" k (suc n) rest) (firstOther k rest) (collected Mode.Double [] true k (suc n) rest))
+  where
+    abbrev Escaped : Bool → TextUnit → Type 0
+    Escaped t u =
+        Whole hi (meant (saidBy doubleQuoted rest) (literal doubleQuoted "\"" (takenOf (saidBy doubleQuoted rest)) (suc n) rest))
+        (if t then firstOther (takenOf (saidBy doubleQuoted rest)) rest else b ∷ rest)
+        (taken u (collected Mode.Double [] true (afterOf u - suc n) (suc n) rest))
+
+    double-escape : Escaped (isAgreed rest) (escape true (suc n) rest)
+    unfolding isAgreed taken afterOf isOpen
+    double-escape = go _ _ (saidBy doubleQuoted rest) refl refl refl
+      where
+        after : suc n ≡ hi - length rest
+        after = omega (arith, z)
+
+        go : (f m : Bool) (s : Said) → ltb (number 8 0 (digitsOf 8 3 rest)) 256 ≡ f → unmatched rest ≡ m → saidBy doubleQuoted rest ≡ s
+            → Escaped ((f && not m) && not (isOpen s)) (escape true (suc n) rest)
+        go false m _ h u e = rw (escape-overflow (suc n) rest (ltb-false _ _ h), after) (EndsAt.overflow s (ltb-false _ _ h))
+        go true true _ h u e = rw (escape-unmatched (suc n) rest u, after) (EndsAt.unmatchedCode s u)
+        go true false Open h u e = rw (escape-open (suc n) rest e, after) (EndsAt.noCodePoint s e)
+        go true false (Means vs k) h u e =
+            whole-escape Mode.Double doubleQuoted "\"" hi n rest (λ k. firstOther k rest) ih (escape true (suc n) rest)
+            (escape-manual (suc n) rest (ltb-true _ _ h) u)
+            (rw e)
+        go true false Nothing h u e = absurd (saidBy-told doubleQuoted rest e)
+
+double-collected : (skip n : ℕ) (xs : List ℕ)
+    → Whole (n + length xs) (literal doubleQuoted "\"" skip n xs) (firstOther skip xs) (collected Mode.Double [] true skip n xs)
+unfolding collected literal firstOther unitAt taken afterOf readingOf
+double-collected skip n [] = ap (Refused 1) (omega arith)
+double-collected (suc k) n (b ∷ xs) =
+    let z : suc n + length xs ≡ n + suc (length xs) = omega arith in
+    rw (← z) (double-collected k (suc n) xs)
+double-collected zero n (b ∷ xs) =
+    let z : suc n + length xs ≡ n + suc (length xs) = omega arith in
+    rw (variable-unit n b xs)
+    (go (b is "\"") (b is "\\") (isVariable b xs) refl refl (λ k. rw (← z) (double-collected k (suc n) xs)))
+  where
+    hi : ℕ
+    hi = n + suc (length xs)
+
+    unit : Bool → Bool → Bool → TextUnit
+    unit t s v =
+        if t then TextUnit.Ends Stop.Quote n (suc n) else if s then escape true (suc n) xs
+        else if v then found n else TextUnit.Byte b (suc n)
+
+    go : (t s v : Bool) → b is "\\" ≡ s → isVariable b xs ≡ v
+        → ((k : ℕ) → Whole hi (literal doubleQuoted "\"" k (suc n) xs) (firstOther k xs) (collected Mode.Double [] true k (suc n) xs))
+        → Whole hi
+        (if t then Closed [] (suc n)
+        else if s then meant (saidBy doubleQuoted xs) (literal doubleQuoted "\"" (takenOf (saidBy doubleQuoted xs)) (suc n) xs)
+        else before (b ∷ []) (literal doubleQuoted "\"" zero (suc n) xs))
+        (if t then []
+        else if s then (if isAgreed xs then firstOther (takenOf (saidBy doubleQuoted xs)) xs else b ∷ xs)
+        else if v then b ∷ xs
+        else firstOther zero xs)
+        (taken (unit t s v) (collected Mode.Double [] true (afterOf (unit t s v) - suc n) (suc n) xs))
+    go true s v e f ih = whole-quote n hi
+    go false true v e f ih = double-escape hi n b xs e refl ih
+    go false false true e f ih =
+        let here : n ≡ hi - suc (length xs) = omega arith in
+        subst (λ k. EndsAt hi (b ∷ xs) (Text [] Stop.Interpolation k k)) (sym here) (EndsAt.variable f)
+    go false false false e f ih = whole-byte Mode.Double doubleQuoted "\"" hi n xs (λ k. firstOther k xs) ih b
+
+double-finished : (r : Reading) → finished Mode.Double r ≡ r
+unfolding finished losesBreak
+double-finished (Text value stop from after) = refl
+double-finished (Refused number place) = refl
+double-finished Wait = refl
+
+double-text : (n : ℕ) (xs : List ℕ)
+    → Whole (n + length xs) (literal doubleQuoted "\"" 0 n xs) (firstOther 0 xs) (textAt Mode.Double [] true n xs)
+unfolding textAt
+double-text n xs = rw (double-finished (collected Mode.Double [] true 0 n xs)) (double-collected 0 n xs)
+
+pub double-whole : (n : ℕ) (xs : List ℕ) → isOrdinary xs ≡ true
+    → textAt Mode.Double [] true n xs ≡ readingOf (n + length xs) (literal doubleQuoted "\"" 0 n xs)
+unfolding isOrdinary
+double-whole n xs h = go (firstOther 0 xs) h (double-text n xs)
+  where
+    go : (ys : List ℕ) → eqb (length ys) 0 ≡ true
+        → Whole (n + length xs) (literal doubleQuoted "\"" 0 n xs) ys (textAt Mode.Double [] true n xs)
+        → textAt Mode.Double [] true n xs ≡ readingOf (n + length xs) (literal doubleQuoted "\"" 0 n xs)
+    go [] h w = w
+    go (b ∷ rest) h w = absurd (omega (arith, eqb-true (suc (length rest)) 0 h))
+
+pub double-otherwise : (n : ℕ) (xs : List ℕ) → isOrdinary xs ≡ false
+    → EndsAt (n + length xs) (firstOther 0 xs) (textAt Mode.Double [] true n xs)
+unfolding isOrdinary
+double-otherwise n xs h = go (firstOther 0 xs) h (double-text n xs)
+  where
+    go : (ys : List ℕ) → eqb (length ys) 0 ≡ false
+        → Whole (n + length xs) (literal doubleQuoted "\"" 0 n xs) ys (textAt Mode.Double [] true n xs)
+        → EndsAt (n + length xs) ys (textAt Mode.Double [] true n xs)
+    go [] h w = clash cc
+    go (b ∷ rest) h w = w
+
+-- ---- up to the quote
+
+-- what is read as a closed literal is one
+closed-read : (hi : ℕ) (l : Literal) (value : List ℕ) (from after : ℕ) → readingOf hi l ≡ Text value Stop.Quote from after
+    → l ≡ Closed value after
+unfolding readingOf
+closed-read hi (Closed v a) value from after e = cc
+closed-read hi Unsaid value from after e = clash cc
+closed-read hi Unclosed value from after e = clash cc
+
+endsAt-read : (hi : ℕ) (ys : List ℕ) (r : Reading) (value : List ℕ) (from after : ℕ) → EndsAt hi ys r
+    → r ≡ Text value Stop.Quote from after → ⊥
+endsAt-read hi _ _ value from after (EndsAt.variable h) e = clash cc
+endsAt-read hi _ _ value from after (EndsAt.overflow s h) e = clash cc
+endsAt-read hi _ _ value from after (EndsAt.unmatchedCode s h) e = clash cc
+endsAt-read hi _ _ value from after (EndsAt.noCodePoint s h) e = clash cc
 
 pub single-manual : (n : ℕ) (xs value : List ℕ) (from after : ℕ) → textAt Mode.Single [] true n xs ≡ Text value Stop.Quote from after
     → literal singleQuoted "'" 0 n xs ≡ Closed value after
-unfolding textAt losesBreak
-single-manual n xs value from after e = literal-read Mode.Single singleQuoted "'" single-agrees 0 n xs value from after (literal-finished Mode.Single _ value from after refl e)
+single-manual n xs value from after e = closed-read _ _ value from after (sym (single-whole n xs) ∙ e)
 
 pub double-manual : (n : ℕ) (xs value : List ℕ) (from after : ℕ) → textAt Mode.Double [] true n xs ≡ Text value Stop.Quote from after
     → literal doubleQuoted "\"" 0 n xs ≡ Closed value after
-unfolding textAt losesBreak
-double-manual n xs value from after e = literal-read Mode.Double doubleQuoted "\"" double-agrees 0 n xs value from after (literal-finished Mode.Double _ value from after refl e)
+double-manual n xs value from after e = go _ refl
+  where
+    go : (t : Bool) → isOrdinary xs ≡ t → literal doubleQuoted "\"" 0 n xs ≡ Closed value after
+    go true h = closed-read _ _ value from after (sym (double-whole n xs h) ∙ e)
+    go false h = absurd (endsAt-read _ _ _ value from after (double-otherwise n xs h) e)

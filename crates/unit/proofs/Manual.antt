@@ -1,6 +1,8 @@
 -- The reader of escapes says what the PHP manual's tables say:
---   escape-manual        in double quotes, where octal digits write less than 256
+--   escape-manual        in double quotes, where octal digits write less than 256 and a `\u{` is matched
 --   escape-overflow      where they write more, it is refusal 3 after the digits: the manual lets the number overflow
+--   escape-unmatched     where a `\u{` is not matched, it is refusal 2 after its digits: to the manual it is text
+--   escape-open          where the manual does not say what a code point means, it is refusal 2 after its brace
 --   quoteEscape-manual   in single quotes
 -- Digits and code points first, then the tables, entry by entry; `if-both` goes down a reader and an entry at once.
 -- Assumes nothing.
@@ -20,10 +22,11 @@ use Rattle.unit.specs.declared.TextUnit.{TextUnit}
 use Rattle.unit.specs.Digits.{digitValue, isScalar, utf8}
 use Rattle.unit.specs.Escapes.{letters, letterIn, letterValue, fitted, digits, hex, codePoint, braced, escape}
 use Rattle.unit.specs.Escapes.{quoteEscape}
-use Rattle.unit.specs.Manual.{Said, Means, Wrong, Nothing, digitsOf, allDigits, number, single, octalOf, octal}
-use Rattle.unit.specs.Manual.{hexOf, hexadecimal, codeOf, unicode, doubleQuoted, singleQuoted, orElse, saidBy}
+use Rattle.unit.specs.Manual.{Said, Means, Open, Nothing, isOpen, isNothing, digitsOf, allDigits, number, single, octalOf, octal}
+use Rattle.unit.specs.Manual.{hexOf, hexadecimal, codeOf, unicode, unmatched, doubleQuoted, singleQuoted, orElse, saidBy}
 use Rattle.unit.specs.Manual.{says}
 use Rattle.unit.proofs.Openings.{other-byte}
+use Rattle.unit.proofs.Stays.{clash}
 
 -- two choices by one test
 if-both : {A B : Type 0} (P : A → B → Type 0) (t : Bool) {a a′ : A} {b b′ : B} → (t ≡ true → P a b) → (t ≡ false → P a′ b′)
@@ -83,64 +86,65 @@ hex-fits d (b ∷ xs) h =
 
 -- ---- code points
 
--- one digit or more, with this value, and ds; then these bytes. So many bytes stand between the backslash and ds
-codeFrom : ℕ → ℕ → List ℕ → List ℕ → Said
-codeFrom value taken ds [] = Wrong
-codeFrom value taken ds (b ∷ rest) =
-    if b is "}" && isScalar (number 16 value ds) then Means (utf8 (number 16 value ds)) (taken + suc (length ds)) else Wrong
-
-codeFrom-on : (value taken d : ℕ) (ds rest : List ℕ)
-    → codeFrom (value * 16 + d) (suc taken) ds rest ≡ codeFrom value taken (d ∷ ds) rest
-unfolding codeFrom number
-codeFrom-on value taken d ds [] = refl
-codeFrom-on value taken d ds (b ∷ rest) =
-    let e : suc taken + suc (length ds) ≡ taken + suc (suc (length ds)) = omega arith in
-    rw e
-
-codeFrom-whole : (d : ℕ) (ds rest : List ℕ) → codeFrom (0 * 16 + d) 3 ds rest ≡ codeOf (d ∷ ds) rest
-unfolding codeFrom codeOf number
-codeFrom-whole d ds [] = refl
-codeFrom-whole d ds (b ∷ rest) = refl
-
-codePoint-end : (t s : Bool) (p value n : ℕ)
-    → says p (if t then (if s then TextUnit.Point value (suc n) else TextUnit.Fault 2 (suc n)) else TextUnit.Fault 2 n)
-    ≡ (if t && s then Means (utf8 value) (suc n - p) else Wrong)
-unfolding says
-codePoint-end true true p value n = refl
-codePoint-end true false p value n = refl
-codePoint-end false s p value n = refl
-
 -- what stands after the digits that come first
 abbrev behind : List ℕ → List ℕ
 behind xs = drop (length (allDigits 16 xs)) xs
 
-codePoint-says : (p value n : ℕ) (xs : List ℕ) → p ≤ n
-    → says p (codePoint true true value n xs) ≡ codeFrom value (n - p) (allDigits 16 xs) (behind xs)
-unfolding codePoint allDigits number codeFrom says
-codePoint-says p value n [] h = refl
-codePoint-says p value n (b ∷ xs) h =
-    if-both (λ u ds. says p u ≡ codeFrom value (n - p) ds (drop (length ds) (b ∷ xs))) (ltb (digitValue b) 16)
-    (λ e. codePoint-says p (value * 16 + digitValue b) (suc n) xs (omega arith)
-    ∙ rw next (codeFrom-on value (n - p) (digitValue b) (allDigits 16 xs) (behind xs)))
-    (λ e. codePoint-end (b is "}") (isScalar value) p value n ∙ rw last)
+-- one digit or more, with this value, end before n; then these bytes
+pointFrom : ℕ → ℕ → List ℕ → TextUnit
+pointFrom value n [] = TextUnit.Fault 2 n
+pointFrom value n (b ∷ rest) =
+    if b is "}" then (if isScalar value then TextUnit.Point value (suc n) else TextUnit.Fault 2 (suc n)) else TextUnit.Fault 2 n
+
+-- after `\u{`, whose `u` stands at p: these digits, then these bytes
+pointOf : ℕ → List ℕ → List ℕ → TextUnit
+pointOf p [] rest = TextUnit.Fault 2 (p + 2 + 0)
+pointOf p (d ∷ ds) rest = pointFrom (number 16 0 (d ∷ ds)) (p + 2 + length (d ∷ ds)) rest
+
+codePoint-from : (value n : ℕ) (xs : List ℕ)
+    → codePoint true true value n xs ≡ pointFrom (number 16 value (allDigits 16 xs)) (n + length (allDigits 16 xs)) (behind xs)
+unfolding codePoint allDigits number pointFrom
+codePoint-from value n [] = ap (TextUnit.Fault 2) (omega arith)
+codePoint-from value n (b ∷ xs) =
+    if-both (λ u ds. u ≡ pointFrom (number 16 value ds) (n + length ds) (drop (length ds) (b ∷ xs))) (ltb (digitValue b) 16)
+    (λ e. codePoint-from (value * 16 + digitValue b) (suc n) xs ∙ rw next)
+    (λ e. rw none)
   where
-    next : suc n - p ≡ suc (n - p)
+    next : suc n + length (allDigits 16 xs) ≡ n + suc (length (allDigits 16 xs))
     next = omega arith
 
-    last : suc n - p ≡ n - p + 1
-    last = omega arith
+    none : n + 0 ≡ n
+    none = omega arith
 
-codePoint-whole : (p : ℕ) (xs : List ℕ)
-    → says p (codePoint true false 0 (suc (suc p)) xs) ≡ codeOf (allDigits 16 xs) (behind xs)
-unfolding codePoint allDigits codeOf says
-codePoint-whole p [] = refl
-codePoint-whole p (b ∷ xs) =
-    if-both (λ u ds. says p u ≡ codeOf ds (drop (length ds) (b ∷ xs))) (ltb (digitValue b) 16)
-    (λ e. codePoint-says p (0 * 16 + digitValue b) (suc (suc (suc p))) xs (omega arith)
-    ∙ rw three (codeFrom-whole (digitValue b) (allDigits 16 xs) (behind xs)))
-    (λ e. refl)
+codePoint-of : (p : ℕ) (xs : List ℕ) → codePoint true false 0 (suc (suc p)) xs ≡ pointOf p (allDigits 16 xs) (behind xs)
+unfolding codePoint allDigits number pointOf
+codePoint-of p [] = ap (TextUnit.Fault 2) (omega arith)
+codePoint-of p (b ∷ xs) =
+    if-both (λ u ds. u ≡ pointOf p ds (drop (length ds) (b ∷ xs))) (ltb (digitValue b) 16)
+    (λ e. codePoint-from (0 * 16 + digitValue b) (suc (suc (suc p))) xs ∙ rw next)
+    (λ e. ap (TextUnit.Fault 2) (omega arith))
   where
-    three : suc (suc (suc p)) - p ≡ 3
+    next : suc (suc (suc p)) + length (allDigits 16 xs) ≡ p + 2 + suc (length (allDigits 16 xs))
+    next = omega arith
+
+-- what the unit is, by what the entry says
+record Told (p : ℕ) (ds : List ℕ) (u : TextUnit) (s : Said) : Type 0 where
+  means : isNothing s ≡ false → says p u ≡ s
+  other : isNothing s ≡ true → u ≡ TextUnit.Fault 2 (p + 2 + length ds)
+  unsaid : s ≡ Open → u ≡ TextUnit.Fault 2 (p + 3 + length ds)
+
+point-told : (p : ℕ) (ds rest : List ℕ) → Told p ds (pointOf p ds rest) (codeOf ds rest)
+unfolding pointOf pointFrom codeOf isNothing says
+point-told p [] rest = record { means = λ e. clash cc; other = λ e. refl; unsaid = λ e. clash cc }
+point-told p (d ∷ ds) [] = record { means = λ e. clash cc; other = λ e. refl; unsaid = λ e. clash cc }
+point-told p (d ∷ ds) (b ∷ rest) =
+    if-both (Told p (d ∷ ds)) (b is "}")
+    (λ e. if-both (Told p (d ∷ ds)) (isScalar (number 16 0 (d ∷ ds)))
+    (λ f. record { means = λ h. ap (Means (utf8 (number 16 0 (d ∷ ds)))) three; other = λ h. clash cc; unsaid = λ h. clash cc })
+    (λ f. record { means = λ h. refl; other = λ h. clash cc; unsaid = λ h. ap (TextUnit.Fault 2) (omega arith) }))
+    (λ e. record { means = λ h. clash cc; other = λ h. refl; unsaid = λ h. clash cc })
+  where
+    three : suc (p + 2 + length (d ∷ ds)) - p ≡ 3 + length (d ∷ ds)
     three = omega arith
 
 -- ---- the entries
@@ -173,28 +177,28 @@ unfolding unicode
 unicode-other b [] h = refl
 unicode-other b (c ∷ xs) h = rw h
 
-codeOf-else : (ds rest : List ℕ) (s : Said) → codeOf ds rest ≡ orElse (codeOf ds rest) s
-unfolding codeOf orElse
-codeOf-else [] rest s = refl
-codeOf-else (d ∷ ds) [] s = refl
-codeOf-else (d ∷ ds) (b ∷ rest) s =
-    choice (λ x. x ≡ orElse x s) (b is "}" && isScalar (number 16 0 (d ∷ ds)))
-    (Means (utf8 (number 16 0 (d ∷ ds))) (3 + length (d ∷ ds)))
-    Wrong
-    (λ e. refl)
-    (λ e. refl)
+orElse-said : (s other : Said) → isNothing s ≡ false → orElse s other ≡ s
+unfolding orElse isNothing
+orElse-said (Means vs k) other e = refl
+orElse-said Open other e = refl
+orElse-said Nothing other e = clash cc
 
-braced-says : (p b : ℕ) (xs : List ℕ) → b is "u" ≡ true → says p (braced true p xs) ≡ orElse (unicode (b ∷ xs)) itself
-unfolding braced unicode orElse
-braced-says p b [] h = backslash-says p
-braced-says p b (c ∷ xs) h =
-    rw h
-    (if-both (λ u s. says p u ≡ orElse s itself) (c is "{")
-    (λ e. codePoint-whole p xs ∙ codeOf-else (allDigits 16 xs) _ itself)
-    (λ e. backslash-says p))
+braced-says : (p b : ℕ) (xs : List ℕ) → b is "u" ≡ true → unmatched (b ∷ xs) ≡ false
+    → says p (braced true p xs) ≡ orElse (unicode (b ∷ xs)) itself
+unfolding braced unicode unmatched orElse
+braced-says p b [] h m = backslash-says p
+braced-says p b (c ∷ xs) h m = rw h (go (c is "{") (rw h at m))
+  where
+    go : (t : Bool) → (t && isNothing (if t then codeOf (allDigits 16 xs) (behind xs) else Nothing)) ≡ false
+        → says p (if t then codePoint true false 0 (suc (suc p)) xs else TextUnit.Byte (code "\\") p)
+        ≡ orElse (if t then codeOf (allDigits 16 xs) (behind xs) else Nothing) itself
+    go true e =
+        rw (codePoint-of p xs, orElse-said (codeOf (allDigits 16 xs) (behind xs)) itself e)
+        (point-told p (allDigits 16 xs) (behind xs) .means e)
+    go false e = backslash-says p
 
 -- after the letters
-numbers-say : (p b : ℕ) (xs : List ℕ) → number 8 0 (digitsOf 8 3 (b ∷ xs)) < 256
+numbers-say : (p b : ℕ) (xs : List ℕ) → unmatched (b ∷ xs) ≡ false → number 8 0 (digitsOf 8 3 (b ∷ xs)) < 256
     → says p
     (if ltb (digitValue b) 8 then digits true 8 2 (digitValue b) (suc p) xs
     else if b is "x" then hex true p xs
@@ -202,14 +206,14 @@ numbers-say : (p b : ℕ) (xs : List ℕ) → number 8 0 (digitsOf 8 3 (b ∷ xs
     else TextUnit.Byte (code "\\") p)
     ≡ orElse (octal (b ∷ xs)) (orElse (hexadecimal (b ∷ xs)) (orElse (unicode (b ∷ xs)) itself))
 unfolding octal octalOf digitsOf hexadecimal orElse number
-numbers-say p b xs =
+numbers-say p b xs m =
     if-both (λ u ds. number 8 0 ds < 256 → says p u ≡ orElse (octalOf ds) (orElse (hexadecimal (b ∷ xs)) last))
     (ltb (digitValue b) 8)
     (λ e h. written h)
     (λ e h. if-both (λ u s. says p u ≡ orElse s last) (b is "x")
     (λ f. rw (unicode-other b xs (no-u f)) (hex-says p xs))
     (λ f. choice (λ u. says p u ≡ last) (b is "u") _ _
-    (braced-says p b xs)
+    (λ g. braced-says p b xs g m)
     (λ g. rw (unicode-other b xs g) (backslash-says p))))
   where
     last : Said
@@ -254,11 +258,11 @@ letters-say (row ∷ rows) entries p b xs u h e =
 
 -- ---- the tables
 
-pub escape-manual : (p : ℕ) (xs : List ℕ) → number 8 0 (digitsOf 8 3 xs) < 256
+pub escape-manual : (p : ℕ) (xs : List ℕ) → number 8 0 (digitsOf 8 3 xs) < 256 → unmatched xs ≡ false
     → says p (escape true p xs) ≡ saidBy doubleQuoted xs
 unfolding escape letterValue saidBy doubleQuoted singles single octal octalOf digitsOf hexadecimal unicode orElse every
-escape-manual p [] h = backslash-says p
-escape-manual p (b ∷ xs) h = letters-say letters (octal ∷ hexadecimal ∷ unicode ∷ []) p b xs _ refl (numbers-say p b xs h)
+escape-manual p [] h m = backslash-says p
+escape-manual p (b ∷ xs) h m = letters-say letters (octal ∷ hexadecimal ∷ unicode ∷ []) p b xs _ refl (numbers-say p b xs m h)
 
 -- an octal digit is none of the letters
 letterIn-other : (test : ℕ → Bool) (b : ℕ) → test b ≡ true → (rows : List (Char × Char))
@@ -289,6 +293,95 @@ escape-overflow p (b ∷ xs) h = go (ltb (digitValue b) 8) refl h
         rw (letterIn-other (λ x. ltb (digitValue x) 8) b e letters refl)
         (digits-overflows 8 2 (digitValue b) (suc p) xs (omega arith) ∙ ap (TextUnit.Fault 3) (omega arith))
     go false e k = absurd (omega arith)
+
+-- ---- code points that the reader refuses
+
+-- after `u`
+escape-braced : (p b : ℕ) (xs : List ℕ) → b is "u" ≡ true → escape true p (b ∷ xs) ≡ braced true p xs
+unfolding escape letterValue digitValue
+escape-braced p b xs h =
+    let z : b ≡ code "u" = eqb-true b (code "u") h in
+    rw z
+
+-- after `u{`
+escape-point : (p b c : ℕ) (xs : List ℕ) → (b is "u" && c is "{") ≡ true
+    → escape true p (b ∷ c ∷ xs) ≡ pointOf p (allDigits 16 xs) (behind xs)
+unfolding braced
+escape-point p b c xs h =
+    escape-braced p b (c ∷ xs) (&&-left (b is "u") (c is "{") h) ∙ rw (&&-right (b is "u") (c is "{") h) (codePoint-of p xs)
+
+pub escape-unmatched : (p : ℕ) (xs : List ℕ) → unmatched xs ≡ true
+    → escape true p xs ≡ TextUnit.Fault 2 (p + 2 + length (allDigits 16 (drop 2 xs)))
+unfolding unmatched unicode
+escape-unmatched p [] m = clash cc
+escape-unmatched p (b ∷ []) m = clash cc
+escape-unmatched p (b ∷ c ∷ xs) m =
+    let h = &&-left (b is "u" && c is "{") _ m in
+    let e : isNothing (codeOf (allDigits 16 xs) (behind xs)) ≡ true = rw h at m in
+    escape-point p b c xs h ∙ point-told p (allDigits 16 xs) (behind xs) .other e
+
+-- the other entries leave nothing open
+pub single-open : (letter byte : Char) (xs : List ℕ) → isOpen (single letter byte xs) ≡ false
+unfolding single isOpen
+single-open letter byte [] = refl
+single-open letter byte (b ∷ xs) = choice (λ s. isOpen s ≡ false) (b is letter) _ _ (λ e. refl) (λ e. refl)
+
+octal-open : (ds : List ℕ) → isOpen (octalOf ds) ≡ false
+unfolding octalOf isOpen
+octal-open [] = refl
+octal-open (d ∷ ds) = refl
+
+hexOf-open : (ds : List ℕ) → isOpen (hexOf ds) ≡ false
+unfolding hexOf isOpen
+hexOf-open [] = refl
+hexOf-open (d ∷ ds) = refl
+
+hexadecimal-open : (xs : List ℕ) → isOpen (hexadecimal xs) ≡ false
+unfolding hexadecimal isOpen
+hexadecimal-open [] = refl
+hexadecimal-open (b ∷ xs) = choice (λ s. isOpen s ≡ false) (b is "x") _ _ (λ e. hexOf-open (digitsOf 16 2 xs)) (λ e. refl)
+
+orElse-open : (s other : Said) → isOpen s ≡ false → orElse s other ≡ Open → other ≡ Open
+unfolding orElse isOpen
+orElse-open (Means vs k) other h e = clash cc
+orElse-open Open other h e = clash cc
+orElse-open Nothing other h e = e
+
+singles-open : (rows : List (Char × Char)) (entries : List (List ℕ → Said)) (xs : List ℕ)
+    → saidBy (singles rows entries) xs ≡ Open → saidBy entries xs ≡ Open
+unfolding singles saidBy
+singles-open [] entries xs e = e
+singles-open (row ∷ rows) entries xs e =
+    singles-open rows entries xs (orElse-open _ _ (single-open (row .0) (row .1) xs) e)
+
+itself-open : (s : Said) → orElse s itself ≡ Open → s ≡ Open
+unfolding orElse
+itself-open (Means vs k) e = clash cc
+itself-open Open e = refl
+itself-open Nothing e = clash cc
+
+unicode-open : (xs : List ℕ) → saidBy doubleQuoted xs ≡ Open → unicode xs ≡ Open
+unfolding saidBy doubleQuoted singles octal
+unicode-open xs e =
+    itself-open (unicode xs)
+    (orElse-open _ _ (hexadecimal-open xs)
+    (orElse-open _ _ (octal-open (digitsOf 8 3 xs)) (singles-open letters (octal ∷ hexadecimal ∷ unicode ∷ []) xs e)))
+
+unicode-refused : (p : ℕ) (xs : List ℕ) → unicode xs ≡ Open
+    → escape true p xs ≡ TextUnit.Fault 2 (p + 3 + length (allDigits 16 (drop 2 xs)))
+unfolding unicode
+unicode-refused p [] h = clash cc
+unicode-refused p (b ∷ []) h = clash cc
+unicode-refused p (b ∷ c ∷ xs) h = go (b is "u" && c is "{") refl h
+  where
+    go : (t : Bool) → (b is "u" && c is "{") ≡ t → (if t then codeOf (allDigits 16 xs) (behind xs) else Nothing) ≡ Open
+        → escape true p (b ∷ c ∷ xs) ≡ TextUnit.Fault 2 (p + 3 + length (allDigits 16 xs))
+    go true e h = escape-point p b c xs e ∙ point-told p (allDigits 16 xs) (behind xs) .unsaid h
+    go false e h = clash cc
+
+pub escape-open : (p : ℕ) (xs : List ℕ) → saidBy doubleQuoted xs ≡ Open
+    → escape true p xs ≡ TextUnit.Fault 2 (p + 3 + length (allDigits 16 (drop 2 xs)))
+escape-open p xs e = unicode-refused p xs (unicode-open xs e)
 
 pub quoteEscape-manual : (p : ℕ) (xs : List ℕ) → says p (quoteEscape true p xs) ≡ saidBy singleQuoted xs
 unfolding quoteEscape saidBy singleQuoted single orElse says
