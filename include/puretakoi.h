@@ -37,7 +37,8 @@ extern "C" {
 
 /* ---- A session: 199 numbers. A longer slice is as good; what lies after is not touched. Between calls a host may set both marks to
  * 0: list and pool are then empty. The top frame is session[PURETAKOI_SLOTS + PURETAKOI_SLOT * (session[PURETAKOI_DEPTH] - 1)].
- * Slots above the depth mean nothing; a call may change them. */
+ * Slots above the depth mean nothing, nor do a label's two numbers where the frame has none: a call may change such numbers, or leave
+ * them. */
 
 #define PURETAKOI_SESSION 199 /* how many numbers a session has */
 #define PURETAKOI_POSITION 0  /* bytes of the source that are read */

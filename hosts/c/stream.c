@@ -9,7 +9,7 @@
 
 #include "puretakoi.h"
 
-enum { PLACES = 512, DEFAULT_PIECE = 4096 };
+enum { PLACES = 512, DEFAULT_PIECE = 4096, LONG = 4096 };
 enum { STATUS_READ = 0, STATUS_REFUSED = 1, STATUS_FAULT = 2 };
 
 /* What the command line asks for; `file` is null for standard input. */
@@ -126,9 +126,19 @@ static enum state walk_so_far(struct host *host, bool end) {
     return state == WAITING ? walk(host, host->filled, false) : state;
 }
 
-/* Reads a piece, walks, shows the rows, and so on; the program's status. */
+/* How many bytes are worth another walk after a wait. It reads the open text again from its start: one of more than LONG bytes is left
+ * until it has doubled, so that what it costs grows with its length, not with its square. One byte too many for a script is always
+ * enough. */
+static size_t enough(const struct host *host) {
+    size_t open = host->filled - host->session[PURETAKOI_POSITION];
+    size_t wanted = host->filled + (LONG < open ? open : 1);
+    return wanted < sizeof host->script ? wanted : sizeof host->script;
+}
+
+/* Reads pieces, walks where there are enough bytes or the script is over, shows the rows, and so on; the program's status. */
 static int read_script(struct host *host, FILE *in, const struct request *request) {
     enum state state = WAITING;
+    size_t wanted = 1;
     puretakoi_fresh(0, host->session, PURETAKOI_SESSION);
     while (state == WAITING) {
         size_t room = sizeof host->script - host->filled;
@@ -138,7 +148,11 @@ static int read_script(struct host *host, FILE *in, const struct request *reques
             return unreadable(request->file);
         }
         host->filled += got;
+        if (host->filled < wanted && got == asked) {
+            continue;
+        }
         state = walk_so_far(host, got < asked);
+        wanted = enough(host);
         if (fflush(stdout) != 0 || ferror(stdout)) {
             return unwritable();
         }

@@ -24,8 +24,8 @@ __all__ = ["Block", "Kind", "Reason", "Refusal", "Stream", "Token", "blocks", "t
 
 MOST_BYTES = 65536
 _SONAME = "libpuretakoi.so.0"
-_SESSION, _LINE, _DEPTH, _TOKENS, _BYTES, _SLOTS, _SLOT = 199, 1, 3, 4, 5, 7, 3
-_RECORD, _PLACES, _NOWDOC, _FINISHED, _MOST_STEPS = 8, 512, 5, 1, 0xFFFFFFFF
+_SESSION, _POSITION, _LINE, _DEPTH, _TOKENS, _BYTES, _SLOTS, _SLOT = 199, 0, 1, 3, 4, 5, 7, 3
+_RECORD, _PLACES, _LONG, _NOWDOC, _FINISHED, _MOST_STEPS = 8, 512, 4096, 5, 1, 0xFFFFFFFF
 
 
 class Kind(IntEnum):
@@ -199,12 +199,16 @@ _library = _declared(_find_library())
 
 
 class Stream:
-    """Reads a script that comes in parts of any size, at most 65,536 bytes in all."""
+    """Reads a script that comes in parts of any size, at most 65,536 bytes in all.
+
+    A token comes as soon as it is settled; that of an open text of more than 4,096 bytes when the text has doubled, or at the end.
+    """
 
     def __init__(self, *, sheet: bool = False) -> None:
         """Reads nowdoc blocks as sheets where asked, else as the lexer that was carried over does."""
         self._source = b""
         self._is_ended = self._is_finished = False
+        self._enough = 0
         self._session = (c_uint32 * _SESSION)()
         self._list = (c_uint32 * (_RECORD * _PLACES))()
         self._pool = ctypes.create_string_buffer(MOST_BYTES)
@@ -216,7 +220,7 @@ class Stream:
         if self._is_ended:
             raise ValueError("the script's end is announced: feed a stream of its own")
         self._source = (self._source + part)[: MOST_BYTES + 1]
-        return self._walk()
+        return self._walk() if len(self._source) >= self._enough else []
 
     def finish(self) -> List[Token]:
         """Announces the script's end, and gives the tokens that are left; once all are given, none."""
@@ -237,9 +241,16 @@ class Stream:
             read += taken
             self._is_finished = self._answer[0] == _FINISHED
             if number == Reason.WAIT or self._is_finished:
+                self._enough = self._next_look()
                 return read
             if number and not (taken and number in (Reason.LIST_FULL, Reason.POOL_FULL)):
                 raise self._refusal(number, read)
+
+    def _next_look(self) -> int:
+        """How many bytes are worth another walk: it reads the open text again from its start, so a long one has to double."""
+        filled = len(self._source)
+        open_bytes = filled - self._session[_POSITION]
+        return min(filled + (open_bytes if open_bytes > _LONG else 1), MOST_BYTES + 1)
 
     def _step(self) -> bool:
         """One step over the whole script: whether more is left. Its tokens are in the tables."""

@@ -56,6 +56,20 @@ def stored_relief(script):
     return printed
 
 
+class Streams(unittest.TestCase):
+    def test_a_long_text_is_looked_at_when_it_has_doubled(self):
+        block, stream = b"<?php <<<'EOT'\n" + b"kerb\n" * 1000, Stream(sheet=True)
+        self.assertEqual([token.kind for token in stream.feed(block)], [Kind.OPEN_TAG_FULL])
+        self.assertEqual(stream.feed(b"EOT;\n"), [])
+        self.assertEqual([len(token.value) for token in stream.feed(b" " * 5000)], [4999, 3])
+        self.assertEqual(stream.finish(), [])
+
+    def test_a_short_text_is_looked_at_at_once(self):
+        stream = Stream(sheet=True)
+        stream.feed(b"<?php <<<'EOT'\n" + b"kerb\n" * 100)
+        self.assertEqual([len(token.value) for token in stream.feed(b"EOT;\n")], [499, 3])
+
+
 class Tokens(unittest.TestCase):
     def test_both_readings(self):
         self.assertEqual(tokens(SHEET), sheet_tokens(b"  ab\n   c\n"))

@@ -15,6 +15,7 @@ const MANY: u64 = 3;
 pub const WALK: &str = "walk";
 pub const STEPS: &str = "steps";
 pub const SHEET: &str = "sheet";
+pub const PIECES: &str = "pieces";
 pub const RUST: &str = "rust";
 
 /// Whether valgrind can be called here.

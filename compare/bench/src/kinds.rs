@@ -4,23 +4,25 @@ use cases::random::Random;
 
 const SEED: u64 = 1;
 
-/// A kind of script: how it begins, and how a piece of some ten to some hundred bytes is put to it.
+/// A kind of script: how many instructions a byte a walk may take, how it begins, and how a piece of some ten to some hundred bytes is
+/// put to it.
 pub struct Kind {
     pub name: &'static str,
+    pub most: f64,
     opening: &'static str,
     put: fn(&mut Random, &mut String),
 }
 
 pub const KINDS: [Kind; 9] = [
-    Kind { name: "mixed", opening: PHP, put: mixed },
-    Kind { name: "inline text", opening: "", put: inline_text },
-    Kind { name: "single quotes", opening: PHP, put: single_quotes },
-    Kind { name: "double quotes with escapes", opening: PHP, put: double_quotes },
-    Kind { name: "heredoc with variables", opening: PHP, put: heredoc },
-    Kind { name: NOWDOC, opening: PHP, put: nowdoc },
-    Kind { name: "numbers", opening: PHP, put: numbers },
-    Kind { name: "identifiers and punctuation", opening: PHP, put: identifiers },
-    Kind { name: "comments", opening: PHP, put: comments },
+    Kind { name: "mixed", most: 25.0, opening: PHP, put: mixed },
+    Kind { name: "inline text", most: 10.5, opening: "", put: inline_text },
+    Kind { name: "single quotes", most: 17.5, opening: PHP, put: single_quotes },
+    Kind { name: "double quotes with escapes", most: 24.5, opening: PHP, put: double_quotes },
+    Kind { name: "heredoc with variables", most: 40.0, opening: PHP, put: heredoc },
+    Kind { name: NOWDOC, most: 9.8, opening: PHP, put: nowdoc },
+    Kind { name: "numbers", most: 77.0, opening: PHP, put: numbers },
+    Kind { name: "identifiers and punctuation", most: 35.5, opening: PHP, put: identifiers },
+    Kind { name: "comments", most: 10.8, opening: PHP, put: comments },
 ];
 
 const PHP: &str = "<?php\n";
@@ -28,6 +30,10 @@ const PHP: &str = "<?php\n";
 /// The kind whose blocks are read as sheets too, and the blanks before each of its rows and its closing lines.
 pub const NOWDOC: &str = "nowdoc";
 pub const INDENTATION: usize = 4;
+
+/// Steps of one byte each, and how many instructions a call for such a step may take.
+pub const ONE_BYTE: &str = "one byte a step";
+pub const MOST_OF_A_STEP: f64 = 330.0;
 
 /// A text and a comment that are as long as their script.
 pub const ONE_BLOCK: &str = "one nowdoc block";
@@ -38,6 +44,7 @@ pub fn script_named(name: &str, most: usize) -> Option<Vec<u8>> {
     match name {
         ONE_BLOCK => Some(one_block(most)),
         ONE_COMMENT => Some(one_comment(most)),
+        ONE_BYTE => Some(one_byte_steps(most)),
         _ => KINDS.iter().find(|kind| kind.name == name).map(|kind| script(kind, most)),
     }
 }

@@ -28,9 +28,31 @@ pub enum Way {
     Steps,
 }
 
+/// When a script that comes in pieces is read on after a wait.
+#[derive(Clone, Copy, PartialEq, Eq)]
+pub enum Asking {
+    /// With each piece.
+    Always,
+    /// As the hosts do: an open text of more than 4,096 bytes is left until it has doubled.
+    Doubled,
+}
+
+/// An open text of more than so many bytes is left until it has doubled (hosts/rust/src/stream.rs).
+const LONG: usize = 4_096;
+
+impl Asking {
+    /// How many bytes are lent after a wait at a position, in whole pieces.
+    fn lent(self, position: usize, lent: usize, piece: usize) -> usize {
+        let open = lent - position;
+        let more = if self == Asking::Doubled && open > LONG { open } else { 1 };
+        lent + (more + piece - 1) / piece * piece
+    }
+}
+
 /// Our side: a session and tables, which are used for every script and never cleared.
 pub struct Reader {
     reading: u32,
+    asking: Asking,
     session: Vec<u32>,
     list: Vec<u32>,
     pool: Vec<u8>,
@@ -47,12 +69,24 @@ pub struct Count {
 impl Reader {
     pub fn new() -> Reader {
         let (list, pool) = (vec![0; PLACES * RECORD], vec![0; MOST_BYTES]);
-        Reader { reading: PORTED, session: vec![0; SESSION], list, pool, answer: vec![0; ANSWER] }
+        Reader {
+            reading: PORTED,
+            asking: Asking::Always,
+            session: vec![0; SESSION],
+            list,
+            pool,
+            answer: vec![0; ANSWER],
+        }
     }
 
     /// One that reads nowdoc blocks as sheets.
     pub fn of_sheets() -> Reader {
         Reader { reading: SHEET, ..Reader::new() }
+    }
+
+    /// One that reads pieces as the hosts do.
+    pub fn of_hosts() -> Reader {
+        Reader { asking: Asking::Doubled, ..Reader::new() }
     }
 
     /// Reads a script to its end; after a wait it is lent with `piece` bytes more. Stops at a refusal, with its number.
@@ -81,7 +115,8 @@ impl Reader {
                 0 => {}
                 WAIT => {
                     count.waits += 1;
-                    lent = script.len().min(lent + piece);
+                    let position = self.session[POSITION] as usize;
+                    lent = script.len().min(self.asking.lent(position, lent, piece));
                 }
                 LIST_FULL if self.session[TOKENS] > 0 => {
                     look(self);

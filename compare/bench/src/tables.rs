@@ -2,7 +2,7 @@
 
 use crate::instructions::{self, RUST, SHEET, STEPS, WALK};
 use crate::kinds::{
-    one_block, one_byte_steps, one_comment, script, script_named, Kind, KINDS, NOWDOC, ONE_BLOCK, ONE_COMMENT,
+    one_block, one_byte_steps, one_comment, script, script_named, Kind, KINDS, NOWDOC, ONE_BLOCK, ONE_BYTE, ONE_COMMENT,
 };
 use crate::sides::{Reader, Way, MOST_BYTES};
 use crate::times::{by_turns, Work};
@@ -87,7 +87,7 @@ fn sheets() -> Result<(), String> {
 /// Nanoseconds a step: in a walk, and a call for each.
 fn single_steps() -> Result<(), String> {
     println!("| 64 KB, ns a step | bytes a step | walk | single steps |\n|---|---|---|---|");
-    single_steps_of("one byte a step", &one_byte_steps(MOST_BYTES))?;
+    single_steps_of(ONE_BYTE, &one_byte_steps(MOST_BYTES))?;
     KINDS.iter().try_for_each(|kind| single_steps_of(kind.name, &script(kind, MOST_BYTES)))
 }
 
@@ -140,7 +140,8 @@ fn reading_by(mut reader: Reader, way: Way, script: &[u8], piece: usize, often: 
 
 /// Nanoseconds a byte for a script that comes in pieces, beside the whole one.
 fn pieces() -> Result<(), String> {
-    println!("| 64 KB, ns a byte | whole | pieces of 4 KB | ratio | waits |\n|---|---|---|---|---|");
+    println!("| 64 KB in pieces of 4 KB, ns a byte | whole | each piece read | ratio | waits | as the hosts do | ratio | waits |");
+    println!("|---|---|---|---|---|---|---|---|");
     for kind in &KINDS {
         pieces_of(kind.name, &script(kind, MOST_BYTES))?;
     }
@@ -150,9 +151,15 @@ fn pieces() -> Result<(), String> {
 
 fn pieces_of(name: &str, script: &[u8]) -> Result<(), String> {
     let waits = Reader::new().read(Way::Walk, script, PIECE)?.waits;
-    let turns = by_turns(&mut [reading(Way::Walk, script, script.len(), 1)?, reading(Way::Walk, script, PIECE, 1)?]);
+    let fewer = Reader::of_hosts().read(Way::Walk, script, PIECE)?.waits;
+    let turns = by_turns(&mut [
+        reading(Way::Walk, script, script.len(), 1)?,
+        reading(Way::Walk, script, PIECE, 1)?,
+        reading_by(Reader::of_hosts(), Way::Walk, script, PIECE, 1)?,
+    ]);
     let a_byte = |work: usize| turns.of(work) / script.len() as f64;
-    println!("| {} | {:.2} | {:.2} | {:.2} | {} |", name, a_byte(0), a_byte(1), turns.ratio(1, 0), waits);
+    let asked = |work: usize, waits: usize| format!("{:.2} | {:.2} | {}", a_byte(work), turns.ratio(work, 0), waits);
+    println!("| {} | {:.2} | {} | {} |", name, a_byte(0), asked(1, waits), asked(2, fewer));
     Ok(())
 }
 

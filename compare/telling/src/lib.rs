@@ -97,7 +97,9 @@ impl Teller {
                 after.span = counted_on(after.span, cursor);
                 after.tokens += tokens.len();
                 after.bytes += size;
-                Told::Done { finished, session: written(call, &after), records, values }
+                let mut numbers = call.session.clone();
+                after.write_step(&mut numbers, change);
+                Told::Done { finished, session: numbers, records, values }
             }
         }
     }

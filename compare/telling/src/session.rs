@@ -38,7 +38,7 @@ pub struct Session {
     pub tokens: usize,
     pub bytes: usize,
     pub sheet: bool,
-    /// What each slot is written back as: frame, label start, label length.
+    /// What each slot is read as: frame, label start, label length.
     slots: [[u32; SLOT]; MOST_FRAMES],
 }
 
@@ -65,8 +65,25 @@ impl Session {
         Some(Session { span, depth, tokens: number(TOKENS), bytes: number(BYTES), sheet, slots })
     }
 
+    /// Puts what a step has changed at the start of a slice: the numbers before the slots, and the slot of a frame that was entered or
+    /// swapped. All other numbers stay.
+    pub fn write_step(&self, numbers: &mut [u32], change: Change) {
+        self.write_head(numbers);
+        if matches!(change, Change::Swap(_) | Change::Enter(_)) {
+            let top = self.depth - 1;
+            numbers[SLOTS + top * SLOT..][..SLOT].copy_from_slice(&self.slots[top]);
+        }
+    }
+
     /// Puts the session's 199 numbers at the start of a slice.
     pub fn write(&self, numbers: &mut [u32]) {
+        self.write_head(numbers);
+        for (slot, lent) in self.slots.iter().zip(numbers[SLOTS..].chunks_exact_mut(SLOT)) {
+            lent.copy_from_slice(slot);
+        }
+    }
+
+    fn write_head(&self, numbers: &mut [u32]) {
         numbers[POSITION] = self.span.position as u32;
         numbers[LINE] = self.span.line as u32;
         numbers[COLUMN] = self.span.column as u32;
@@ -74,9 +91,6 @@ impl Session {
         numbers[TOKENS] = self.tokens as u32;
         numbers[BYTES] = self.bytes as u32;
         numbers[CHOICES] = if self.sheet { SHEETS as u32 } else { 0 };
-        for (slot, lent) in self.slots.iter().zip(numbers[SLOTS..].chunks_exact_mut(SLOT)) {
-            lent.copy_from_slice(slot);
-        }
     }
 
     pub fn top(&self) -> (Frame, Label) {
@@ -134,7 +148,7 @@ fn slot_of(frame: Frame, label: Label) -> [u32; SLOT] {
     [frame as u32, start as u32, len as u32]
 }
 
-/// A slot's numbers as a call that is done leaves them: no frame is a heredoc without a label, and only a text block has one.
+/// A slot's numbers as skip, push and pop leave them: no frame is a heredoc without a label, and only a text block has one.
 fn written_back(lent: &[u32]) -> [u32; SLOT] {
     let has_label = lent[1] <= 0xffff && lent[2] <= 0xffff;
     match lent[0] {

@@ -48,9 +48,10 @@ allInside-wide after hi h n (p ∷ more) all = (
   allInside-wide after hi h (p .place) more (all .1),
 )
 
-module _ (src : List ℕ) (end : Bool) (m : Mark) (w : Work) (l q : List ℕ) (f : Works src end m w (length l) (length q)) where
+module _ (src : List ℕ) (end : Bool) (scratch : List ℕ) (m : Mark) (w : Work) (l q : List ℕ)
+    (f : Works src end scratch m w (length l) (length q)) where
   work-values : length (values (piecesOf src end (w .drafts))) ≡ totalOf (draftsOf (w .drafts))
-  work-values = length-values src end (draftsOf (w .drafts)) (f .ready .all)
+  work-values = length-values src end scratch (draftsOf (w .drafts)) (f .ready .all)
 
   work-count : length (piecesOf src end (w .drafts)) ≡ w .drafts .count
   work-count = length-pieces src end (draftsOf (w .drafts)) ∙ length-draftsOf (w .drafts) (f .ready .few)
@@ -82,7 +83,7 @@ module _ (src : List ℕ) (end : Bool) (m : Mark) (w : Work) (l q : List ℕ) (f
         room-open : (m .tokens + w .drafts .count ≤ length l / 8) × (m .bytes + total ≤ length q)
         room-open = room-facts (length l) (length q) (m .tokens) (m .bytes) (w .drafts .count) total (sym e ∙ z)
 
-        pub work-fits : DraftsFit src end m (w .drafts) (length l) (length q)
+        pub work-fits : DraftsFit src end scratch m (w .drafts) (length l) (length q)
         work-fits = record {
           marked = f .marked;
           ready = f .ready;
@@ -130,8 +131,8 @@ module _ (depth n : ℕ) (pieces : List Piece) (after : ℕ) (finished : Bool) w
   limited-free (Change.Enter f) e = rw (lt-ltb depth 64 (leb-false _ _ e))
   limited-free Change.Leave e = refl
 
-module _ (src : List ℕ) (end : Bool) (m : Mark) (depth : ℕ) (plan : Plan) (l q : List ℕ)
-    (f : Commits src end m plan (length l) (length q)) where
+module _ (src : List ℕ) (end : Bool) (scratch : List ℕ) (m : Mark) (depth : ℕ) (plan : Plan) (l q : List ℕ)
+    (f : Commits src end scratch m plan (length l) (length q)) where
   abbrev outcome : Outcome
   outcome = limited depth (m .span .position) (outcomeOf src end plan)
 
@@ -159,7 +160,7 @@ module _ (src : List ℕ) (end : Bool) (m : Mark) (depth : ℕ) (plan : Plan) (l
         (record { next = h ∙ ap (λ (p : Span). stays 9 p m) (sym (spanAt-here src (m .span))); list = refl; pool = refl })
 
     module _ (t : full ≡ false) where
-      pub commit-works : Works src end m w (length l) (length q)
+      pub commit-works : Works src end scratch m w (length l) (length q)
       unfolding outcomeOf
       commit-works = record { marked = f .marked; ready = rw e at f .ready; inside = rw e at f .inside }
 

@@ -22,7 +22,7 @@ use Rattle.plan.specs.declared.Drafts.{Drafts}
 use Rattle.plan.specs.Code.{made, pieceOf, pieces, draftsOf, AllReady}
 use Rattle.commit.specs.declared.Mark.{Mark}
 use Rattle.commit.specs.Records.{spanAt, Tables, put}
-use Rattle.commit.specs.Code.{totalOf, draftAt, draftToken, DraftFits, DraftPut, pastDraft, PastFits, DraftsFit, DraftsPut}
+use Rattle.commit.specs.Code.{totalOf, draftAt, draftToken, DraftFits, DraftPut, pastDraft, DraftsFit, DraftsPut}
 
 -- ---- how many
 
@@ -58,12 +58,14 @@ length-pieces src end (d ∷ more) = ap suc (length-pieces src end more)
 pub length-draftsOf : (ds : Drafts) → ds .count ≤ 2 → length (draftsOf ds) ≡ ds .count
 length-draftsOf ds few = simp length-take (omega (arith, few))
 
-pub length-values : (src : List ℕ) (end : Bool) (drafts : List Draft) → AllReady drafts src end
+pub length-values : (src : List ℕ) (end : Bool) (scratch : List ℕ) (drafts : List Draft)
+    → AllReady drafts src end scratch
     → length (values (pieces src end drafts)) ≡ totalOf drafts
 unfolding pieces totalOf values
-length-values src end [] r = refl
-length-values src end (d ∷ more) r =
-    rw (length-append (made src end d) (values (pieces src end more)), r .0 .size, length-values src end more (r .1))
+length-values src end scratch [] r = refl
+length-values src end scratch (d ∷ more) r =
+    let later = length-values src end scratch more (r .1) in
+    rw (length-append (made src end d) (values (pieces src end more)), r .0 .size, later)
 
 -- ---- one draft
 
@@ -82,12 +84,19 @@ pub draftToken-made : (src : List ℕ) (p : Span) (start : ℕ) (d : Draft) (spa
     → record { kind = d .kind; detail = d .detail; span = span; start = start; len = d .len } ≡ draftToken src p start d
 draftToken-made src p start d span e = rw e
 
+pub record-put : (src : List ℕ) (m : Mark) (d : Draft) (l l′ : List ℕ) (t : Token)
+    → t ≡ draftToken src (m .span) (m .bytes) d
+    → l′ ≡ laid l (m .tokens * 8) (recordOf t)
+    → l′ ≡ laid l (m .tokens * 8) (recordOf (draftToken src (m .span) (m .bytes) d))
+record-put src m d l l′ t e h = h ∙ rw e
+
 -- a draft's value and record
-module _ (src : List ℕ) (end : Bool) (m : Mark) (d : Draft) (l q : List ℕ) (f : DraftFits src end m d (length l) (length q)) where
-  pub draft-put : (l′ q′ : List ℕ) (t : Token) → q′ ≡ laid q (m .bytes) (made src end d)
-      → t ≡ draftToken src (m .span) (m .bytes) d → l′ ≡ laid l (m .tokens * 8) (recordOf t) → (r : Mark) → r ≡ pastDraft m d
+module _ (src : List ℕ) (end : Bool) (scratch : List ℕ) (m : Mark) (d : Draft) (l q : List ℕ)
+    (f : DraftFits src end scratch m d (length l) (length q)) where
+  pub draft-put : (l′ q′ : List ℕ) → q′ ≡ laid q (m .bytes) (made src end d)
+      → l′ ≡ laid l (m .tokens * 8) (recordOf (draftToken src (m .span) (m .bytes) d)) → (r : Mark) → r ≡ pastDraft m d
       → DraftPut src m d (pieceOf src end d) l q r l′ q′
-  draft-put l′ q′ t v e h r k = record { mark = k; list = h ∙ rw (e, f .ready .size); pool = v }
+  draft-put l′ q′ v h r k = record { mark = k; list = h ∙ rw (f .ready .size); pool = v }
 
   module _ (r : Mark) (l′ q′ : List ℕ) (p : DraftPut src m d (pieceOf src end d) l q r l′ q′) where
     put-list : length l′ ≡ length l
@@ -96,18 +105,18 @@ module _ (src : List ℕ) (end : Bool) (m : Mark) (d : Draft) (l q : List ℕ) (
     put-pool : length q′ ≡ length q
     put-pool = ap length (p .pool) ∙ length-laid q (m .bytes) _ (omega (arith, f .room, f .ready .size))
 
--- the numbers of the marks after it fit
-module _ (m : Mark) (d : Draft) (f : PastFits m d) where
-  pub past-count : Fits w32 (m .tokens + 1)
-  past-count = record { fits = omega (arith, f .tokens) }
+-- the same of the draft with a number
+module _ (src : List ℕ) (end : Bool) (scratch : List ℕ) (m : Mark) (ds : Drafts) (i : ℕ) (d : Draft)
+    (e : d ≡ draftAt ds i) where
+  pub nth-fits : (list pool : ℕ) → DraftFits src end scratch m (draftAt ds i) list pool
+      → DraftFits src end scratch m d list pool
+  nth-fits list pool f = rw e f
 
-  pub past-len : Fits w32 (d .len)
-  past-len = record { fits = omega (arith, f .bytes) }
+  pub nth-put : (l q : List ℕ) (r : Mark) (l′ q′ : List ℕ) → DraftPut src m d (pieceOf src end d) l q r l′ q′
+      → DraftPut src m (draftAt ds i) (pieceOf src end (draftAt ds i)) l q r l′ q′
+  nth-put l q r l′ q′ p = rw e at p
 
-  pub past-end : Fits w32 (m .bytes + d .len)
-  past-end = record { fits = omega (arith, f .bytes) }
-
-pub ruleset pasts = (past-count, past-len, past-end)
+pub ruleset nths = (nth-fits, nth-put)
 
 -- ---- one after another
 
@@ -129,13 +138,15 @@ drop-draftAt ds i few h = go (ds .count) refl i h
     go (suc (suc zero)) e (suc (suc k)) less = absurd (omega (arith, less))
     go (suc (suc (suc n))) e k less = absurd (omega (arith, few, e))
 
-pub record Putting (src : List ℕ) (end : Bool) (m : Mark) (ds : Drafts) (l₀ q₀ : List ℕ) (at : Mark) (i : ℕ) (l q : List ℕ) : Type 0 where
+pub record Putting (src : List ℕ) (end : Bool) (scratch : List ℕ) (m : Mark) (ds : Drafts) (l₀ q₀ : List ℕ)
+    (at : Mark) (i : ℕ)
+    (l q : List ℕ) : Type 0 where
   pub rest : List Draft
   pub from : drop i (draftsOf ds) ≡ rest
   pub same : put src m (tables l₀ q₀) (pieces src end (draftsOf ds)) ≡ put src at (tables l q) (pieces src end rest)
   pub inside : i ≤ ds .count
   pub span : at .span ≡ m .span
-  pub ready : AllReady rest src end
+  pub ready : AllReady rest src end scratch
   pub low : ℕ
   pub lower : m .span .position ≤ low
   pub all : AllInside low (length src) (pieces src end rest)
@@ -145,9 +156,9 @@ pub record Putting (src : List ℕ) (end : Bool) (m : Mark) (ds : Drafts) (l₀ 
   pub list : length l ≡ length l₀
   pub pool : length q ≡ length q₀
 
-module _ (src : List ℕ) (end : Bool) (m : Mark) (ds : Drafts) (l₀ q₀ : List ℕ)
-    (f : DraftsFit src end m ds (length l₀) (length q₀)) where
-  pub putting-first : Putting src end m ds l₀ q₀ m 0 l₀ q₀
+module _ (src : List ℕ) (end : Bool) (scratch : List ℕ) (m : Mark) (ds : Drafts) (l₀ q₀ : List ℕ)
+    (f : DraftsFit src end scratch m ds (length l₀) (length q₀)) where
+  pub putting-first : Putting src end scratch m ds l₀ q₀ m 0 l₀ q₀
   putting-first = record {
     rest = draftsOf ds;
     from = refl;
@@ -165,7 +176,7 @@ module _ (src : List ℕ) (end : Bool) (m : Mark) (ds : Drafts) (l₀ q₀ : Lis
     pool = refl;
   }
 
-  module _ (at : Mark) (i : ℕ) (l q : List ℕ) (w : Putting src end m ds l₀ q₀ at i l q) where
+  module _ (at : Mark) (i : ℕ) (l q : List ℕ) (w : Putting src end scratch m ds l₀ q₀ at i l q) where
     pub putting-end : ds .count ≤ i → DraftsPut src m (pieces src end (draftsOf ds)) l₀ q₀ l q
     unfolding put pieces
     putting-end h =
@@ -174,15 +185,18 @@ module _ (src : List ℕ) (end : Bool) (m : Mark) (ds : Drafts) (l₀ q₀ : Lis
         let all : put src m (tables l₀ q₀) (pieces src end (draftsOf ds)) ≡ tables l q = w .same ∙ rw none in
         record { list = ap (λ (t : Tables). t .list) (sym all); pool = ap (λ (t : Tables). t .pool) (sym all) }
 
-    module _ (h : i < ds .count) (d : Draft) (e : d ≡ draftAt ds i) where
+    module _ (h : i < ds .count) where
+      abbrev d : Draft
+      d = draftAt ds i
+
       abbrev more : List Draft
       more = drop (i + 1) (draftsOf ds)
 
       left : w .rest ≡ d ∷ more
-      left = sym (w .from) ∙ drop-draftAt ds i (f .ready .few) h ∙ ap (λ (x : Draft). x ∷ more) (sym e)
+      left = sym (w .from) ∙ drop-draftAt ds i (f .ready .few) h
 
-      ready : AllReady (d ∷ more) src end
-      ready = subst (λ (rest : List Draft). AllReady rest src end) left (w .ready)
+      ready : AllReady (d ∷ more) src end scratch
+      ready = subst (λ (rest : List Draft). AllReady rest src end scratch) left (w .ready)
 
       inside : AllInside (w .low) (length src) (pieces src end (d ∷ more))
       inside = subst (λ (rest : List Draft). AllInside (w .low) (length src) (pieces src end rest)) left (w .all)
@@ -193,7 +207,7 @@ module _ (src : List ℕ) (end : Bool) (m : Mark) (ds : Drafts) (l₀ q₀ : Lis
       room : at .bytes + totalOf (d ∷ more) ≤ length q
       room = subst (λ (rest : List Draft). at .bytes + totalOf rest ≤ length q) left (w .room)
 
-      pub putting-fits : DraftFits src end at d (length l) (length q)
+      pub putting-fits : DraftFits src end scratch at (draftAt ds i) (length l) (length q)
       unfolding pieces totalOf
       putting-fits =
           let a = inside .0 in
@@ -219,13 +233,14 @@ module _ (src : List ℕ) (end : Bool) (m : Mark) (ds : Drafts) (l₀ q₀ : Lis
       pub putting-count : Fits w32 (i + 1)
       putting-count = record { fits = omega (arith, h, f .ready .few) }
 
-      pub putting-on : (l′ q′ : List ℕ) (after : Mark) → DraftPut src at d (pieceOf src end d) l q after l′ q′
-          → Putting src end m ds l₀ q₀ after (i + 1) l′ q′
+      pub putting-on : (l′ q′ : List ℕ) (after : Mark)
+          → DraftPut src at (draftAt ds i) (pieceOf src end (draftAt ds i)) l q after l′ q′
+          → Putting src end scratch m ds l₀ q₀ after (i + 1) l′ q′
       unfolding put pieces totalOf
       putting-on l′ q′ after p =
           let k : d .len ≡ length (made src end d) = ready .0 .size in
-          let list = put-list src end at d l q putting-fits after l′ q′ p in
-          let pool = put-pool src end at d l q putting-fits after l′ q′ p in
+          let list = put-list src end scratch at d l q putting-fits after l′ q′ p in
+          let pool = put-pool src end scratch at d l q putting-fits after l′ q′ p in
           let same : put src m (tables l₀ q₀) (pieces src end (draftsOf ds)) ≡ put src at (tables l q) (pieces src end (d ∷ more)) =
           w .same ∙ ap (λ (rest : List Draft). put src at (tables l q) (pieces src end rest)) left in
           rw (p .mark)

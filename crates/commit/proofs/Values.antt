@@ -1,25 +1,27 @@
 -- Writing the value of a draft, on each way that it comes about. Assumes nothing.
 use Prim.Native.Nat.{ℕ, _+_, _-_, _≤_}
-use mathlib.Core.Path.{_≡_, _∙_}
+use mathlib.Core.Path.{_≡_, sym, ap, subst, _∙_}
 use mathlib.Core.Bool.{Bool}
-use mathlib.Core.List.{List, _++_}
+use mathlib.Core.List.{List, [], _++_, append-nil, append-assoc}
 use native.Mathlib.Omega.{arith}
-use lib.ListN.{length, take, drop, length-take, length-drop}
-use lib.Seq.{length-take-le}
+use lib.ListN.{length, take, drop, length-take, length-drop, drop-of-length-le}
+use lib.Seq.{length-take-le, drop-drop}
 use Rattle.byte.specs.Laid.{laid}
 use Rattle.byte.proofs.Laid.{laid-rest}
 use Rattle.state.specs.declared.Label.{Label}
 use Rattle.state.specs.Bounds.{labelBytes}
 use Rattle.unit.specs.declared.Mode.{Mode}
 use Rattle.unit.specs.Readings.{textAt}
+use Rattle.text.specs.declared.Scanned.{Scanned}
 use Rattle.text.specs.Code as text
+use Rattle.text.proofs.Writes.{value-gathered}
 use Rattle.number.specs.Numbers as number
 use Rattle.sheet.specs.Bodies.{Indent}
 use Rattle.sheet.specs.Code.{sheetOf, Left}
 use Rattle.sheet.proofs.Parts.{drop-take}
 use Rattle.plan.specs.declared.Making.{Making}
 use Rattle.plan.specs.declared.Draft.{Draft}
-use Rattle.plan.specs.Code.{Named, Range, Block, madeBy, made}
+use Rattle.plan.specs.Code.{Named, Range, Block, Kept, Able, madeBy, made}
 use Rattle.plan.proofs.Plans.{named-short}
 use Rattle.commit.specs.Code.{Writes}
 
@@ -27,7 +29,19 @@ use Rattle.commit.specs.Code.{Writes}
 length-free : (q : List ℕ) (mark : ℕ) → length (take (length q - mark) (drop mark q)) ≡ length q - mark
 length-free q mark = simp (length-take, length-drop) (omega arith)
 
-module _ (src : List ℕ) (end : Bool) (d : Draft) (q : List ℕ) (mark : ℕ) (w : Writes src end d (length q) mark) where
+-- a part that is filled with as many bytes as it has
+filled-part : (q part vs : List ℕ) (mark n : ℕ) → n ≡ length vs → mark + n ≤ length q
+    → part ≡ laid (take n (drop mark q)) 0 vs
+    → take mark q ++ (part ++ drop n (drop mark q)) ≡ laid q mark vs
+unfolding laid
+filled-part q part vs mark n e h f =
+    let whole : length (take n (drop mark q)) ≡ n = simp (length-take, length-drop) (omega arith) in
+    let past : length (take n (drop mark q)) ≤ 0 + length vs = omega (arith, whole, e) in
+    let none : drop (0 + length vs) (take n (drop mark q)) ≡ [] = drop-of-length-le (take n (drop mark q)) past in
+    rw (f, none, append-nil vs, drop-drop n mark q, e, ← append-assoc (take mark q) vs (drop (mark + length vs) q))
+
+module _ (src : List ℕ) (end : Bool) (scratch : List ℕ) (d : Draft) (q : List ℕ) (mark : ℕ)
+    (w : Writes src end scratch d (length q) mark) where
   -- the source's own bytes
   module _ (e : d .making ≡ Making.Copied) where
     copied-range : Range src (d .from) (d .to)
@@ -51,7 +65,31 @@ module _ (src : List ℕ) (end : Bool) (d : Draft) (q : List ℕ) (mark : ℕ) (
     unfolding madeBy
     copied-written q′ h = rw e h
 
-  -- a text
+  -- a text that is held
+  module _ (mode : Mode) (label : Label) (e : d .making ≡ Making.Held mode label) where
+    held-same : take (d .len) scratch ≡ made src end d
+    held-same =
+        let k : Kept src label (d .from) scratch (d .len) (made src end d) =
+        subst (λ (making : Making). Able making src scratch (d .from) (d .to) (d .len) (made src end d)) e
+        (w .ready .able) in
+        k .same
+
+    pub held-inside : d .len ≤ length scratch
+    held-inside = omega (arith, w .ready .size ∙ ap length (sym held-same) ∙ length-take (d .len) scratch)
+
+    pub held-count : length (take (d .len) scratch) ≡ d .len
+    held-count = length-take-le (d .len) scratch held-inside
+
+    pub held-fits : length (take (d .len) scratch) ≤ length (take (length q - mark) (drop mark q))
+    held-fits = rw (length-free q mark, held-count) (omega (arith, w .fits))
+
+    pub held-written : (rest : List ℕ) → rest ≡ laid (take (length q - mark) (drop mark q)) 0 (take (d .len) scratch)
+        → take mark q ++ (rest ++ drop (length q - mark) (drop mark q)) ≡ laid q mark (made src end d)
+    held-written rest f =
+        laid-rest q rest mark _ (rw (← w .ready .size) (w .fits))
+        (f ∙ ap (laid (take (length q - mark) (drop mark q)) 0) held-same)
+
+  -- a text that is read again
   module _ (mode : Mode) (label : Label) (e : d .making ≡ Making.Text mode label) where
     text-block : Block src label (d .from)
     text-block = rw e at w .ready .able
@@ -63,22 +101,25 @@ module _ (src : List ℕ) (end : Bool) (d : Draft) (q : List ℕ) (mark : ℕ) (
     pub text-named : Named src label
     text-named = text-block .name
 
-    pub text-measured : (name : List ℕ) → name ≡ labelBytes src label
-        → text.Measured mode src name (d .from) end (d .len) (length (take (length q - mark) (drop mark q)))
-    text-measured name h = record {
-      start = text-block .start;
-      short = w .short;
-      name = named-short src label name text-named h;
-      size = rw h text-size;
-      fits = rw (length-free q mark) (omega (arith, w .fits));
-    }
+    pub text-start : d .from ≤ length src
+    text-start = text-block .start
 
-    pub text-written : (name rest : List ℕ) → name ≡ labelBytes src label
-        → rest ≡ laid (take (length q - mark) (drop mark q)) 0 (text.valueOf (textAt mode name end (d .from) (drop (d .from) src)))
-        → take mark q ++ (rest ++ drop (length q - mark) (drop mark q)) ≡ laid q mark (made src end d)
+    -- the part that is filled is as long as the value
+    pub text-written : (name part : List ℕ) (again : Scanned) → name ≡ labelBytes src label
+        → text.Reads mode src name (d .from) end (take (mark + d .len - mark) (drop mark q)) again part
+        → take mark q ++ (part ++ drop (mark + d .len - mark) (drop mark q)) ≡ laid q mark (made src end d)
     unfolding madeBy
-    text-written name rest h f =
-        rw e (laid-rest q rest mark _ (rw (← text-size) (w .fits)) (f ∙ rw h))
+    text-written name part again h r =
+        let k : mark + d .len - mark ≡ d .len = omega arith in
+        let all = text.gathered mode (labelBytes src label) end 0 (d .from) (drop (d .from) src) in
+        let value = text.valueOf (textAt mode (labelBytes src label) end (d .from) (drop (d .from) src)) in
+        let free = take (d .len) (drop mark q) in
+        let held : part ≡ laid free 0 (take (length free) all) = rw (h, k) at r .held in
+        let whole : length free ≡ length value =
+        simp (length-take, length-drop) (omega (arith, w .fits, text-size)) in
+        let same : take (length value) all ≡ value =
+        sym (value-gathered mode (labelBytes src label) end (d .from) (drop (d .from) src)) in
+        rw (e, k) (filled-part q part value mark (d .len) text-size (w .fits) (held ∙ rw (whole, same)))
 
   -- a number
   module _ (e : d .making ≡ Making.Number) where
@@ -140,7 +181,9 @@ module _ (src : List ℕ) (end : Bool) (d : Draft) (q : List ℕ) (mark : ℕ) (
 
 pub ruleset copies = (copied-order, copied-inside, copied-fits, copied-written)
 
-pub ruleset texts = (text-named, text-measured, text-written)
+pub ruleset helds = (held-inside, held-count, held-fits, held-written)
+
+pub ruleset texts = (named-short, text-named, text-start, text-written)
 
 pub ruleset numbers = (number-order, number-inside, number-fits, number-written)
 

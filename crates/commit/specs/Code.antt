@@ -1,7 +1,7 @@
 -- A step as the code has it: over drafts and numbers and the top frame, without the session.
 --   totalOf, draftAt       how many value bytes drafts have; one of them
 --   Cursor, Ahead          a cursor within a source that is not too long, and a place from it on
---   Writes                 a value can be written from a mark on
+--   Writes                 a value can be written from a mark on, with the scratch part that it may be held in
 --   Marked                 the cursor and the marks are within their bounds
 --   pastDraft, PastFits    the marks after a draft
 --   DraftFits, DraftPut    a draft fits from the marks on; its record and its value stand there
@@ -50,9 +50,9 @@ pub record Ahead (src : List ℕ) (p : Span) (place : ℕ) : Type 0 where
   pub low : p .position ≤ place
   pub high : place ≤ length src
 
-pub record Writes (src : List ℕ) (end : Bool) (d : Draft) (pool mark : ℕ) : Type 0 where
+pub record Writes (src : List ℕ) (end : Bool) (scratch : List ℕ) (d : Draft) (pool mark : ℕ) : Type 0 where
   pub short : length src ≤ 65536
-  pub ready : Ready src end d
+  pub ready : Ready src end scratch d
   pub fits : mark + d .len ≤ pool
 
 -- the cursor and the marks are within their bounds
@@ -88,9 +88,10 @@ pub record PastFits (m : Mark) (d : Draft) : Type 0 where
   pub bytes : m .bytes + d .len ≤ 65536
 
 -- a draft fits from the marks on
-pub record DraftFits (src : List ℕ) (end : Bool) (m : Mark) (d : Draft) (list pool : ℕ) : Type 0 where
+pub record DraftFits (src : List ℕ) (end : Bool) (scratch : List ℕ) (m : Mark) (d : Draft)
+    (list pool : ℕ) : Type 0 where
   pub drawn : Drawn src (m .span) d
-  pub ready : Ready src end d
+  pub ready : Ready src end scratch d
   pub places : m .tokens * 8 + 8 ≤ list
   pub room : m .bytes + d .len ≤ pool
   pub past : PastFits m d
@@ -102,9 +103,10 @@ pub record DraftPut (src : List ℕ) (m : Mark) (d : Draft) (piece : Piece) (l q
   pub pool : q′ ≡ putPiece src m (record { list = l; pool = q }) piece .pool
 
 -- drafts fit from the marks on
-pub record DraftsFit (src : List ℕ) (end : Bool) (m : Mark) (ds : Drafts) (list pool : ℕ) : Type 0 where
+pub record DraftsFit (src : List ℕ) (end : Bool) (scratch : List ℕ) (m : Mark) (ds : Drafts)
+    (list pool : ℕ) : Type 0 where
   pub marked : Marked src m list pool
-  pub ready : DraftsReady ds src end
+  pub ready : DraftsReady ds src end scratch
   pub all : AllInside (m .span .position) (length src) (piecesOf src end ds)
   pub narrow : totalOf (draftsOf ds) ≤ length src
   pub places : m .tokens + ds .count ≤ list / 8
@@ -135,15 +137,16 @@ pub record Advances (src : List ℕ) (m : Mark) (w : Work) (count len : ℕ) : T
   pub room : m .bytes + len ≤ 65536
 
 -- what `commit` asks: the plan can be written, and its outcome lies from the cursor on
-pub record Commits (src : List ℕ) (end : Bool) (m : Mark) (plan : Plan) (list pool : ℕ) : Type 0 where
+pub record Commits (src : List ℕ) (end : Bool) (scratch : List ℕ) (m : Mark) (plan : Plan)
+    (list pool : ℕ) : Type 0 where
   pub marked : Marked src m list pool
-  pub ready : PlanReady plan src end
+  pub ready : PlanReady plan src end scratch
   pub inside : Inside (m .span .position) (length src) (outcomeOf src end plan)
 
 -- the same of what a plan tells
-pub record Works (src : List ℕ) (end : Bool) (m : Mark) (w : Work) (list pool : ℕ) : Type 0 where
+pub record Works (src : List ℕ) (end : Bool) (scratch : List ℕ) (m : Mark) (w : Work) (list pool : ℕ) : Type 0 where
   pub marked : Marked src m list pool
-  pub ready : DraftsReady (w .drafts) src end
+  pub ready : DraftsReady (w .drafts) src end scratch
   pub inside : ToldInside (m .span .position) (length src) (piecesOf src end (w .drafts)) (w .after)
 
 -- what `commit` gives of an outcome

@@ -12,10 +12,10 @@ use state::Label;
 use token::Token;
 use unit::Mode;
 ghost use mathlib.Core.Path.{_≡_};
-ghost use Prim.Native.Nat.{_+_, _≤_};
+ghost use Prim.Native.Nat.{_+_, _*_, _≤_};
 ghost use lib.ListN.{length};
 ghost use Rattle.byte.specs.Laid.{laid};
-ghost use Rattle.text.specs.Code as text;
+ghost use Rattle.token.specs.Records.{recordOf};
 ghost use Rattle.outcome.specs.Outcomes.{limited};
 ghost use Rattle.plan.specs.declared.Plan.{Plan};
 ghost use Rattle.plan.specs.Code.{made, pieceOf, draftsOf, piecesOf, outcomeOf};
@@ -60,24 +60,39 @@ fn stay(number: u32, span: Span, m: Mark) -> Next
     }
 }
 
+// A short value at the start of a part, byte by byte.
+fn put_short(part: &[u8], rest: &mut [u8])
+    requires { ⌜ length (now part) ≤ length (now rest) ⌝ }
+    ensures { λ r. ⌜ now (rest .exit) ≡ laid (now (rest .entry)) 0 (now (part .entry)) ⌝ }
+{
+    let mut i = 0;
+    while i < part.len() {
+        rest[i] = part[i];
+        i += 1;
+    }
+}
+
 // The value of a draft, in the pool from the mark on.
-fn write_value(src: &[u8], end: bool, d: Draft, pool: &mut [u8], mark: usize)
-    requires { ⌜ Writes (now src) end d (length (now pool)) mark ⌝ }
+fn write_value(src: &[u8], end: bool, d: Draft, scratch: &[u8], pool: &mut [u8], mark: usize)
+    requires { ⌜ Writes (now src) end (now scratch) d (length (now pool)) mark ⌝ }
     ensures { λ r. ⌜ now (pool .exit) ≡ laid (now (pool .entry)) mark (made (now (src .entry)) end d) ⌝ }
 {
     let making = d.making;
     let from = d.from;
     let to = d.to;
+    let len = d.len;
     match making {
         Making::Copied => token::put_value(&src[from..to], pool, mark),
+        Making::Held { mode: _, label: _ } => put_short(&scratch[..len], &mut pool[mark..]),
         Making::Text { mode, label } => {
             let name = plan::label_bytes(src, label);
-            text::write_text(mode, src, name, from, end, d.len, &mut pool[mark..]);
+            let after = mark + len;
+            let again = text::read_text(mode, src, name, from, end, &mut pool[mark..after]);
         }
         Making::Number => number::write_number(src, from, to, &mut pool[mark..]),
         Making::Sheet { blank, width } => {
             let body = &src[..to];
-            sheet::write_sheet(body, from, blank, width, d.len, &mut pool[mark..]);
+            sheet::write_sheet(body, from, blank, width, len, &mut pool[mark..]);
         }
     }
 }
@@ -96,6 +111,14 @@ fn token_of(src: &[u8], p: Span, start: u32, d: Draft) -> Token
     }
 }
 
+// The record of a draft whose value stands in the pool from the mark on.
+fn put_record(src: &[u8], m: Mark, d: Draft, list: &mut [u32])
+    requires { ⌜ Drawn (now src) (m .span) d × (m .tokens * 8 + 8 ≤ length (now list)) ⌝ }
+    ensures { λ r. ⌜ now (list .exit) ≡ laid (now (list .entry)) (m .tokens * 8) (recordOf (draftToken (now (src .entry)) (m .span) (m .bytes) d)) ⌝ }
+{
+    token::put_token(list, m.tokens as usize, token_of(src, m.span, m.bytes, d));
+}
+
 // The marks after a draft.
 fn past_draft(m: Mark, d: Draft) -> Mark
     requires { ⌜ PastFits m d ⌝ }
@@ -110,12 +133,20 @@ fn past_draft(m: Mark, d: Draft) -> Mark
 }
 
 // A draft's value and record, from the marks on, and the marks after it.
-fn put_draft(src: &[u8], end: bool, m: Mark, d: Draft, list: &mut [u32], pool: &mut [u8]) -> Mark
-    requires { ⌜ DraftFits (now src) end m d (length (now list)) (length (now pool)) ⌝ }
+fn put_draft(
+    src: &[u8],
+    end: bool,
+    m: Mark,
+    d: Draft,
+    scratch: &[u8],
+    list: &mut [u32],
+    pool: &mut [u8],
+) -> Mark
+    requires { ⌜ DraftFits (now src) end (now scratch) m d (length (now list)) (length (now pool)) ⌝ }
     ensures { λ r. ⌜ DraftPut (now (src .entry)) m d (pieceOf (now (src .entry)) end d) (now (list .entry)) (now (pool .entry)) r (now (list .exit)) (now (pool .exit)) ⌝ }
 {
-    write_value(src, end, d, pool, m.bytes as usize);
-    token::put_token(list, m.tokens as usize, token_of(src, m.span, m.bytes, d));
+    write_value(src, end, d, scratch, pool, m.bytes as usize);
+    put_record(src, m, d, list);
     past_draft(m, d)
 }
 
@@ -127,6 +158,23 @@ fn draft_at(ds: Drafts, i: u32) -> Draft
         return ds.first;
     }
     ds.second
+}
+
+// The draft with this number, as `put_draft` puts it.
+fn put_nth(
+    src: &[u8],
+    end: bool,
+    m: Mark,
+    ds: Drafts,
+    i: u32,
+    scratch: &[u8],
+    list: &mut [u32],
+    pool: &mut [u8],
+) -> Mark
+    requires { ⌜ DraftFits (now src) end (now scratch) m (draftAt ds i) (length (now list)) (length (now pool)) ⌝ }
+    ensures { λ r. ⌜ DraftPut (now (src .entry)) m (draftAt ds i) (pieceOf (now (src .entry)) end (draftAt ds i)) (now (list .entry)) (now (pool .entry)) r (now (list .exit)) (now (pool .exit)) ⌝ }
+{
+    put_draft(src, end, m, draft_at(ds, i), scratch, list, pool)
 }
 
 // How many value bytes drafts have.
@@ -144,14 +192,22 @@ fn total(ds: Drafts) -> usize
 }
 
 // The values and records of drafts, one after another, from the marks on.
-fn put_drafts(src: &[u8], end: bool, m: Mark, ds: Drafts, list: &mut [u32], pool: &mut [u8])
-    requires { ⌜ DraftsFit (now src) end m ds (length (now list)) (length (now pool)) ⌝ }
+fn put_drafts(
+    src: &[u8],
+    end: bool,
+    m: Mark,
+    ds: Drafts,
+    scratch: &[u8],
+    list: &mut [u32],
+    pool: &mut [u8],
+)
+    requires { ⌜ DraftsFit (now src) end (now scratch) m ds (length (now list)) (length (now pool)) ⌝ }
     ensures { λ r. ⌜ DraftsPut (now (src .entry)) m (piecesOf (now (src .entry)) end ds) (now (list .entry)) (now (pool .entry)) (now (list .exit)) (now (pool .exit)) ⌝ }
 {
     let mut at = m;
     let mut i = 0;
     while i < ds.count {
-        at = put_draft(src, end, at, draft_at(ds, i), list, pool);
+        at = put_nth(src, end, at, ds, i, scratch, list, pool);
         i += 1;
     }
 }
@@ -199,8 +255,16 @@ fn advance(src: &[u8], m: Mark, w: Work, count: u32, len: u32) -> Next
 }
 
 // What a plan tells, where no frame is the 65th: refused where there is no room, else written.
-fn write_work(src: &[u8], end: bool, m: Mark, w: Work, list: &mut [u32], pool: &mut [u8]) -> Next
-    requires { ⌜ Works (now src) end m w (length (now list)) (length (now pool)) ⌝ }
+fn write_work(
+    src: &[u8],
+    end: bool,
+    m: Mark,
+    w: Work,
+    scratch: &[u8],
+    list: &mut [u32],
+    pool: &mut [u8],
+) -> Next
+    requires { ⌜ Works (now src) end (now scratch) m w (length (now list)) (length (now pool)) ⌝ }
     ensures { λ r. ⌜ Committed (now (src .entry)) m (now (list .entry)) (now (pool .entry)) (outcomeOf (now (src .entry)) end (Plan.Told w)) r (now (list .exit)) (now (pool .exit)) ⌝ }
 {
     let drafts = w.drafts;
@@ -210,21 +274,23 @@ fn write_work(src: &[u8], end: bool, m: Mark, w: Work, list: &mut [u32], pool: &
     if number != 0 {
         return stay(number, m.span, m);
     }
-    put_drafts(src, end, m, drafts, list, pool);
+    put_drafts(src, end, m, drafts, scratch, list, pool);
     advance(src, m, w, count, len)
 }
 
 // A plan becomes numbers, records and value bytes, or a refusal. Order: what the plan refuses, 9, 7, 8.
+// A value that is held stands in the scratch part.
 pub fn commit(
     src: &[u8],
     end: bool,
     m: Mark,
     depth: u32,
     plan: Plan,
+    scratch: &[u8],
     list: &mut [u32],
     pool: &mut [u8],
 ) -> Next
-    requires { ⌜ Commits (now src) end m plan (length (now list)) (length (now pool)) ⌝ }
+    requires { ⌜ Commits (now src) end (now scratch) m plan (length (now list)) (length (now pool)) ⌝ }
     ensures { λ r. ⌜ Committed (now (src .entry)) m (now (list .entry)) (now (pool .entry)) (limited depth (m .span .position) (outcomeOf (now (src .entry)) end plan)) r (now (list .exit)) (now (pool .exit)) ⌝ }
 {
     match plan {
@@ -233,7 +299,7 @@ pub fn commit(
             if is_full(change, depth) {
                 return stay(byte::STACK_FULL, m.span, m);
             }
-            write_work(src, end, m, w, list, pool)
+            write_work(src, end, m, w, scratch, list, pool)
         }
         Plan::Refused { number, place } => {
             let span = span_at(src, m.span, place);

@@ -4,8 +4,9 @@
 --   step-falls    a step that is done leaves less
 --   walk-ends     enough steps end, from every sound session
 --   cuts-whole    a script in parts gives what the uncut one gives, with enough steps and from a fresh session
+--   cuts-same     so two ways to cut a script give the same: a host may leave out a look, and have it at a later part
 use Prim.Native.Nat.{ℕ, zero, suc, _+_, _-_, _*_, _≤_, _<_}
-use mathlib.Core.Path.{sym, _≡_, refl}
+use mathlib.Core.Path.{sym, _≡_, refl, _∙_}
 use mathlib.Core.Bool.{Bool, true, false}
 use mathlib.Core.List.{List, [], _∷_}
 use native.Mathlib.Omega.{arith}
@@ -169,3 +170,11 @@ cuts-whole n parts choices l q bytes short fit enough =
     cuts-fresh n parts choices l q bytes short fit
     (walk-ends n (joined [] parts) true (freshSession choices) l q
     (record { good = fresh-good (joined [] parts) choices; tokens = omega arith; bytes = omega arith }) (omega arith))
+
+pub cuts-same : (n : ℕ) (parts others : List (List ℕ)) (choices : Choices) (l q : List ℕ) → joined [] others ≡ joined [] parts
+    → every isByte (joined [] parts) ≡ true → length (joined [] parts) ≤ 65536 → tablesFit (length l) (length q) ≡ true
+    → 2 * length (joined [] parts) + 1 < n
+    → fed n [] others (freshSession choices) l q ≡ fed n [] parts (freshSession choices) l q
+cuts-same n parts others choices l q e bytes short fit enough =
+    cuts-whole n others choices l q (rw e bytes) (rw e short) fit (rw e enough)
+    ∙ rw e (sym (cuts-whole n parts choices l q bytes short fit enough))

@@ -2,7 +2,7 @@
 --   goOn     a step that is done is followed by the next; any other answer is the last
 --   walked   at most so many steps
 --   calledOn a call and, where it is done, steps after it: at most so many in all
---   isDone, begins   done, and not finished; whether the call is done, where one is wanted
+--   isDone   done, and not finished
 --   isWait   refusal 6
 --   joined   the script that parts make
 --   fed      a script in parts: each part is stepped, with more announced, up to a wait; the next part comes after it, the session,
@@ -41,10 +41,6 @@ unfoldable pub isDone : Answer → Bool
 isDone Answer.Done = true
 isDone Answer.Finished = false
 isDone (Answer.Refused number span) = false
-
-unfoldable pub begins : Call → ℕ → List ℕ → Bool → Session → List ℕ → List ℕ → Bool
-begins call zero src end s list pool = false
-begins call (suc n) src end s list pool = isDone (called call src end s list pool .turn .answer)
 
 unfoldable pub isWait : Answer → Bool
 isWait (Answer.Refused number span) = eqb number wait

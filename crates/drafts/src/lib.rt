@@ -24,8 +24,9 @@ ghost use Rattle.number.specs.Numbers.{numberAt};
 ghost use Rattle.outcome.specs.Texts.{docKind, quoteKind, stopKind, stopDetail, variableChange, stopChange, isLeft, numberKind};
 ghost use Rattle.outcome.specs.Texts.{textRead, numbered};
 ghost use Rattle.outcome.specs.Steps.{nowdoc};
-ghost use Rattle.plan.specs.Code.{Here, Named, Plans};
-ghost use Rattle.drafts.specs.Code.{madeDraft, textDraft, sheetDraft, textPlan, literalKind, literalPlan};
+ghost use Rattle.plan.specs.Code.{Here, Named, Plans, PlansIn};
+ghost use Rattle.drafts.specs.Code.{madeDraft, isHeld, textMaking, textDraft, sheetDraft, textPlan};
+ghost use Rattle.drafts.specs.Code.{literalKind, literalPlan, Placed, readPlan};
 
 // The kind of an EndDocString by its indentation, which is never mixed.
 fn doc_kind(ind: Indentation) -> u32
@@ -148,24 +149,48 @@ fn text_end(stop: Stop, from: usize) -> usize
     }
 }
 
+// Whether a text's value of `len` bytes stands in a scratch part of `room` bytes. A nowdoc's does not: its label is looked
+// for, and nothing is written.
+fn is_held(mode: Mode, len: usize, room: usize) -> bool
+    ensures { λ r. ⌜ r ≡ isHeld mode len room ⌝ }
+{
+    match mode {
+        Mode::Single => len <= room,
+        Mode::Double => len <= room,
+        Mode::DoubleQuote => len <= room,
+        Mode::ShellExec => len <= room,
+        Mode::Heredoc => len <= room,
+        Mode::Nowdoc => false,
+    }
+}
+
+// How a text's value comes about that is not the source's own bytes.
+fn text_making(mode: Mode, label: Label, held: bool) -> Making
+    ensures { λ r. ⌜ r ≡ textMaking mode label held ⌝ }
+{
+    if held {
+        return Making::Held { mode, label };
+    }
+    Making::Text { mode, label }
+}
+
 // A text's value of `len` bytes: where nothing was escaped it is the source's own bytes.
 fn text_draft(
     kind: u32,
     place: usize,
-    mode: Mode,
-    label: Label,
+    making: Making,
     at: usize,
     len: usize,
     stop: Stop,
     from: usize,
 ) -> Draft
     requires { ⌜ at + len + gap stop ≤ from ⌝ }
-    ensures { λ r. ⌜ r ≡ textDraft kind place mode label at len stop from ⌝ }
+    ensures { λ r. ⌜ r ≡ textDraft kind place making at len stop from ⌝ }
 {
     if at + len == text_end(stop, from) {
         return plan::copied(kind, 0, place, at, at + len);
     }
-    made_draft(kind, place, Making::Text { mode, label }, at, from, len)
+    made_draft(kind, place, making, at, from, len)
 }
 
 // A sheet's value of `len` bytes: its rows up to the closing line. Without an indentation it is the source's own bytes.
@@ -264,12 +289,12 @@ fn literal_plan(draft: Draft, left: bool, after: usize) -> Plan
     plan::one(draft, after, Change::Keep)
 }
 
-// The text from `at` on, up to what ends it: a literal, which bears the span of `place`, or a mode's.
-pub fn text(mode: Mode, src: &[u8], label: Label, place: usize, at: usize, end: bool) -> Plan
-    requires { ⌜ Here (now src) at × Named (now src) label ⌝ }
-    ensures { λ r. ⌜ Plans (now (src .entry)) end (textRead mode place at (drop at (now (src .entry))) (textAt mode (labelBytes (now (src .entry)) label) end at (drop at (now (src .entry))))) r ⌝ }
+// The plan of a text that was measured: a literal, which bears the span of `place`, or a mode's. The scratch part has
+// `room` bytes.
+fn read_plan(mode: Mode, place: usize, label: Label, at: usize, room: usize, scan: Scanned) -> Plan
+    requires { ⌜ Placed at scan ⌝ }
+    ensures { λ r. ⌜ r ≡ readPlan mode place label at room scan ⌝ }
 {
-    let scan = text::scan_text(mode, src, plan::label_bytes(src, label), at, end);
     match scan {
         Scanned::Text {
             len,
@@ -277,27 +302,37 @@ pub fn text(mode: Mode, src: &[u8], label: Label, place: usize, at: usize, end: 
             from,
             after,
         } => {
+            let making = text_making(mode, label, is_held(mode, len, room));
             let kind = literal_kind(mode);
             if kind == 0 {
-                let part = text_draft(token::STRING_PART, at, mode, label, at, len, stop, from);
+                let part = text_draft(token::STRING_PART, at, making, at, len, stop, from);
                 return text_plan(mode, part, stop, from, after);
             }
             let left = is_left(stop);
-            let value = text_draft(
-                value_kind(kind, left),
-                place,
-                mode,
-                label,
-                at,
-                len,
-                stop,
-                from,
-            );
+            let value = text_draft(value_kind(kind, left), place, making, at, len, stop, from);
             literal_plan(value, left, after)
         }
         Scanned::Refused { number, place } => Plan::Refused { number, place },
         Scanned::Wait => Plan::Wait,
     }
+}
+
+// The text from `at` on, up to what ends it. A value that is not the source's own bytes stays in the scratch part, if it
+// fits there.
+pub fn text(
+    mode: Mode,
+    src: &[u8],
+    label: Label,
+    place: usize,
+    at: usize,
+    end: bool,
+    scratch: &mut [u8],
+) -> Plan
+    requires { ⌜ Here (now src) at × Named (now src) label ⌝ }
+    ensures { λ r. ⌜ PlansIn (now (src .entry)) end (now (scratch .exit)) (textRead mode place at (drop at (now (src .entry))) (textAt mode (labelBytes (now (src .entry)) label) end at (drop at (now (src .entry))))) r ⌝ }
+{
+    let scan = text::scan_text(mode, src, plan::label_bytes(src, label), at, end, scratch);
+    read_plan(mode, place, label, at, scratch.len(), scan)
 }
 
 // The kind of a number's token.

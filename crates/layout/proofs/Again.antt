@@ -36,7 +36,7 @@ pub record Held (s : Session) : Type 0 where
   pub slots : length (s .frames) ≡ 64
   pub labels : every isHeld (s .frames) ≡ true
 
-frame-again : (f : Frame) → isLabelNumbers (labelOf f .start) (labelOf f .len) ≡ true
+pub frame-again : (f : Frame) → isLabelNumbers (labelOf f .start) (labelOf f .len) ≡ true
     → frameIn (frameNumber f) (labelOf f .start) (labelOf f .len) ≡ f
 unfolding frameIn frameNumber labelOf labelIn
 frame-again Frame.Initial h = refl
@@ -158,7 +158,7 @@ slots-good src (suc count) (suc most) numbers h e =
     let rest = every (isSlot src) (take count (framesIn most (drop 3 numbers))) in
     &&-both _ _ (frameIn-good src (getD numbers 0 0) (getD numbers 1 0) (getD numbers 2 0) (&&-left (isFrame src f) rest e)) (slots-good src count most (drop 3 numbers) (omega arith) (&&-right (isFrame src f) rest e))
 
-depth-some : (depth choices : ℕ) → 1 ≤ depthIn depth choices → (areChoices choices ≡ true) × (depthIn depth choices ≡ depth)
+pub depth-some : (depth choices : ℕ) → 1 ≤ depthIn depth choices → (areChoices choices ≡ true) × (depthIn depth choices ≡ depth)
 unfolding depthIn
 depth-some depth choices =
     choice (λ (d : ℕ). 1 ≤ d → (areChoices choices ≡ true) × (d ≡ depth)) (areChoices choices) depth 0 (λ e h. (e, refl)) (λ e h. absurd (omega arith))

@@ -2,7 +2,6 @@
 --   answerNumbers, refusalIn   an answer in five numbers, and its refusal alone, or 0
 --   sessionAfter               the session's slice: changed where the call is not refused, and then alone
 --   Turned                     a turn written back: the refusal or 0, and what the two slices hold
---   Stored                     the same where the session's slice is changed by a refusal too: a walk, after a step that was done
 use Prim.Native.Nat.{ℕ}
 use mathlib.Core.List.{List, [], _∷_}
 use mathlib.Core.Path.{_≡_}
@@ -30,9 +29,4 @@ sessionAfter t session = if eqb (refusalIn (t .answer)) 0 then laid session 0 (n
 pub record Turned (t : Turn) (session answer : List ℕ) (r : ℕ) (session′ answer′ : List ℕ) : Type 0 where
   pub number : r ≡ refusalIn (t .answer)
   pub holds : session′ ≡ sessionAfter t session
-  pub tells : answer′ ≡ laid answer 0 (answerNumbers (t .answer))
-
-pub record Stored (t : Turn) (session answer : List ℕ) (r : ℕ) (session′ answer′ : List ℕ) : Type 0 where
-  pub number : r ≡ refusalIn (t .answer)
-  pub holds : session′ ≡ laid session 0 (numbersOf (t .session))
   pub tells : answer′ ≡ laid answer 0 (answerNumbers (t .answer))

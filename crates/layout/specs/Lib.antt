@@ -1,2 +1,3 @@
 pub mod Sessions
 pub mod Answers
+pub mod Lent

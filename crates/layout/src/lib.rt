@@ -10,11 +10,15 @@ use state::Slot;
 use state::Turn;
 ghost use mathlib.Core.Path.{_≡_};
 ghost use mathlib.Core.List.{[], _∷_};
-ghost use Prim.Native.Nat.{_+_, _≤_};
-ghost use lib.ListN.{length, drop};
+ghost use Prim.Native.Nat.{_+_, _*_, _≤_, _<_};
+ghost use lib.ListN.{length, getD, drop};
 ghost use Rattle.byte.specs.Laid.{laid};
-ghost use Rattle.layout.specs.Sessions.{frameNumber, labelOf, slotNumbers, framesNumbers, readingFlag, choicesNumber, headNumbers, numbersOf, labelIn, frameIn, slotIn, readingIn, areChoices, choicesIn, depthIn, sessionIn};
-ghost use Rattle.layout.specs.Answers.{answerNumbers, refusalIn, Turned, Stored};
+ghost use Rattle.state.specs.Bounds.{noSlot, isStack};
+ghost use Rattle.state.specs.Gates.{gateRefusal, lentRefusal};
+ghost use Rattle.state.specs.Calls.{spanOf};
+ghost use Rattle.layout.specs.Sessions.{frameNumber, labelOf, slotNumbers, framesNumbers, readingFlag, choicesNumber, headNumbers, numbersOf, labelIn, frameIn, slotIn, framesIn, readingIn, areChoices, choicesIn, depthIn, sessionIn};
+ghost use Rattle.layout.specs.Lent.{placeNumbers};
+ghost use Rattle.layout.specs.Answers.{answerNumbers, refusalIn, Turned};
 
 // The label in two numbers; one of no bytes where a number has more than 16 bits.
 fn label_in(start: u32, len: u32) -> Label
@@ -60,6 +64,15 @@ fn slot_in(numbers: &[u32], at: usize) -> Slot
     }
 }
 
+// The frame in slot i of a session's numbers.
+pub fn frame_at(numbers: &[u32], i: usize) -> Frame
+    requires { ⌜ (199 ≤ length (now numbers)) × (i < 64) ⌝ }
+    ensures { λ r. ⌜ r ≡ getD (framesIn 64 (drop 7 (now (numbers .entry)))) i noSlot .frame ⌝ }
+{
+    let slot = slot_in(numbers, 7 + i * 3);
+    slot.frame
+}
+
 // The reading that a flag stands for.
 fn reading_in(flag: u32) -> Reading
     ensures { λ r. ⌜ r ≡ readingIn flag ⌝ }
@@ -94,6 +107,89 @@ fn depth_in(depth: u32, choices: u32) -> u32
         return 0;
     }
     depth
+}
+
+// The place that a session's numbers stand at.
+pub fn span_in(numbers: &[u32]) -> Span
+    requires { ⌜ 199 ≤ length (now numbers) ⌝ }
+    ensures { λ r. ⌜ r ≡ spanOf (sessionIn (now (numbers .entry))) ⌝ }
+{
+    Span {
+        line: numbers[1],
+        column: numbers[2],
+        position: numbers[0],
+    }
+}
+
+// Whether the slots up to the depth hold a mode stack.
+fn is_stack_in(src: &[u8], numbers: &[u32], depth: u32) -> bool
+    requires { ⌜ (199 ≤ length (now numbers)) × ((depth ≤ 64) × (depth ≡ sessionIn (now numbers) .depth)) ⌝ }
+    ensures { λ r. ⌜ r ≡ isStack (now (src .entry)) (sessionIn (now (numbers .entry))) ⌝ }
+{
+    let most = depth as usize;
+    if !state::is_bottom(frame_at(numbers, 0)) {
+        return false;
+    }
+    let mut i = 0;
+    while i < most {
+        if !state::is_frame(src, frame_at(numbers, i)) {
+            return false;
+        }
+        i += 1;
+    }
+    true
+}
+
+// Refusals 11 and 12 of a source and a session's numbers, without the tables. 0 for neither.
+fn gate_alone(src: &[u8], numbers: &[u32]) -> u32
+    requires { ⌜ 199 ≤ length (now numbers) ⌝ }
+    ensures { λ r. ⌜ r ≡ gateRefusal (now (src .entry)) (sessionIn (now (numbers .entry))) ⌝ }
+{
+    if 65536 < src.len() {
+        return byte::TOO_LARGE;
+    }
+    let depth = depth_in(numbers[3], numbers[6]);
+    if !state::is_within(src.len(), span_in(numbers), depth) {
+        return byte::BAD_SESSION;
+    }
+    if !is_stack_in(src, numbers, depth) {
+        return byte::BAD_SESSION;
+    }
+    0
+}
+
+// A number as a length.
+fn wide(n: u32) -> usize
+    ensures { λ r. ⌜ r ≡ n ⌝ }
+{
+    n as usize
+}
+
+// Refusals 11 and 12 where a list of `list` numbers and a pool of `pool` bytes are lent. 0 for neither. Slots from the depth on are not
+// looked at.
+pub fn gate_in(src: &[u8], list: usize, pool: usize, numbers: &[u32]) -> u32
+    requires { ⌜ 199 ≤ length (now numbers) ⌝ }
+    ensures { λ r. ⌜ r ≡ lentRefusal (now (src .entry)) list pool (sessionIn (now (numbers .entry))) ⌝ }
+{
+    if 65536 < pool {
+        return byte::TOO_LARGE;
+    }
+    if 65537 < list / 8 {
+        return byte::TOO_LARGE;
+    }
+    let alone = gate_alone(src, numbers);
+    if alone != 0 {
+        return alone;
+    }
+    let tokens = wide(numbers[4]);
+    let bytes = wide(numbers[5]);
+    if list / 8 < tokens {
+        return byte::BAD_SESSION;
+    }
+    if pool < bytes {
+        return byte::BAD_SESSION;
+    }
+    0
 }
 
 // The session in 199 numbers.
@@ -166,6 +262,27 @@ fn put_slot(numbers: &mut [u32], at: usize, slot: Slot)
     numbers[at] = frame_number(f);
     numbers[at + 1] = l.start as u32;
     numbers[at + 2] = l.len as u32;
+}
+
+// A frame in slot i of a session's numbers.
+pub fn put_frame(numbers: &mut [u32], i: usize, f: Frame)
+    requires { ⌜ (199 ≤ length (now numbers)) × (i < 64) ⌝ }
+    ensures { λ r. ⌜ now (numbers .exit) ≡ laid (now (numbers .entry)) (7 + i * 3) (slotNumbers (record { frame = f })) ⌝ }
+{
+    put_slot(numbers, 7 + i * 3, Slot { frame: f });
+}
+
+// A session's place, depth and marks; the choices after them stay.
+pub fn put_place(numbers: &mut [u32], span: Span, depth: u32, tokens: u32, bytes: u32)
+    requires { ⌜ 199 ≤ length (now numbers) ⌝ }
+    ensures { λ r. ⌜ now (numbers .exit) ≡ laid (now (numbers .entry)) 0 (placeNumbers span depth tokens bytes) ⌝ }
+{
+    numbers[0] = span.position;
+    numbers[1] = span.line;
+    numbers[2] = span.column;
+    numbers[3] = depth;
+    numbers[4] = tokens;
+    numbers[5] = bytes;
 }
 
 // The flag of a reading, set or not.
@@ -275,16 +392,4 @@ pub fn put_turn(t: Turn, session: &mut [u32], answer: &mut [u32]) -> u32
         put_session(session, t.session);
     }
     refusal
-}
-
-// The answer and the session as numbers, after a step that was done: the session also where the last step is refused. Gives the
-// refusal or 0.
-pub fn put_walk(t: Turn, session: &mut [u32], answer: &mut [u32]) -> u32
-    requires { ⌜ (199 ≤ length (now session)) × (5 ≤ length (now answer)) ⌝ }
-    ensures { λ r. ⌜ Stored t (now (session .entry)) (now (answer .entry)) r (now (session .exit)) (now (answer .exit)) ⌝ }
-{
-    let a = t.answer;
-    put_answer(answer, a);
-    put_session(session, t.session);
-    refusal_in(a)
 }

@@ -1,6 +1,7 @@
 -- A call on each way through it. Assumes nothing.
 --   Lent, lent-opened   what an open gate tells
---   steps               over numbers and the top frame: bytes are passed, or the plan is committed
+--   step-passes         over numbers and the top frame: a step that only passes bytes
+--   steps               the plan is committed
 --   called-shut, open-..   in a session: the gate is shut, or what holds after it
 use Prim.Native.Nat.{ℕ, _+_, _/_, _≤_}
 use mathlib.Core.Path.{_≡_, refl, ap, _∙_}
@@ -11,7 +12,6 @@ use lib.Dec.{leb}
 use lib.ListN.{length, drop}
 use borrow.Author.Tests.{leb-true, le-leb, ne-eqb}
 use Rattle.source.specs.Cursor.{origin}
-use Rattle.source.specs.Code.{Reaches}
 use Rattle.source.specs.declared.Span.{Span}
 use Rattle.byte.proofs.Tests.{&&-left, &&-right, unrefused}
 use Rattle.state.specs.declared.Frame.{Frame}
@@ -20,7 +20,7 @@ use Rattle.state.specs.declared.Session.{Session}
 use Rattle.state.specs.declared.Turn.{Turn}
 use Rattle.state.specs.Bounds.{isWithin, isStack, isGood, fitsTables}
 use Rattle.state.specs.Gates.{sourceFits, tablesFit, lentRefusal}
-use Rattle.state.specs.Calls.{spanOf, refused}
+use Rattle.state.specs.Calls.{refused}
 use Rattle.state.proofs.Bounds.{Within, isWithin-facts}
 use Rattle.state.proofs.Longer.{top-good}
 use Rattle.token.specs.Records.{roomRefusal}
@@ -29,8 +29,8 @@ use Rattle.outcome.specs.Outcomes.{values, limited}
 use Rattle.outcome.specs.Steps.{topFrame, callAt, callOutcome}
 use Rattle.outcome.proofs.StepWays.{callAt-ways}
 use Rattle.plan.specs.declared.Plan.{Plan}
-use Rattle.plan.specs.Code.{outcomeOf, Plans, Here}
-use Rattle.modes.specs.Code.{Passes}
+use Rattle.plan.specs.Code.{outcomeOf, PlansIn, Here}
+use Rattle.modes.specs.Code.{Passes, Near}
 use Rattle.commit.specs.declared.Next.{Next}
 use Rattle.commit.specs.Records.{put, reached}
 use Rattle.commit.specs.Code.{isFull, Commits, Committed}
@@ -69,10 +69,6 @@ lent-opened src s list pool e =
       room = leb-true _ _ (&&-left (leb pool 65536) (leb (list / 8) 65537) fits);
     }
 
-pub markOf-made : (s : Session) (span : Span) → span ≡ spanOf s
-    → record { span = span; tokens = s .tokens; bytes = s .bytes } ≡ markOf s
-markOf-made s span e = rw e
-
 -- ---- over numbers and the top frame
 
 module _ (call : Call) (src : List ℕ) (end : Bool) (f : Frame) (choices : Choices) (at : Place) (l q : List ℕ)
@@ -80,14 +76,8 @@ module _ (call : Call) (src : List ℕ) (end : Bool) (f : Frame) (choices : Choi
   pub step-here : Here src (at .mark .span .position)
   step-here = record { inside = s .marked .cursor .inside; short = s .marked .cursor .short }
 
-  pub step-reaches : Reaches (at .mark .span) (length src)
-  step-reaches =
-      let c = s .marked .cursor in
-      record {
-        line = omega (arith, c .line, c .inside, c .short);
-        column = omega (arith, c .column, c .inside, c .short);
-        position = omega (arith, c .inside, c .short);
-      }
+  pub step-near : Near (at .mark .span)
+  step-near = record { line = s .marked .cursor .line; column = s .marked .cursor .column }
 
   -- bytes are passed: no piece is written, so there is room
   pub step-passes : (p : Span) (x : Next) → Passes call src f (at .mark .span) p → (p .position ≡ at .mark .span .position → ⊥)
@@ -106,10 +96,10 @@ module _ (call : Call) (src : List ℕ) (end : Bool) (f : Frame) (choices : Choi
         pool = rw (tokens, bytes, places, room);
       })
 
-  module _ (plan : Plan)
-      (p : Plans src end
+  module _ (scratch : List ℕ) (plan : Plan)
+      (p : PlansIn src end scratch
       (callAt call f src choices (at .depth) end (at .mark .span .position) (drop (at .mark .span .position) src)) plan) where
-    pub step-commits : Commits src end (at .mark) plan (length l) (length q)
+    pub step-commits : Commits src end scratch (at .mark) plan (length l) (length q)
     step-commits =
         record {
           marked = s .marked;
@@ -124,7 +114,7 @@ module _ (call : Call) (src : List ℕ) (end : Bool) (f : Frame) (choices : Choi
         → Committed src (at .mark) l q (outcomeAt call src end f choices at) x l′ q′
     step-committed x l′ q′ c = rw (p .told) at c
 
-pub ruleset steps = (step-here, step-reaches, step-passes, step-commits, step-committed)
+pub ruleset steps = (step-here, step-commits, step-committed)
 
 -- ---- in a session
 

@@ -27,8 +27,8 @@ use Rattle.outcome.specs.Texts.{textRead, numbered}
 use Rattle.outcome.specs.Scripts.{point, scripting}
 use Rattle.outcome.specs.Steps.{textMode, nowdoc, framed, scripted, callAt}
 use Rattle.plan.specs.declared.Plan.{Plan}
-use Rattle.plan.specs.Code.{Here, Named, Plans}
-use Rattle.plan.proofs.Plans.{refused-plans}
+use Rattle.plan.specs.Code.{Here, Named, PlansIn, Plans}
+use Rattle.plan.proofs.Plans.{refused-plans, plans-in}
 use Rattle.modes.specs.declared.rows.Way.{Way}
 use Rattle.modes.specs.declared.rows.Row.{Row}
 use Rattle.modes.specs.Code.{plainRow, digitWay, nowdocWay, wayOutcome, NoLiteral, Asked}
@@ -321,15 +321,24 @@ row-asked o src at row x e = rw e at (x .asked)
 
 module _ (call : Call) (f : Frame) (src : List ℕ) (choices : Choices) (depth : ℕ) (end : Bool) (at : ℕ) (row : Row)
     (x : Reads (calls call f src choices at) src at row) where
-  pub row-arm : (arm : Way) (r : Plan) → row .way ≡ arm → Plans src end (wayOutcome arm row src at depth end) r
-      → Plans src end (callAt call f src choices depth end at (drop at src)) r
-  unfolding calls
-  row-arm arm r k p =
-      rw (← x .told depth end) (subst (λ way. Plans src end (wayOutcome way row src at depth end) r) (sym k) p)
+  module _ (scratch : List ℕ) where
+    -- a routine that fills the scratch part
+    pub row-held : (arm : Way) (r : Plan) → row .way ≡ arm
+        → PlansIn src end scratch (wayOutcome arm row src at depth end) r
+        → PlansIn src end scratch (callAt call f src choices depth end at (drop at src)) r
+    unfolding calls
+    row-held arm r k p =
+        rw (← x .told depth end)
+        (subst (λ way. PlansIn src end scratch (wayOutcome way row src at depth end) r) (sym k) p)
 
-  pub row-refused : row .way ≡ Way.Refused
-      → Plans src end (callAt call f src choices depth end at (drop at src)) (Plan.Refused outOfPlace at)
-  unfolding wayOutcome
-  row-refused k = row-arm Way.Refused (Plan.Refused outOfPlace at) k (refused-plans src end outOfPlace at)
+    -- any other
+    pub row-arm : (arm : Way) (r : Plan) → row .way ≡ arm → Plans src end (wayOutcome arm row src at depth end) r
+        → PlansIn src end scratch (callAt call f src choices depth end at (drop at src)) r
+    row-arm arm r k p = row-held arm r k (plans-in src end scratch (wayOutcome arm row src at depth end) r p)
 
-pub ruleset planned = (row-asked, row-arm, row-refused)
+    pub row-refused : row .way ≡ Way.Refused
+        → PlansIn src end scratch (callAt call f src choices depth end at (drop at src)) (Plan.Refused outOfPlace at)
+    unfolding wayOutcome
+    row-refused k = row-held Way.Refused (Plan.Refused outOfPlace at) k (refused-plans src end outOfPlace at)
+
+pub ruleset planned = (row-asked, row-held, row-arm, row-refused)

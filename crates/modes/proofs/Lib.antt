@@ -2,3 +2,4 @@ pub mod Looks
 pub mod Frames
 pub mod Passes
 pub mod Calls
+pub mod Runs

@@ -186,7 +186,7 @@ module _ (call : Call) (src : List ℕ) (f : Frame) (p : Span) where
   unfolding passed
   passes-same here =
       let none : p .position - p .position ≡ 0 = omega arith in
-      record { low = omega arith; high = here .inside; span = rw none; told = λ h. absurd (h refl) }
+      record { low = omega arith; high = here .inside; span = rw none; step = λ h. absurd (h refl); told = λ h. absurd (h refl) }
 
   module _ (step flag : Bool) (g : step ≡ isStep call) (u : not step ≡ false) (e : flag ≡ isScripting f)
       (t : not flag ≡ false) (k : ℕ) (q : PassesAt src (p .position) k) where
@@ -202,6 +202,7 @@ module _ (call : Call) (src : List ℕ) (f : Frame) (p : Span) where
           low = omega arith;
           high = omega (arith, q .inside);
           span = rw count s;
+          step = λ h. same;
           told = λ h choices depth end. rw (same, frame, place) (q .told (λ z. h (omega arith)) depth end);
         }
 

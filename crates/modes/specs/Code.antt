@@ -11,8 +11,10 @@
 --   isOther       a byte of the table's last row, if no identifier starts with it
 --   PassesAt      so many bytes are passed from a place on; 0 tells nothing
 --   Passes        r is the place after such a step; the cursor p itself tells nothing
+--   Near          a cursor's line and column are no larger than its position and one
+--   PassesOn      such steps in a row, from p with so many steps left: where they end, and how many are left there
 -- What is told holds of every session with this frame on top, at the announced end or before it.
-use Prim.Native.Nat.{ℕ, _+_, _-_, _≤_}
+use Prim.Native.Nat.{ℕ, _+_, _-_, _≤_, _<_}
 use Prim.Native.Char.{code}
 use mathlib.Core.Path.{_≡_}
 use mathlib.Core.Bool.{Bool, true, false, not, _&&_}
@@ -126,5 +128,16 @@ pub record Passes (call : Call) (src : List ℕ) (f : Frame) (p r : Span) : Type
   pub low : p .position ≤ r .position
   pub high : r .position ≤ length src
   pub span : r ≡ passed p (take (r .position - p .position) (drop (p .position) src))
+  pub step : (r .position ≡ p .position → ⊥) → call ≡ Call.Step
   pub told : (r .position ≡ p .position → ⊥) → (choices : Choices) (depth : ℕ) (end : Bool)
       → callAt call f src choices depth end (p .position) (drop (p .position) src) ≡ goes (r .position) Change.Keep
+
+pub record Near (p : Span) : Type 0 where
+  pub line : p .line ≤ p .position + 1
+  pub column : p .column ≤ p .position + 1
+
+pub data PassesOn (call : Call) (src : List ℕ) (f : Frame) (p : Span) (most : ℕ) : Span → ℕ → Type 0 where
+  none : PassesOn call src f p most p most
+  more : {q : Span} {left : ℕ} → PassesOn call src f p most q left → 0 < left → (r : Span) → Passes call src f q r
+      → (r .position ≡ q .position → ⊥)
+      → PassesOn call src f p most r (left - 1)

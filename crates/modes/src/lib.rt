@@ -13,7 +13,7 @@ ghost use mathlib.Core.Bool.{true};
 ghost use lib.ListN.{drop};
 ghost use Rattle.state.specs.Bounds.{isFrame};
 ghost use Rattle.outcome.specs.Steps.{callAt};
-ghost use Rattle.plan.specs.Code.{Here, Plans};
+ghost use Rattle.plan.specs.Code.{Here, PlansIn};
 
 mod lookings;
 mod passing;
@@ -21,9 +21,10 @@ mod rows;
 mod scripting;
 
 pub use passing::is_scripting;
-pub use passing::passed;
+pub use passing::pass_on;
 
-// The plan of a call with this frame on top, from a place on. Each routine is called here alone.
+// The plan of a call with this frame on top, from a place on. Each routine is called here alone; a text fills the scratch
+// part.
 pub fn plan_of(
     call: Call,
     src: &[u8],
@@ -32,16 +33,17 @@ pub fn plan_of(
     choices: Choices,
     depth: u32,
     at: usize,
+    scratch: &mut [u8],
 ) -> Plan
     requires { ⌜ Here (now src) at × (isFrame (now src) f ≡ true) ⌝ }
-    ensures { λ r. ⌜ Plans (now (src .entry)) end (callAt call f (now (src .entry)) choices depth end at (drop at (now (src .entry)))) r ⌝ }
+    ensures { λ r. ⌜ PlansIn (now (src .entry)) end (now (scratch .exit)) (callAt call f (now (src .entry)) choices depth end at (drop at (now (src .entry)))) r ⌝ }
 {
     let row = rows::row_of(call, src, f, choices, at);
     let way = row.way;
     let mode = row.mode;
     match way {
         Way::Number => drafts::number(at, src, at, end),
-        Way::Text => drafts::text(mode, src, row.label, at, row.start, end),
+        Way::Text => drafts::text(mode, src, row.label, at, row.start, end, scratch),
         Way::Sheet => drafts::sheet_mode(src, row.label, at, end),
         Way::Initial => initial::initial(src, at, end),
         Way::Scripting => scripting::scripting(src, at, end, depth),

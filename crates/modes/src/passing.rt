@@ -7,7 +7,7 @@ ghost use lib.ListN.{length};
 ghost use Rattle.state.specs.Bounds.{isScripting};
 ghost use Rattle.source.specs.Code.{Reaches};
 ghost use Rattle.plan.specs.Code.{Here};
-ghost use Rattle.modes.specs.Code.{isStep, isOther, PassesAt, Passes};
+ghost use Rattle.modes.specs.Code.{isStep, isOther, PassesAt, Passes, Near, PassesOn};
 
 // Whether a call is a step.
 fn is_step(call: Call) -> bool
@@ -80,7 +80,7 @@ fn passed_at(src: &[u8], at: usize) -> usize
 }
 
 // The place after such a step; the place itself where the call is another.
-pub fn passed(call: Call, src: &[u8], f: Frame, p: Span) -> Span
+fn passed(call: Call, src: &[u8], f: Frame, p: Span) -> Span
     requires { ⌜ Here (now src) (p .position) × Reaches p (length (now src)) ⌝ }
     ensures { λ r. ⌜ Passes call (now (src .entry)) f p r ⌝ }
 {
@@ -100,4 +100,28 @@ pub fn passed(call: Call, src: &[u8], f: Frame, p: Span) -> Span
         column: p.column + k as u32,
         position: p.position + k as u32,
     }
+}
+
+// Where steps end that only pass bytes, and how many are left there.
+pub struct PassedOn {
+    pub span: Span,
+    pub left: u32,
+}
+
+// Such steps in a row, at most `most` of them.
+pub fn pass_on(call: Call, src: &[u8], f: Frame, p: Span, most: u32) -> PassedOn
+    requires { ⌜ Here (now src) (p .position) × Near p ⌝ }
+    ensures { λ r. ⌜ PassesOn call (now (src .entry)) f p most (r .span) (r .left) ⌝ }
+{
+    let mut span = p;
+    let mut left = most;
+    while 0 < left {
+        let next = passed(call, src, f, span);
+        if next.position == span.position {
+            return PassedOn { span, left };
+        }
+        span = next;
+        left -= 1;
+    }
+    PassedOn { span, left }
 }

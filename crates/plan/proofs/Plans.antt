@@ -6,6 +6,7 @@ use mathlib.Core.List.{List, [], _∷_, _++_}
 use native.Mathlib.Omega.{arith}
 use native.Mathlib.Numerals.{add-one}
 use lib.ListN.{length, take, drop, length-take, length-drop}
+use lib.Seq.{take-nil}
 use borrow.Author.Tests.{eq-eqb, ne-eqb}
 use Rattle.byte.specs.Words.{if_then_else_}
 use Rattle.state.specs.declared.Label.{Label}
@@ -13,11 +14,13 @@ use Rattle.state.specs.Bounds.{labelBytes}
 use Rattle.outcome.specs.declared.Change.{Change}
 use Rattle.outcome.specs.Outcomes.{Outcome, unlessEmpty, goes, ending}
 use Rattle.outcome.specs.Lookings.{token}
+use Rattle.plan.specs.declared.Making.{Making}
 use Rattle.plan.specs.declared.Draft.{Draft}
 use Rattle.plan.specs.declared.Drafts.{Drafts}
 use Rattle.plan.specs.declared.Plan.{Plan}
-use Rattle.plan.specs.Code.{madeBy, made, pieceOf, pieces, outcomeOf, Named, Ready, Plans, copiedDraft}
-use Rattle.plan.specs.Code.{noDraft, noDrafts, oneDraft, twoDrafts}
+use Rattle.plan.specs.Code.{madeBy, made, pieceOf, pieces, outcomeOf, Named, Able, Ready, AllReady, PlanReady}
+use Rattle.plan.specs.Code.{PlansIn, Plans}
+use Rattle.plan.specs.Code.{copiedDraft, noDraft, noDrafts, oneDraft, twoDrafts, draftsOf}
 use Rattle.plan.specs.Code.{workPlan, goesPlan, onePlan, partedPlan, endingPlan}
 
 -- the bytes that a label names, as a part of the source
@@ -55,8 +58,9 @@ module _ (part d : Draft) (after : ℕ) (change : Change) where
 pub ruleset parting = (partedPlan-empty, partedPlan-some)
 
 -- bytes of the source can be copied
-pub copied-ready : (src : List ℕ) (end : Bool) (kind detail place from to : ℕ) → from ≤ to → to ≤ length src
-    → Ready src end (copiedDraft kind detail place from to)
+pub copied-ready : {scratch : List ℕ} (src : List ℕ) (end : Bool) (kind detail place from to : ℕ) → from ≤ to
+    → to ≤ length src
+    → Ready src end scratch (copiedDraft kind detail place from to)
 unfolding madeBy
 copied-ready src end kind detail place from to h i =
     record {
@@ -85,11 +89,12 @@ module _ (src : List ℕ) (end : Bool) where
   unfolding outcomeOf pieces
   goes-plans after change = record { told = refl; ready = record { few = omega arith; all = tt } }
 
-  pub refused-plans : (number place : ℕ) → Plans src end (Outcome.Refused number place) (Plan.Refused number place)
+  pub refused-plans : {scratch : List ℕ} (number place : ℕ)
+      → PlansIn src end scratch (Outcome.Refused number place) (Plan.Refused number place)
   unfolding outcomeOf
   refused-plans number place = record { told = refl; ready = tt }
 
-  pub wait-plans : Plans src end Outcome.Wait Plan.Wait
+  pub wait-plans : {scratch : List ℕ} → PlansIn src end scratch Outcome.Wait Plan.Wait
   unfolding outcomeOf
   wait-plans = record { told = refl; ready = tt }
 
@@ -113,9 +118,11 @@ module _ (src : List ℕ) (end : Bool) where
         rw (f, e, add-one at) (ending-plans (goes (suc at) Change.Keep) (goesPlan (suc at) Change.Keep) (goes-plans (suc at) Change.Keep))
 
 -- a part, if it is not empty, and the token after it
-module _ (src : List ℕ) (end : Bool) (part d : Draft) (after : ℕ) (change : Change) where
-  parted-value : (value : List ℕ) → made src end part ≡ value → part .detail ≡ 0 → Ready src end part → Ready src end d
-      → Plans src end (Outcome.Told (unlessEmpty (part .kind) (part .place) value ++ pieceOf src end d ∷ []) after change false)
+module _ {scratch : List ℕ} (src : List ℕ) (end : Bool) (part d : Draft) (after : ℕ) (change : Change) where
+  parted-value : (value : List ℕ) → made src end part ≡ value → part .detail ≡ 0 → Ready src end scratch part
+      → Ready src end scratch d
+      → PlansIn src end scratch
+      (Outcome.Told (unlessEmpty (part .kind) (part .place) value ++ pieceOf src end d ∷ []) after change false)
       (partedPlan part d after change)
   unfolding outcomeOf pieces unlessEmpty
   parted-value [] v z p q =
@@ -125,11 +132,44 @@ module _ (src : List ℕ) (end : Bool) (part d : Draft) (after : ℕ) (change : 
       let e : part .len ≡ suc (length rest) = p .size ∙ rw v in
       rw (ne-eqb (part .len) 0 (λ y. omega arith)) (record { told = rw (v, z); ready = record { few = omega arith; all = (p, (q, tt)) } })
 
-  pub parted-plans : part .detail ≡ 0 → Ready src end part → Ready src end d
-      → Plans src end
+  pub parted-plans : part .detail ≡ 0 → Ready src end scratch part → Ready src end scratch d
+      → PlansIn src end scratch
       (Outcome.Told (unlessEmpty (part .kind) (part .place) (made src end part) ++ pieceOf src end d ∷ []) after change false)
       (partedPlan part d after change)
   parted-plans z p q = parted-value (made src end part) refl z p q
+
+-- what needs no scratch part can be written with any: a value that is held in none has no bytes
+module _ (src : List ℕ) (end : Bool) (scratch : List ℕ) where
+  able-in : (making : Making) (from to len : ℕ) (value : List ℕ) → len ≡ length value
+      → Able making src [] from to len value
+      → Able making src scratch from to len value
+  able-in Making.Copied from to len value e a = a
+  able-in (Making.Held mode label) from to len value e a =
+      let none : [] ≡ value = sym (take-nil len) ∙ a .same in
+      let z : len ≡ 0 = e ∙ rw (← none) in
+      record { block = a .block; same = rw (z, ← none) }
+  able-in (Making.Text mode label) from to len value e a = a
+  able-in Making.Number from to len value e a = a
+  able-in (Making.Sheet blank width) from to len value e a = a
+
+  all-in : (drafts : List Draft) → AllReady drafts src end [] → AllReady drafts src end scratch
+  all-in [] r = tt
+  all-in (d ∷ more) r = (
+    record {
+      size = r .0 .size;
+      able = able-in (d .making) (d .from) (d .to) (d .len) (made src end d) (r .0 .size)
+          (r .0 .able);
+    },
+    all-in more (r .1),
+  )
+
+  ready-in : (r : Plan) → PlanReady r src end [] → PlanReady r src end scratch
+  ready-in (Plan.Told w) r = record { few = r .few; all = all-in (draftsOf (w .drafts)) (r .all) }
+  ready-in (Plan.Refused number place) r = tt
+  ready-in Plan.Wait r = tt
+
+  pub plans-in : (o : Outcome) (r : Plan) → Plans src end o r → PlansIn src end scratch o r
+  plans-in o r p = record { told = p .told; ready = ready-in r (p .ready) }
 
 -- plans that meet one statement make one outcome: they may differ in how a value comes about, and in nothing that is written
 pub plans-one : (src : List ℕ) (end : Bool) (o : Outcome) (r r′ : Plan) → Plans src end o r → Plans src end o r′

@@ -2,9 +2,11 @@
 --   madeBy, made      the value of a draft
 --   draftsOf          the drafts that count, in order
 --   pieceOf, piecesOf, outcomeOf   a draft, drafts and a plan in the outcome's words
---   Able, Ready       a draft whose value can be written: its length is the value's, and its ranges lie within the source
---   AllReady, DraftsReady   the same of drafts
---   Plans             the plan makes this outcome, and can be written: what each routine's contract says
+--   Able, Ready       a draft whose value can be written: its length is the value's, and its ranges lie within the source;
+--                     a value that is held stands at the start of the scratch part
+--   AllReady, DraftsReady, PlanReady   the same of drafts, and of a plan
+--   PlansIn           the plan makes this outcome, and can be written with this scratch part
+--   Plans             the same without one: what the contract of each routine says that fills none
 --   Here              a place of a source that is not too long; its end is one
 --   Named             a label's range within the source
 use Prim.Native.Nat.{ℕ, _+_, _-_, _≤_}
@@ -29,6 +31,8 @@ use Rattle.plan.specs.declared.Plan.{Plan}
 
 unfoldable pub madeBy : Making → List ℕ → Bool → ℕ → ℕ → List ℕ
 madeBy Making.Copied src end from to = take (to - from) (drop from src)
+madeBy (Making.Held mode label) src end from to =
+    text.valueOf (textAt mode (labelBytes src label) end from (drop from src))
 madeBy (Making.Text mode label) src end from to = text.valueOf (textAt mode (labelBytes src label) end from (drop from src))
 madeBy Making.Number src end from to = number.valueOf src from to
 madeBy (Making.Sheet blank width) src end from to =
@@ -72,33 +76,42 @@ pub record Block (src : List ℕ) (label : Label) (from : ℕ) : Type 0 where
   pub start : from ≤ length src
   pub name : Named src label
 
-abbrev pub Able : Making → List ℕ → ℕ → ℕ → Type 0
-Able Making.Copied src from to = Range src from to
-Able (Making.Text mode label) src from to = Block src label from
-Able Making.Number src from to = Range src from to
-Able (Making.Sheet blank width) src from to = Range src from to
+-- a text's value of `len` bytes stands at the start of the scratch part
+pub record Kept (src : List ℕ) (label : Label) (from : ℕ) (scratch : List ℕ) (len : ℕ) (value : List ℕ) : Type 0 where
+  pub block : Block src label from
+  pub same : take len scratch ≡ value
 
-pub record Ready (src : List ℕ) (end : Bool) (d : Draft) : Type 0 where
+abbrev pub Able : Making → List ℕ → List ℕ → ℕ → ℕ → ℕ → List ℕ → Type 0
+Able Making.Copied src scratch from to len value = Range src from to
+Able (Making.Held mode label) src scratch from to len value = Kept src label from scratch len value
+Able (Making.Text mode label) src scratch from to len value = Block src label from
+Able Making.Number src scratch from to len value = Range src from to
+Able (Making.Sheet blank width) src scratch from to len value = Range src from to
+
+pub record Ready (src : List ℕ) (end : Bool) (scratch : List ℕ) (d : Draft) : Type 0 where
   pub size : d .len ≡ length (made src end d)
-  pub able : Able (d .making) src (d .from) (d .to)
+  pub able : Able (d .making) src scratch (d .from) (d .to) (d .len) (made src end d)
 
-abbrev pub AllReady : List Draft → List ℕ → Bool → Type 0
-AllReady [] src end = Unit {0}
-AllReady (d ∷ more) src end = Ready src end d × AllReady more src end
+abbrev pub AllReady : List Draft → List ℕ → Bool → List ℕ → Type 0
+AllReady [] src end scratch = Unit {0}
+AllReady (d ∷ more) src end scratch = Ready src end scratch d × AllReady more src end scratch
 
 -- none is counted that is not there
-pub record DraftsReady (ds : Drafts) (src : List ℕ) (end : Bool) : Type 0 where
+pub record DraftsReady (ds : Drafts) (src : List ℕ) (end : Bool) (scratch : List ℕ) : Type 0 where
   pub few : ds .count ≤ 2
-  pub all : AllReady (draftsOf ds) src end
+  pub all : AllReady (draftsOf ds) src end scratch
 
-abbrev pub PlanReady : Plan → List ℕ → Bool → Type 0
-PlanReady (Plan.Told w) src end = DraftsReady (w .drafts) src end
-PlanReady (Plan.Refused number place) src end = Unit {0}
-PlanReady Plan.Wait src end = Unit {0}
+abbrev pub PlanReady : Plan → List ℕ → Bool → List ℕ → Type 0
+PlanReady (Plan.Told w) src end scratch = DraftsReady (w .drafts) src end scratch
+PlanReady (Plan.Refused number place) src end scratch = Unit {0}
+PlanReady Plan.Wait src end scratch = Unit {0}
 
-pub record Plans (src : List ℕ) (end : Bool) (o : Outcome) (r : Plan) : Type 0 where
+pub record PlansIn (src : List ℕ) (end : Bool) (scratch : List ℕ) (o : Outcome) (r : Plan) : Type 0 where
   pub told : outcomeOf src end r ≡ o
-  pub ready : PlanReady r src end
+  pub ready : PlanReady r src end scratch
+
+abbrev pub Plans : List ℕ → Bool → Outcome → Plan → Type 0
+Plans src end o r = PlansIn src end [] o r
 
 abbrev pub copiedDraft : ℕ → ℕ → ℕ → ℕ → ℕ → Draft
 copiedDraft kind detail place from to =

@@ -12,7 +12,9 @@ ghost use Rattle.plan.specs.Code.{Named, copiedDraft, noDraft, noDrafts,
 pub enum Making {
     // The source's own bytes.
     Copied,
-    // The value of a text; a mode without a label has an empty range.
+    // The value of a text, which stands at the start of the scratch part; a mode without a label has an empty range.
+    Held { mode: Mode, label: Label },
+    // The same of a text that is longer than the scratch part: it is read again.
     Text { mode: Mode, label: Label },
     Number,
     // The rows of a sheet without their indentation and the last break: which byte, and how many.

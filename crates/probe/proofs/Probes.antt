@@ -1,10 +1,12 @@
 -- A reading asked for by numbers, on each way through the code. Assumes nothing.
-use Prim.Native.Nat.{ℕ, _≤_, _<_}
+use Prim.Native.Nat.{ℕ, _+_, _≤_, _<_}
 use mathlib.Core.Path.{_≡_, refl, sym, ap, _∙_}
 use mathlib.Core.Bool.{Bool, true, false, false≢true}
-use mathlib.Core.List.{List}
+use mathlib.Core.List.{List, _++_, append-nil}
+use native.Mathlib.Omega.{arith}
 use lib.Dec.{leb}
-use lib.ListN.{length, drop}
+use lib.ListN.{length, take, drop, drop-of-length-le}
+use lib.Seq.{length-take-le}
 use borrow.Author.Tests.{le-leb, lt-leb, leb-true, ne-eqb}
 use Rattle.byte.specs.Words.{announced}
 use Rattle.byte.specs.Laid.{laid}
@@ -15,7 +17,8 @@ use Rattle.unit.specs.declared.Mode.{Mode}
 use Rattle.unit.specs.declared.Stop.{Stop}
 use Rattle.unit.specs.Readings.{Reading, Text, Refused, Wait, textAt}
 use Rattle.text.specs.declared.Scanned.{Scanned}
-use Rattle.text.specs.Code.{measured, valueOf, Measured}
+use Rattle.text.specs.Code.{measured, valueOf, gathered, Reads, Scans}
+use Rattle.text.proofs.Writes.{value-gathered}
 use Rattle.probe.specs.declared.Probed.{Probed}
 use Rattle.probe.specs.Probes.{modeOf, asked, stopNumber, amountOf, numbered, valueRefusal, written, Valued}
 
@@ -75,9 +78,10 @@ module _ (mode : ℕ) (src label : List ℕ) (at end : ℕ) (r : Scanned) where
         unfolding asked measured
         asked-label h e = e ∙ rw (le-leb (length src) 65536 short, le-leb mode 5 known, le-leb at (length src) start, lt-leb (length label) 64 h)
 
-        pub asked-done : (m : Mode) → length label ≤ 64 → m ≡ modeOf mode → r ≡ measured (textAt m label (announced end) at (drop at src)) → r ≡ measured (asked mode src label at end)
+        pub asked-done : (m : Mode) (part after : List ℕ) → length label ≤ 64 → m ≡ modeOf mode
+            → Scans m src label at (announced end) part r after → r ≡ measured (asked mode src label at end)
         unfolding asked
-        asked-done m h f e = e ∙ rw (f, le-leb (length src) 65536 short, le-leb mode 5 known, le-leb at (length src) start, le-leb (length label) 64 h)
+        asked-done m part after h f p = p .told ∙ rw (f, le-leb (length src) 65536 short, le-leb mode 5 known, le-leb at (length src) start, le-leb (length label) 64 h)
 
 pub ruleset askings = (asked-large, asked-mode, asked-past, asked-label, asked-done)
 
@@ -134,6 +138,18 @@ text-size len stop from after (Text value other start end) e = ap sizeOf e
 text-size len stop from after (Refused number place) e = absurd (false≢true (sym (ap isText e)))
 text-size len stop from after Wait e = absurd (false≢true (sym (ap isText e)))
 
+-- what fills the start of a part is written at the start of the whole
+laid-start : (part : List ℕ) (len : ℕ) (vs : List ℕ) → len ≤ length part → len ≡ length vs
+    → laid (take len part) 0 vs ++ drop len part ≡ laid part 0 vs
+unfolding laid
+laid-start part len vs h e =
+    let all : length (take len part) ≤ 0 + length vs = omega (arith, length-take-le len part h) in
+    let same : 0 + length vs ≡ len = omega (arith, e) in
+    rw (drop-of-length-le (take len part) all, append-nil vs, same)
+
+pub value-size : (part : List ℕ) (len : ℕ) → len ≤ length part → len ≡ length (take len part)
+value-size part len h = sym (length-take-le len part h)
+
 -- a text was asked for in bounds
 record InBounds (mode : ℕ) (src label : List ℕ) (at end : ℕ) (reading : Reading) : Type 0 where
   start : at ≤ length src
@@ -165,30 +181,35 @@ module _ (mode : ℕ) (src label : List ℕ) (at end : ℕ) where
     pub value-wait : s ≡ Scanned.Wait → Valued part (asked mode src label at end) 6 part
     value-wait t = wait-valued part (asked mode src label at end) (sym t ∙ e)
 
-    module _ (len : ℕ) (stop : Stop) (from after : ℕ) (t : s ≡ Scanned.Text len stop from after) where
+    module _ (len : ℕ) (stop : Stop) (from after′ : ℕ) (t : s ≡ Scanned.Text len stop from after′) where
       pub value-full : length part < len → Valued part (asked mode src label at end) 8 part
-      value-full h = full-valued part len stop from after (asked mode src label at end) (sym t ∙ e) h
+      value-full h = full-valued part len stop from after′ (asked mode src label at end) (sym t ∙ e) h
 
       bounds : InBounds mode src label at end (asked mode src label at end)
       bounds = asked-bounds (ap isText (sym e ∙ t))
 
-      module _ (h : len ≤ length part) (m : Mode) (f : m ≡ modeOf mode) where
-        pub value-measured : Measured m src label at (announced end) len (length part)
-        value-measured =
-            record {
-              start = bounds .start;
-              short = bounds .short;
-              name = bounds .name;
-              size = text-size len stop from after (asked mode src label at end) (sym t ∙ e) ∙ rw (f, bounds .same);
-              fits = h;
-            }
+      pub value-start : at ≤ length src
+      value-start = bounds .start
 
-        pub value-done : (holds : List ℕ) → holds ≡ laid part 0 (valueOf (textAt m label (announced end) at (drop at src))) → Valued part (asked mode src label at end) 0 holds
-        value-done holds g =
-            let same : holds ≡ laid part 0 (valueOf (asked mode src label at end)) = g ∙ rw (f, bounds .same) in
-            rw same (text-valued part len stop from after (asked mode src label at end) (sym t ∙ e) h)
+      pub value-short : length src ≤ 65536
+      value-short = bounds .short
 
-pub ruleset valuings = (value-refused, value-wait, value-full, value-measured, value-done)
+      pub value-name : length label ≤ 64
+      value-name = bounds .name
+
+      pub value-done : (m : Mode) (r : Scanned) (after : List ℕ) → len ≤ length part → m ≡ modeOf mode
+          → Reads m src label at (announced end) (take len part) r after
+          → Valued part (asked mode src label at end) 0 (after ++ drop len part)
+      value-done m r after h f p =
+          let value = valueOf (asked mode src label at end) in
+          let size : len ≡ length value = text-size len stop from after′ (asked mode src label at end) (sym t ∙ e) in
+          let start : take len (gathered m label (announced end) 0 at (drop at src)) ≡ value =
+          rw (f, size, bounds .same) (sym (value-gathered (modeOf mode) label (announced end) at (drop at src))) in
+          let held : after ≡ laid (take len part) 0 value = p .held ∙ rw (length-take-le len part h, start) in
+          let whole : after ++ drop len part ≡ laid part 0 value = rw held (laid-start part len value h size) in
+          rw whole (text-valued part len stop from after′ (asked mode src label at end) (sym t ∙ e) h)
+
+pub ruleset valuings = (value-refused, value-wait, value-full, value-size, value-start, value-short, value-name, value-done)
 
 -- two results that meet one statement are equal
 pub valued-one : (part : List ℕ) (reading : Reading) (r r′ : ℕ) (after after′ : List ℕ) → Valued part reading r after → Valued part reading r′ after′ → (r ≡ r′) × (after ≡ after′)

@@ -155,7 +155,8 @@ fn scanned(mode: u32, src: &[u8], label: &[u8], at: usize, end: u32) -> Scanned
     if 64 < label.len() {
         return refused(byte::OUT_OF_PLACE);
     }
-    text::scan_text(mode_of(mode), src, label, at, end != 0)
+    let mut none = [0u8; 0];
+    text::scan_text(mode_of(mode), src, label, at, end != 0, &mut none)
 }
 
 // A text from `at` on: what ended it and how long its value is. With `end` 0, more may come after the source.
@@ -194,7 +195,7 @@ pub extern "C" fn puretakoi_probe_value(
             if value.len() < len {
                 return byte::POOL_FULL;
             }
-            text::write_text(mode_of(mode), src, label, at, end != 0, len, value);
+            text::read_text(mode_of(mode), src, label, at, end != 0, &mut value[..len]);
             0
         }
         Scanned::Refused { number, place: _ } => number,

@@ -1,14 +1,14 @@
--- What a host's call gives (include/puretakoi.h): the numbers are read as a session, the call of crate lexer, walk or state is made,
--- and its answer and session are written back as numbers.
+-- What a host's call gives (include/puretakoi.h): the numbers stand for a session, the call of crate walk or state is made, and its answer
+-- and its session are written as numbers.
 --   areLong               a session has its 199 numbers and an answer its 5; else 10, and nothing is written
 --   Crossed               the refusal or 0, and what the slices of session and answer hold, for a call with a turn
---   Called                the same with list and pool, for the step and the readings
---   Answered              these four: the numbers read, the call, the numbers written back
---   walkSession, WalkCalled, Turns, Walked   a call and steps after it: where none is wanted, or the first is refused, the session stays
+--   WalkCalled            a call and steps after it, with list and pool: where none is wanted, or the first is refused, the session's
+--                         numbers stay; else they stand for the session after it, and a slot that no step changed keeps its own
+--   Answered, Turns, Walked   of one call, of a call and steps after it, and of steps
 --   freshRefusal, Begun   a fresh session
 --   Filed                 a record file or a list: the refusal or 0, and what the lent slice holds
 use Prim.Native.Nat.{ℕ}
-use mathlib.Core.Bool.{Bool, _&&_}
+use mathlib.Core.Bool.{Bool, true, false, _&&_}
 use mathlib.Core.List.{List}
 use mathlib.Core.Path.{_≡_}
 use lib.Dec.{leb, eqb}
@@ -24,6 +24,8 @@ use Rattle.lexer.specs.Calls.{called, stepped}
 use Rattle.demands.specs.Walks.{walked, calledOn}
 use Rattle.layout.specs.Sessions.{areChoices, choicesIn, numbersOf, sessionIn}
 use Rattle.layout.specs.Answers.{answerNumbers, refusalIn, sessionAfter}
+use Rattle.layout.specs.Lent.{Rewritten}
+use Rattle.walk.specs.Walks.{isWritten}
 
 unfoldable pub areLong : ℕ → ℕ → Bool
 areLong session answer = leb 199 session && leb 5 answer
@@ -33,29 +35,19 @@ pub record Crossed (t : Turn) (session answer : List ℕ) (r : ℕ) (session′ 
   pub holds : session′ ≡ (if areLong (length session) (length answer) then sessionAfter t session else session)
   pub tells : answer′ ≡ (if areLong (length session) (length answer) then laid answer 0 (answerNumbers (t .answer)) else answer)
 
-pub record Called (a : After) (session list pool answer : List ℕ) (r : ℕ) (session′ list′ pool′ answer′ : List ℕ) : Type 0 where
-  pub turn : Crossed (a .turn) session answer r session′ answer′
+-- of at most so many calls: what the first comes to, and what they all do
+pub record WalkCalled (most : ℕ) (first a : After) (session list pool answer : List ℕ) (r : ℕ) (session′ list′ pool′ answer′ : List ℕ) : Type 0 where
+  pub number : r ≡ (if areLong (length session) (length answer) then refusalIn (a .turn .answer) else outOfPlace)
+  pub stays : (areLong (length session) (length answer) && isWritten most first) ≡ false → session′ ≡ session
+  pub holds : (areLong (length session) (length answer) && isWritten most first) ≡ true → Rewritten session (a .turn .session) session′
+  pub tells : answer′ ≡ (if areLong (length session) (length answer) then laid answer 0 (answerNumbers (a .turn .answer)) else answer)
   pub records : list′ ≡ (if areLong (length session) (length answer) then a .list else list)
   pub values : pool′ ≡ (if areLong (length session) (length answer) then a .pool else pool)
 
 abbrev pub Answered : Call → List ℕ → ℕ → List ℕ → List ℕ → List ℕ → List ℕ → ℕ → List ℕ → List ℕ → List ℕ → List ℕ → Type 0
 Answered call src end session list pool answer =
-    Called (called call src (announced end) (sessionIn session) list pool) session list pool answer
-
--- the session's numbers after a walk: where no step is taken, or the first is refused, they stay as they were
-unfoldable pub walkSession : ℕ → Turn → Turn → List ℕ → List ℕ
-walkSession most first last session =
-    if eqb most 0 then session
-    else if eqb (refusalIn (first .answer)) 0 then laid session 0 (numbersOf (last .session))
-    else session
-
--- of at most so many calls: what the first comes to, and what they all do
-pub record WalkCalled (most : ℕ) (first a : After) (session list pool answer : List ℕ) (r : ℕ) (session′ list′ pool′ answer′ : List ℕ) : Type 0 where
-  pub number : r ≡ (if areLong (length session) (length answer) then refusalIn (a .turn .answer) else outOfPlace)
-  pub holds : session′ ≡ (if areLong (length session) (length answer) then walkSession most (first .turn) (a .turn) session else session)
-  pub tells : answer′ ≡ (if areLong (length session) (length answer) then laid answer 0 (answerNumbers (a .turn .answer)) else answer)
-  pub records : list′ ≡ (if areLong (length session) (length answer) then a .list else list)
-  pub values : pool′ ≡ (if areLong (length session) (length answer) then a .pool else pool)
+    WalkCalled 1 (called call src (announced end) (sessionIn session) list pool)
+    (called call src (announced end) (sessionIn session) list pool) session list pool answer
 
 abbrev pub Turns : Call → List ℕ → ℕ → ℕ → List ℕ → List ℕ → List ℕ → List ℕ → ℕ → List ℕ → List ℕ → List ℕ → List ℕ → Type 0
 Turns call src end most session list pool answer =

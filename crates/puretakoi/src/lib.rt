@@ -3,7 +3,6 @@
 // In order: the calls without a session; a fresh session; the step, the walk and the three readings; skip, push and pop; the record file.
 use outcome::Call;
 use source::Span;
-use state::Answer;
 ghost use mathlib.Core.Path.{_≡_};
 ghost use lib.ListN.{length};
 ghost use Prim.Native.Nat.{_/_};
@@ -96,16 +95,9 @@ fn turns(
     if !are_long(session.len(), answer.len()) {
         return byte::OUT_OF_PLACE;
     }
-    if most == 0 {
-        layout::put_answer(answer, Answer::Done);
-        return 0;
-    }
-    let s = layout::session_in(session);
-    let w = walk::turns(call, src, end != 0, most, s, list, pool);
-    if w.begun {
-        return layout::put_walk(w.turn, session, answer);
-    }
-    layout::put_turn(w.turn, session, answer)
+    let a = walk::turns(call, src, end != 0, most, session, list, pool);
+    layout::put_answer(answer, a);
+    layout::refusal_in(a)
 }
 
 // One step: the routine of the top frame reads on from the cursor.

@@ -17,7 +17,7 @@ use borrow.Author.Tests.{eqb-true, eqb-false}
 use Rattle.byte.specs.Words.{if_then_else_, run}
 use Rattle.byte.specs.Bytes.{isNoneOf}
 use Rattle.byte.proofs.Tests.{&&-left, &&-right}
-use Rattle.source.specs.Marks.{wordOf, repeated, isNot, mark, marksOf, Small, Word}
+use Rattle.source.specs.Code.{wordOf, repeated, isNot, mark, marksOf, Small, Word}
 use Rattle.source.specs.Code.{Passing}
 use Rattle.source.proofs.Blocks.{eight-bytes, run-take, passing-part}
 

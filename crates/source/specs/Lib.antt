@@ -1,4 +1,3 @@
 pub mod Cursor
 pub mod Identifiers
-pub mod Marks
 pub mod Code

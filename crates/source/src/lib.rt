@@ -9,7 +9,7 @@ ghost use Rattle.byte.specs.Bytes.{isIdentifier, isNoBreak, isNoneOf};
 ghost use Rattle.source.specs.Cursor.{passedByte, passed};
 ghost use Rattle.source.specs.Code.{Reaches, breaks, Unbroken, LineStart, RunEnd, Passing, IdentifierEnd};
 ghost use Rattle.source.specs.Identifiers.{identifierAt};
-ghost use Rattle.source.specs.Marks.{wordOf, marksOf};
+ghost use Rattle.source.specs.Code.{wordOf, marksOf};
 
 mod words;
 

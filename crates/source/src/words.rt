@@ -5,7 +5,7 @@ ghost use Prim.Native.Nat.{_+_, _/_, _<_, _≤_};
 ghost use lib.ListN.{length, take, drop};
 ghost use lib.Bits.{bitAnd};
 ghost use lib.Count.{trailingZeros};
-ghost use Rattle.source.specs.Marks.{Word, wordOf, marksOf, repeated, isNot};
+ghost use Rattle.source.specs.Code.{Word, wordOf, marksOf, repeated, isNot};
 
 // A byte as a number that can be added up.
 fn wide(b: u8) -> u64

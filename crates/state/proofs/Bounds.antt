@@ -78,9 +78,6 @@ module _ (size : ℕ) (s : Session) where
         column-high = rw (c, p) (w .column-high);
       }
 
-  pub within-depth : (numbers : Bool) → numbers ≡ isWithin size s → not numbers ≡ false → s .depth ≤ 64
-  within-depth numbers e t = isWithin-facts (sym e ∙ not-false numbers t) .depth-high
-
 -- an arm of a match on a frame
 pub isBottom-arm : (f arm : Frame) (r : Bool) → f ≡ arm → r ≡ isBottom arm → r ≡ isBottom f
 isBottom-arm f arm r e h = rw e h

@@ -1,4 +1,4 @@
--- The gate on each way through `gate` and `gate_with_tables`. Assumes nothing.
+-- The gate on each way through `gate`, and through the gate with tables (crate layout). Assumes nothing.
 use Prim.Native.Nat.{ℕ, _/_, _≤_, _<_}
 use mathlib.Core.Path.{_≡_, refl, sym, _∙_}
 use mathlib.Core.Bool.{Bool, true, false, not, _&&_}
@@ -7,10 +7,12 @@ use native.Mathlib.Omega.{arith}
 use lib.ListN.{length}
 use borrow.Author.Tests.{leb-true, le-leb, lt-leb, not-true, not-false}
 use Rattle.byte.specs.Words.{if_then_else_}
+use Rattle.source.specs.declared.Span.{Span}
 use Rattle.byte.proofs.Tests.{&&-left, &&-right, unrefused}
 use Rattle.state.specs.declared.Session.{Session}
-use Rattle.state.specs.Bounds.{isWithin, isStack, isGood, fitsTables}
-use Rattle.state.proofs.Bounds.{Within, isWithin-facts, within-depth}
+use Rattle.state.specs.Bounds.{areWithin, isWithin, isStack, isGood, fitsTables}
+use Rattle.state.proofs.Bounds.{Within, isWithin-facts}
+use Rattle.state.specs.Calls.{spanOf}
 use Rattle.state.specs.Gates.{checked, sourceFits, tablesFit, gateRefusal, lentRefusal}
 
 module _ (src : List ℕ) (s : Session) where
@@ -18,21 +20,29 @@ module _ (src : List ℕ) (s : Session) where
   unfolding gateRefusal sourceFits
   gate-large h = rw (lt-leb (length src) 65536 h)
 
-  module _ (h : length src ≤ 65536) (numbers : Bool) (n : numbers ≡ isWithin (length src) s) where
-    pub gate-numbers : not numbers ≡ true → 12 ≡ gateRefusal src s
-    unfolding gateRefusal sourceFits isGood
-    gate-numbers t = rw (le-leb (length src) 65536 h, ← n, not-true numbers t)
+  module _ (p : Span) (e : p ≡ spanOf s) (numbers : Bool) (n : numbers ≡ areWithin (length src) p (s .depth)) where
+    within : isWithin (length src) s ≡ numbers
+    unfolding isWithin
+    within = sym (n ∙ rw e)
 
-    module _ (t : not numbers ≡ false) (frames : Bool) (f : frames ≡ isStack src s) where
-      pub gate-frames : not frames ≡ true → 12 ≡ gateRefusal src s
+    pub gate-depth : not numbers ≡ false → s .depth ≤ 64
+    gate-depth t = isWithin-facts (length src) s (within ∙ not-false numbers t) .depth-high
+
+    module _ (h : length src ≤ 65536) where
+      pub gate-numbers : not numbers ≡ true → 12 ≡ gateRefusal src s
       unfolding gateRefusal sourceFits isGood
-      gate-frames u = rw (le-leb (length src) 65536 h, ← n, not-false numbers t, ← f, not-true frames u)
+      gate-numbers t = rw (le-leb (length src) 65536 h, within, not-true numbers t)
 
-      pub gate-open : not frames ≡ false → 0 ≡ gateRefusal src s
-      unfolding gateRefusal sourceFits isGood
-      gate-open u = rw (le-leb (length src) 65536 h, ← n, not-false numbers t, ← f, not-false frames u)
+      module _ (t : not numbers ≡ false) (frames : Bool) (f : frames ≡ isStack src s) where
+        pub gate-frames : not frames ≡ true → 12 ≡ gateRefusal src s
+        unfolding gateRefusal sourceFits isGood
+        gate-frames u = rw (le-leb (length src) 65536 h, within, not-false numbers t, ← f, not-true frames u)
 
-pub ruleset gates = (within-depth, gate-large, gate-numbers, gate-frames, gate-open)
+        pub gate-open : not frames ≡ false → 0 ≡ gateRefusal src s
+        unfolding gateRefusal sourceFits isGood
+        gate-open u = rw (le-leb (length src) 65536 h, within, not-false numbers t, ← f, not-false frames u)
+
+pub ruleset gates = (gate-depth, gate-large, gate-numbers, gate-frames, gate-open)
 
 -- what an open gate tells
 pub record Opened (src : List ℕ) (s : Session) : Type 0 where

@@ -4,7 +4,7 @@
 --   isScripting           the step's table and the readings want this frame
 --   isBottom              not VarOffset, not LookingForProperty
 --   isStack               the bottom frame may stand there, and each frame up to the depth is one; those above are not looked at
---   isWithin              position, depth, line and column are within their bounds
+--   areWithin, isWithin   position, line and column, and the depth, are within their bounds; a session's
 --   isGood                all of these
 --   fitsTables            the marks are not past their tables; a list of n numbers has n / 8 places
 use Prim.Native.Nat.{ℕ, _+_, _/_}
@@ -14,6 +14,7 @@ use lib.Dec.{leb}
 use lib.ListN.{length, getD, take, drop}
 use Rattle.byte.specs.Words.{every}
 use Rattle.byte.specs.Bytes.{isIdentifier}
+use Rattle.source.specs.declared.Span.{Span}
 use Rattle.state.specs.declared.Label.{Label}
 use Rattle.state.specs.declared.Frame.{Frame}
 use Rattle.state.specs.declared.Slot.{Slot}
@@ -73,12 +74,15 @@ isSlot src slot = isFrame src (slot .frame)
 unfoldable pub isStack : List ℕ → Session → Bool
 isStack src s = isBottom (getD (s .frames) 0 noSlot .frame) && every (isSlot src) (take (s .depth) (s .frames))
 
+abbrev pub areWithin : ℕ → Span → ℕ → Bool
+areWithin size p depth =
+    leb (p .position) size
+    && leb 1 depth && leb depth 64
+    && leb 1 (p .line) && leb (p .line) (p .position + 1)
+    && leb 1 (p .column) && leb (p .column) (p .position + 1)
+
 unfoldable pub isWithin : ℕ → Session → Bool
-isWithin size s =
-    leb (s .position) size
-    && leb 1 (s .depth) && leb (s .depth) 64
-    && leb 1 (s .line) && leb (s .line) (s .position + 1)
-    && leb 1 (s .column) && leb (s .column) (s .position + 1)
+isWithin size s = areWithin size (record { line = s .line; column = s .column; position = s .position }) (s .depth)
 
 unfoldable pub isGood : List ℕ → Session → Bool
 isGood src s = isWithin (length src) s && isStack src s

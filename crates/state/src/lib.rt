@@ -5,8 +5,8 @@ use source::Span;
 ghost use mathlib.Core.Path.{_≡_};
 ghost use Prim.Native.Nat.{_≤_};
 ghost use Rattle.source.specs.Cursor.{origin};
-ghost use Rattle.state.specs.Bounds.{isLabel, isFrame, isBottom, isStack, isWithin};
-ghost use Rattle.state.specs.Gates.{gateRefusal, lentRefusal};
+ghost use Rattle.state.specs.Bounds.{isLabel, isFrame, isBottom, isStack, areWithin};
+ghost use Rattle.state.specs.Gates.{gateRefusal};
 ghost use Rattle.state.specs.Calls.{spanOf, refused, freshSession, skipped, pushed, popped};
 
 // A text block's label: a range of the source.
@@ -127,7 +127,7 @@ fn is_label(src: &[u8], l: Label) -> bool
 }
 
 // Whether a frame's label, if it has one, is good.
-fn is_frame(src: &[u8], f: Frame) -> bool
+pub fn is_frame(src: &[u8], f: Frame) -> bool
     ensures { λ r. ⌜ r ≡ isFrame (now (src .entry)) f ⌝ }
 {
     match f {
@@ -144,7 +144,7 @@ fn is_frame(src: &[u8], f: Frame) -> bool
 }
 
 // Whether a frame may stand at the bottom: one that is left by its own routine may not.
-fn is_bottom(f: Frame) -> bool
+pub fn is_bottom(f: Frame) -> bool
     ensures { λ r. ⌜ r ≡ isBottom f ⌝ }
 {
     match f {
@@ -183,14 +183,13 @@ fn is_stack(src: &[u8], s: Session) -> bool
     true
 }
 
-// Whether position, depth, line and column are within their bounds.
-fn is_within(size: usize, s: Session) -> bool
-    ensures { λ r. ⌜ r ≡ isWithin size s ⌝ }
+// Whether position, line and column, and the depth of the mode stack, are within their bounds.
+pub fn is_within(size: usize, p: Span, depth: u32) -> bool
+    ensures { λ r. ⌜ r ≡ areWithin size p depth ⌝ }
 {
-    let position = s.position as usize;
-    let depth = s.depth as usize;
-    let line = s.line as usize;
-    let column = s.column as usize;
+    let position = p.position as usize;
+    let line = p.line as usize;
+    let column = p.column as usize;
     let next = position + 1;
     (position <= size)
         & (1 <= depth)
@@ -201,42 +200,17 @@ fn is_within(size: usize, s: Session) -> bool
         & (column <= next)
 }
 
-// Refusals 11 and 12 where no tables are lent: source and session alone. 0 for neither.
+// Refusals 11 and 12 where no tables are lent: source and session alone. 0 for neither. (With tables: layout::gate_in.)
 pub fn gate(src: &[u8], s: Session) -> u32
     ensures { λ r. ⌜ r ≡ gateRefusal (now (src .entry)) s ⌝ }
 {
     if 65536 < src.len() {
         return byte::TOO_LARGE;
     }
-    if !is_within(src.len(), s) {
+    if !is_within(src.len(), span_of(s), s.depth) {
         return byte::BAD_SESSION;
     }
     if !is_stack(src, s) {
-        return byte::BAD_SESSION;
-    }
-    0
-}
-
-// Refusals 11 and 12 where a list of `list` numbers and a pool of `pool` bytes are lent. 0 for neither.
-pub fn gate_with_tables(src: &[u8], list: usize, pool: usize, s: Session) -> u32
-    ensures { λ r. ⌜ r ≡ lentRefusal (now (src .entry)) list pool s ⌝ }
-{
-    if 65536 < pool {
-        return byte::TOO_LARGE;
-    }
-    if 65537 < list / 8 {
-        return byte::TOO_LARGE;
-    }
-    let alone = gate(src, s);
-    if alone != 0 {
-        return alone;
-    }
-    let tokens = s.tokens as usize;
-    let bytes = s.bytes as usize;
-    if list / 8 < tokens {
-        return byte::BAD_SESSION;
-    }
-    if pool < bytes {
         return byte::BAD_SESSION;
     }
     0

@@ -1,3 +1,4 @@
+pub mod Gathers
 pub mod Labels
 pub mod Lines
 pub mod Runs

@@ -1,24 +1,23 @@
 -- Runs of bytes that stand for themselves: each is its own unit, and a reading passes the whole run at once. Assumes nothing.
 use Prim.Native.Nat.{ℕ, suc, _+_, _-_, _<_, _≤_}
-use mathlib.Core.Path.{_≡_, refl, sym, ap, _∙_}
-use mathlib.Core.Bool.{Bool, true, false, false≢true}
+use mathlib.Core.Path.{_≡_, refl, ap, _∙_}
+use mathlib.Core.Bool.{Bool, true, false}
 use mathlib.Core.List.{List, [], _∷_}
 use native.Mathlib.Omega.{arith}
 use native.Mathlib.Nat.{add-zero}
 use lib.ListN.{length, getD, take, drop, length-drop}
-use lib.Seq.{length-take-le, getD-drop, drop-drop}
-use borrow.Author.Tests.{ne-eqb, not-true}
+use lib.Seq.{getD-drop, drop-drop}
+use borrow.Author.Tests.{not-true}
 use Rattle.byte.specs.Words.{_is_, run}
-use Rattle.byte.specs.Bytes.{isNoBreak, isNoneOf}
+use Rattle.byte.specs.Bytes.{isNoBreak}
 use Rattle.source.specs.Code.{RunEnd}
 use Rattle.byte.proofs.Tests.{choice, none-of}
 use Rattle.unit.specs.declared.Mode.{Mode}
-use Rattle.unit.specs.declared.Stop.{Stop}
 use Rattle.unit.specs.declared.TextUnit.{TextUnit}
 use Rattle.unit.specs.Interpolations.{plain}
 use Rattle.unit.specs.Units.{unitAt}
-use Rattle.unit.specs.Readings.{Reading, Text, Refused, Wait, onto, taken, afterOf, collected, losesBreak}
-use Rattle.text.specs.Code.{isPlain, lastBreak}
+use Rattle.unit.specs.Readings.{Reading, Text, Refused, Wait, onto, taken, afterOf, collected}
+use Rattle.text.specs.Code.{isPlain}
 
 -- one mode's run is that of its arm
 pub plain-arm : (m arm : Mode) (src : List ℕ) (at r : ℕ) → m ≡ arm → RunEnd (isPlain arm) src at r → RunEnd (isPlain m) src at r
@@ -30,7 +29,7 @@ pub unit-arm : (m arm : Mode) (label : List ℕ) (end : Bool) (n b : ℕ) (rest 
 unit-arm m arm label end n b rest r e h = rw e h
 
 -- the unit of a byte that stands for itself
-plain-unit : (m : Mode) (label : List ℕ) (end : Bool) (n b : ℕ) (rest : List ℕ) → isPlain m b ≡ true
+pub plain-unit : (m : Mode) (label : List ℕ) (end : Bool) (n b : ℕ) (rest : List ℕ) → isPlain m b ≡ true
     → unitAt m label end n b rest ≡ plain b n
 unfolding unitAt isPlain isNoBreak
 plain-unit Mode.Single label end n b rest e =
@@ -108,9 +107,6 @@ module _ (m : Mode) (label : List ℕ) (end : Bool) where
         let q : i + (n - i) ≡ n = omega (arith, run-after) in
         collected-run i (drop i src) ∙ rw (k, drop-drop (n - i) i src, q)
 
-    pub run-length : length (take (n - i) (drop i src)) ≡ n - i
-    run-length = length-take-le (n - i) (drop i src) (omega (arith, length-drop i src, p .inside))
-
 -- the byte after a run does not pass its test
 run-stop : (test : ℕ → Bool) (xs : List ℕ) → run test xs < length xs → test (getD xs (run test xs) 0) ≡ false
 unfolding run
@@ -123,34 +119,3 @@ run-stop test (b ∷ rest) = choice Stopped (test b) (suc (run test rest)) 0 (λ
 pub runEnd-stop : (test : ℕ → Bool) (src : List ℕ) (i n : ℕ) → RunEnd test src i n → n < length src → test (getD src n 0) ≡ false
 runEnd-stop test src i n p h =
     rw (p .place, ← getD-drop i src (run test (drop i src)) 0) (run-stop test (drop i src) (omega (arith, p .place, length-drop i src)))
-
--- where a break does not stand for itself, no run ends in one
-module _ (m : Mode) (unlike : isPlain m 10 ≡ false) where
-  plain-break : (b : ℕ) → isPlain m b ≡ true → (b is "\n") ≡ false
-  plain-break b e = ne-eqb b 10 (λ z. false≢true (sym unlike ∙ rw (← z) e))
-
-  run-break : (xs : List ℕ) → lastBreak false (take (run (isPlain m) xs) xs) ≡ false
-  unfolding run lastBreak
-  run-break [] = refl
-  run-break (b ∷ rest) =
-      choice Unbroken (isPlain m b) (suc (run (isPlain m) rest)) 0
-      (λ e. ap (λ (t : Bool). lastBreak t (take (run (isPlain m) rest) rest)) (plain-break b e) ∙ run-break rest)
-      (λ e. refl)
-    where
-      Unbroken : ℕ → Type 0
-      Unbroken k = lastBreak false (take k (b ∷ rest)) ≡ false
-
-  pub part-break : (src : List ℕ) (i n : ℕ) → RunEnd (isPlain m) src i n → lastBreak false (take (n - i) (drop i src)) ≡ false
-  part-break src i n p =
-      let k : n - i ≡ run (isPlain m) (drop i src) = omega (arith, p .place) in
-      rw k (run-break (drop i src))
-
--- only a heredoc loses a break, where it does not stand for itself
-pub loses-plain : (m : Mode) (stop : Stop) → losesBreak m stop ≡ true → isPlain m 10 ≡ false
-unfolding losesBreak isPlain isNoneOf
-loses-plain Mode.Single stop e = absurd (false≢true e)
-loses-plain Mode.Double stop e = absurd (false≢true e)
-loses-plain Mode.DoubleQuote stop e = absurd (false≢true e)
-loses-plain Mode.ShellExec stop e = absurd (false≢true e)
-loses-plain Mode.Heredoc stop e = refl
-loses-plain Mode.Nowdoc stop e = absurd (false≢true e)

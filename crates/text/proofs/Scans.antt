@@ -21,11 +21,11 @@ use Rattle.unit.specs.Readings.{Reading, Text, Refused, Wait, onto, taken, afte
 use Rattle.unit.proofs.Stands.{isLiteral, Stands, utf8-length, unit-stands}
 use Rattle.unit.proofs.Readings.{collected-turn}
 use Rattle.text.specs.declared.Scanned.{Scanned}
-use Rattle.text.specs.Code.{Here, isPlain, bytesOf, isBreak, lastBreak, valueLength, ended, unclosed, measured}
+use Rattle.text.specs.Code.{isPlain, bytesOf, isBreak, lastBreak, valueLength, ended, unclosed, measured}
 use Rattle.text.specs.Code.{isWritable}
 use Rattle.text.proofs.Runs.{run-after, run-turn}
 
-pub positive : (n : ℕ) → (n ≡ 0 → ⊥) → 0 < n
+positive : (n : ℕ) → (n ≡ 0 → ⊥) → 0 < n
 positive zero h = absurd (h refl)
 positive (suc n) h = omega arith
 
@@ -91,16 +91,10 @@ module _ (end : Bool) (place : ℕ) where
 
 pub ruleset unclosing = (unclosed-end, unclosed-wait)
 
-pub lastBreak-append : (broken : Bool) (xs ys : List ℕ) → lastBreak broken (xs ++ ys) ≡ lastBreak (lastBreak broken xs) ys
+lastBreak-append : (broken : Bool) (xs ys : List ℕ) → lastBreak broken (xs ++ ys) ≡ lastBreak (lastBreak broken xs) ys
 unfolding lastBreak
 lastBreak-append broken [] ys = refl
 lastBreak-append broken (b ∷ xs) ys = lastBreak-append (b is "\n") xs ys
-
--- what was before some bytes does not matter
-pub lastBreak-any : (broken : Bool) (xs : List ℕ) → (length xs ≡ 0 → ⊥) → lastBreak broken xs ≡ lastBreak false xs
-unfolding lastBreak
-lastBreak-any broken [] some = absurd (some refl)
-lastBreak-any broken (b ∷ rest) some = refl
 
 -- of a part of a source: `broken` where there is none of it, else by the byte before its end
 module _ (src : List ℕ) (i n : ℕ) (broken : Bool) where
@@ -121,7 +115,7 @@ module _ (src : List ℕ) (i n : ℕ) (broken : Bool) where
 
 pub ruleset lastBreaks = (lastBreak-none, lastBreak-some)
 
-pub trimmed-length : (text : List ℕ) → length (trimmed text) ≡ (if lastBreak false text then length text - 1 else length text)
+trimmed-length : (text : List ℕ) → length (trimmed text) ≡ (if lastBreak false text then length text - 1 else length text)
 unfolding trimmed lastBreak
 trimmed-length [] = refl
 trimmed-length (b ∷ []) = go (b is "\n")
@@ -193,7 +187,7 @@ utf8-break broken c = choice Same (ltb c 0x80) _ _ (λ e. refl) (λ e. choice Sa
     high e = ne-eqb (0x80 + c % 64) 10 (λ z. omega arith) ∙ sym (ne-eqb c 10 (λ z. omega (arith, ltb-false c 0x80 e)))
 
 -- a unit that is text: its bytes come before what is read after it, and it is a break or not
-pub text-taken : (u : TextUnit) (later : Reading) → (length (bytesOf u) ≡ 0 → ⊥) → taken u later ≡ onto (bytesOf u) later
+text-taken : (u : TextUnit) (later : Reading) → (length (bytesOf u) ≡ 0 → ⊥) → taken u later ≡ onto (bytesOf u) later
 unfolding taken bytesOf
 text-taken (TextUnit.Byte value after) later h = refl
 text-taken (TextUnit.Point code after) later h = refl
@@ -201,7 +195,7 @@ text-taken (TextUnit.Ends stop from after) later h = absurd (h refl)
 text-taken (TextUnit.Fault number place) later h = absurd (h refl)
 text-taken TextUnit.Undecided later h = absurd (h refl)
 
-pub text-break : (u : TextUnit) (broken : Bool) → (length (bytesOf u) ≡ 0 → ⊥) → lastBreak broken (bytesOf u) ≡ isBreak u
+text-break : (u : TextUnit) (broken : Bool) → (length (bytesOf u) ≡ 0 → ⊥) → lastBreak broken (bytesOf u) ≡ isBreak u
 unfolding isBreak bytesOf lastBreak
 text-break (TextUnit.Byte value after) broken h = refl
 text-break (TextUnit.Point code after) broken h = utf8-break broken code
@@ -247,12 +241,12 @@ ended-taken m len broken TextUnit.Undecided later h = refl
 
 -- one unit of the source: where it lies, and what is read after it
 module _ (m : Mode) (label : List ℕ) (end : Bool) (src : List ℕ) (i : ℕ) (h : i < length src) (u : TextUnit) (e : u ≡ unitAt m label end i (getD src i 0) (drop (i + 1) src)) where
-  pub unit-turn : i < afterOf u → collected m label end 0 i (drop i src) ≡ taken u (collected m label end 0 (afterOf u) (drop (afterOf u) src))
+  unit-turn : i < afterOf u → collected m label end 0 i (drop i src) ≡ taken u (collected m label end 0 (afterOf u) (drop (afterOf u) src))
   unit-turn on =
       let p : i + 1 + (afterOf u - (i + 1)) ≡ afterOf u = omega arith in
       rw (drop-one src i h) (collected-turn m label end i (getD src i 0) (drop (i + 1) src) u e ∙ rw (drop-drop (afterOf u - (i + 1)) (i + 1) src, p))
 
-  pub unit-ends : (len : ℕ) (broken : Bool) → length (bytesOf u) ≡ 0 → ended m len broken u ≡ behind m len broken (collected m label end 0 i (drop i src))
+  unit-ends : (len : ℕ) (broken : Bool) → length (bytesOf u) ≡ 0 → ended m len broken u ≡ behind m len broken (collected m label end 0 i (drop i src))
   unit-ends len broken z = rw (drop-one src i h, collected-turn m label end i (getD src i 0) (drop (i + 1) src) u e) (ended-taken m len broken u _ z)
 
   stands : Stands (isLiteral m) i (getD src i 0) (length src) u
@@ -266,7 +260,7 @@ module _ (m : Mode) (label : List ℕ) (end : Bool) (src : List ℕ) (i : ℕ) (
   pub unit-writable : isWritable u
   unit-writable = stands-writable u (isLiteral m) i (getD src i 0) (length src) stands
 
--- the loop of `scan_units`: len bytes of text were read up to i, the last of them a break or not
+-- a text that is read: len bytes of text were read up to i, the last of them a break or not
 pub record Scanning (m : Mode) (label : List ℕ) (end : Bool) (src : List ℕ) (at i len : ℕ) (broken : Bool) : Type 0 where
   pub inside : i ≤ length src
   pub small : len ≤ i
@@ -276,9 +270,6 @@ module _ (m : Mode) (label : List ℕ) (end : Bool) (src : List ℕ) (at : ℕ) 
   pub scanning-first : at ≤ length src → Scanning m label end src at at 0 false
   unfolding textAt
   scanning-first h = record { inside = h; small = omega arith; same = behind-first m (collected m label end 0 at (drop at src)) }
-
-  pub scanning-here : (i : ℕ) → i < length src → length src ≤ 65536 → Here src i
-  scanning-here i h l = record { inside = h; short = l }
 
   module _ (i len : ℕ) (broken : Bool) (s : Scanning m label end src at i len broken) where
     pub scanning-end : (r : Scanned) → length src ≤ i → r ≡ unclosed end i → r ≡ measured (textAt m label end at (drop at src))
@@ -319,45 +310,3 @@ module _ (m : Mode) (label : List ℕ) (end : Bool) (src : List ℕ) (at : ℕ) 
     pub run-on : (n : ℕ) → RunEnd (isPlain m) src i n
         → Scanning m label end src at n (len + (n - i)) (lastBreak broken (take (n - i) (drop i src)))
     run-on n p = bytes-on n (run-after m label end src i n p) (p .inside) (run-turn m label end src i n p)
-
-  -- a turn: the run from i to n, and the unit after it
-  module _ (i len : ℕ) (broken : Bool) (s : Scanning m label end src at i len broken) (n : ℕ) (p : RunEnd (isPlain m) src i n) where
-    passed : Scanning m label end src at n (len + (n - i)) (lastBreak broken (take (n - i) (drop i src)))
-    passed = run-on i len broken s n p
-
-    pub scanning-room : len + (n - i) ≤ length src
-    scanning-room = omega (arith, s .small, p .inside, run-after m label end src i n p)
-
-    pub scanning-order : i ≤ n
-    scanning-order = run-after m label end src i n p
-
-    pub scanning-past : (r : Scanned) → length src ≤ n → r ≡ unclosed end n → r ≡ measured (textAt m label end at (drop at src))
-    scanning-past = scanning-end n (len + (n - i)) (lastBreak broken (take (n - i) (drop i src))) passed
-
-    module _ (h : n < length src) (u : TextUnit) (e : u ≡ unitAt m label end n (getD src n 0) (drop (n + 1) src))
-        (width : ℕ) (w : width ≡ length (bytesOf u)) where
-      pub scanning-stop : (last : Bool) (r : Scanned) → width ≡ 0 → last ≡ lastBreak broken (take (n - i) (drop i src))
-          → r ≡ ended m (len + (n - i)) last u → r ≡ measured (textAt m label end at (drop at src))
-      scanning-stop last r z l f =
-          f ∙ rw l (unit-stop n (len + (n - i)) (lastBreak broken (take (n - i) (drop i src))) passed h u e (sym w ∙ z))
-
-      module _ (z : width ≡ 0 → ⊥) where
-        text : TextInside n (length src) (length (bytesOf u)) (afterOf u)
-        text = unit-text m label end src n h u e (λ y. z (w ∙ y))
-
-        pub scanning-less : (next : ℕ) → next ≡ afterOf u → length src - next < length src - i
-        scanning-less next f = omega (arith, text .on, text .inside, run-after m label end src i n p)
-
-        pub scanning-on : (next : ℕ) (flag : Bool) → next ≡ afterOf u → flag ≡ isBreak u
-            → Scanning m label end src at next (len + (n - i + width)) flag
-        scanning-on next flag f g =
-            let more : len + (n - i + width) ≡ len + (n - i) + length (bytesOf u) = omega arith in
-            rw (f, g, more) (unit-on n (len + (n - i)) (lastBreak broken (take (n - i) (drop i src))) passed h u e (λ y. z (w ∙ y)))
-
-pub ruleset scanning =
-    (scanning-first, scanning-here, scanning-end, scanning-room, scanning-order, scanning-past, scanning-stop, scanning-less, scanning-on)
-
--- one mode's scan is that of its arm
-pub scan-arm : (m arm : Mode) (label : List ℕ) (end : Bool) (at : ℕ) (xs : List ℕ) (r : Scanned) → m ≡ arm
-    → r ≡ measured (textAt arm label end at xs) → r ≡ measured (textAt m label end at xs)
-scan-arm m arm label end at xs r e h = rw e h

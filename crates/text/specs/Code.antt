@@ -1,4 +1,4 @@
--- A text reading as the code has it: measured first, and then written.
+-- A text reading as the code has it: measured, and its bytes gathered as they are read.
 --   Here          a place of a source that is not too long
 --   isPlain       a byte that stands for itself in a mode: its unit is that byte, whatever comes after it
 --   bytesOf       the bytes of the value that a unit is
@@ -7,25 +7,33 @@
 --   valueLength   of a text of so many bytes, the last of them a break or not: a heredoc's loses it before an interpolation
 --   ended         what a unit makes of the text before it; asked only of units that are no text
 --   unclosed      what a text comes to that is not closed
---   measured      a reading without its bytes: what `scan_text` answers
---   valueOf       the value of a reading: what `write_text` writes
+--   measured      a reading without its bytes
+--   valueOf       the value of a reading: a start of what was gathered
+--   clipped       a part with some bytes from a place on, as far as it goes
+--   onward        the bytes of a unit, and then those of the text after it; nothing where the unit is no text
+--   gathered      the bytes of the text read so far: those of its units up to the first that is no text, or to the end
+--   Reads         what `read_text` answers, and what the part holds then
+--   isSearched    a nowdoc's label with a byte to look for
+--   Scans         what `scan_text` answers, and what the part holds then: where the label is looked for, it stays
 --   BeforeBlanks  a place before another where no blank stands
 --   Searchable    a label whose first byte can be looked for
---   Writable, Measured   when a unit or a value may be written: there is room
-use Prim.Native.Nat.{ℕ, _+_, _-_, _≤_, _<_}
+--   isWritable    a unit whose bytes may be written: a code point has at most four
+use Prim.Native.Nat.{ℕ, zero, suc, _-_, _≤_, _<_}
 use Prim.Native.Char.{code}
-use mathlib.Core.Bool.{Bool, false}
-use mathlib.Core.List.{List, [], _∷_}
+use mathlib.Core.Bool.{Bool, false, not}
+use mathlib.Core.List.{List, [], _∷_, _++_}
 use mathlib.Core.Path.{_≡_}
-use lib.ListN.{length, getD, drop}
+use lib.ListN.{length, getD, take, drop}
 use Rattle.byte.specs.Refusals.{unexpectedEndOfFile}
 use Rattle.byte.specs.Words.{if_then_else_, _is_}
 use Rattle.byte.specs.Bytes.{isBlank, isNoBreak, isNoneOf}
+use Rattle.byte.specs.Laid.{laid}
 use Rattle.unit.specs.declared.Mode.{Mode}
 use Rattle.unit.specs.declared.Stop.{Stop}
 use Rattle.unit.specs.declared.TextUnit.{TextUnit}
 use Rattle.unit.specs.Digits.{utf8}
-use Rattle.unit.specs.Readings.{Reading, Text, Refused, Wait, losesBreak, textAt}
+use Rattle.unit.specs.Units.{unitAt}
+use Rattle.unit.specs.Readings.{Reading, Text, Refused, Wait, afterOf, losesBreak, textAt}
 use Rattle.text.specs.declared.Scanned.{Scanned}
 
 pub record Here (src : List ℕ) (n : ℕ) : Type 0 where
@@ -83,6 +91,49 @@ valueOf (Text value stop from after) = value
 valueOf (Refused number place) = []
 valueOf Wait = []
 
+unfoldable pub clipped : List ℕ → ℕ → List ℕ → List ℕ
+clipped dst at vs = laid dst at (take (length dst - at) vs)
+
+unfoldable pub onward : TextUnit → List ℕ → List ℕ
+onward (TextUnit.Byte value after) later = value ∷ later
+onward (TextUnit.Point code after) later = utf8 code ++ later
+onward (TextUnit.Ends stop from after) later = []
+onward (TextUnit.Fault number place) later = []
+onward TextUnit.Undecided later = []
+
+-- from n on, where `skip` bytes of the last unit are still to be passed
+unfoldable pub gathered : Mode → List ℕ → Bool → ℕ → ℕ → List ℕ → List ℕ
+gathered m label end skip n [] = []
+gathered m label end (suc k) n (b ∷ rest) = gathered m label end k (suc n) rest
+gathered m label end zero n (b ∷ rest) =
+    onward (unitAt m label end n b rest)
+    (gathered m label end (afterOf (unitAt m label end n b rest) - suc n) (suc n) rest)
+
+-- the part gets as many bytes as it has places
+pub record Reads (m : Mode) (src label : List ℕ) (at : ℕ) (end : Bool) (dst : List ℕ) (r : Scanned)
+    (dst′ : List ℕ) : Type 0 where
+  pub told : r ≡ measured (textAt m label end at (drop at src))
+  pub held : dst′ ≡ laid dst 0 (take (length dst) (gathered m label end 0 at (drop at src)))
+
+-- the label has bytes, and the first is no LF
+unfoldable pub isSearched : Mode → List ℕ → Bool
+isSearched Mode.Single label = false
+isSearched Mode.Double label = false
+isSearched Mode.DoubleQuote label = false
+isSearched Mode.ShellExec label = false
+isSearched Mode.Heredoc label = false
+isSearched Mode.Nowdoc [] = false
+isSearched Mode.Nowdoc (b ∷ rest) = not (b is "\n")
+
+-- the text of a nowdoc that is found by its label is the source's own bytes
+pub record Scans (m : Mode) (src label : List ℕ) (at : ℕ) (end : Bool) (dst : List ℕ) (r : Scanned)
+    (dst′ : List ℕ) : Type 0 where
+  pub told : r ≡ measured (textAt m label end at (drop at src))
+  pub held :
+      dst′
+      ≡ (if isSearched m label then dst
+      else laid dst 0 (take (length dst) (gathered m label end 0 at (drop at src))))
+
 -- k is such a place before n, from `from` on
 pub record BeforeBlanks (src : List ℕ) (from n k : ℕ) : Type 0 where
   pub first : from ≤ k
@@ -103,15 +154,3 @@ isWritable (TextUnit.Point code after) = code < 0x110000
 isWritable (TextUnit.Ends stop from after) = Unit {0}
 isWritable (TextUnit.Fault number place) = Unit {0}
 isWritable TextUnit.Undecided = Unit {0}
-
-pub record Writable (room at : ℕ) (u : TextUnit) : Type 0 where
-  pub fits : at + length (bytesOf u) ≤ room
-  pub scalar : isWritable u
-
--- the reading is a text whose value has len bytes, and there is room for them
-pub record Measured (m : Mode) (src label : List ℕ) (at : ℕ) (end : Bool) (len room : ℕ) : Type 0 where
-  pub start : at ≤ length src
-  pub short : length src ≤ 65536
-  pub name : length label ≤ 64
-  pub size : len ≡ length (valueOf (textAt m label end at (drop at src)))
-  pub fits : len ≤ room

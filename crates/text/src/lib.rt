@@ -1,18 +1,19 @@
-// The six text readings: single, double, double_quote, shell_exec, heredoc, nowdoc. One loop serves all but nowdoc's scan.
+// The six text readings: single, double, double_quote, shell_exec, heredoc, nowdoc. One loop reads all; another finds a nowdoc's end.
 // Of the Rust: the two string routines and the four text modes of mod.rs. A label has at most 64 bytes, a source at most 65,536.
-// In order: what stands at a place in each mode (units); what a unit is to a text; the scan, which writes nothing; the writer.
+// In order: what stands at a place in each mode (units); what a unit is to a text; its bytes into a part; the reader; the scan.
 use unit::Mode;
 use unit::Stop;
 use unit::TextUnit;
 ghost use mathlib.Core.Path.{_≡_};
-ghost use Prim.Native.Nat.{_-_, _≤_};
+ghost use mathlib.Core.List.{[], _∷_};
+ghost use Prim.Native.Nat.{_-_, _≤_, _<_};
 ghost use lib.ListN.{length, take, drop};
-ghost use Rattle.byte.specs.Laid.{laid};
 ghost use Rattle.unit.specs.declared.Mode.{Mode};
 ghost use Rattle.unit.specs.declared.TextUnit.{TextUnit};
+ghost use Rattle.unit.specs.Digits.{utf8};
 ghost use Rattle.unit.specs.Readings.{afterOf, losesBreak, textAt};
-ghost use Rattle.text.specs.Code.{bytesOf, isBreak, lastBreak, valueLength, ended, unclosed, measured, valueOf};
-ghost use Rattle.text.specs.Code.{BeforeBlanks, Searchable, Writable, Measured};
+ghost use Rattle.text.specs.Code.{bytesOf, isBreak, lastBreak, valueLength, ended, unclosed, measured};
+ghost use Rattle.text.specs.Code.{BeforeBlanks, Searchable, isWritable, clipped, Reads, isSearched, Scans};
 
 mod units;
 
@@ -186,16 +187,78 @@ fn last_break(src: &[u8], i: usize, n: usize, broken: bool) -> bool
     src[n - 1] == b'\n'
 }
 
-// The text from `at` on: each turn passes a run of bytes that stand for themselves, and the unit after it.
-fn scan_units(m: Mode, src: &[u8], label: &[u8], at: usize, end: bool) -> Scanned
+// The bytes from `from` to `to` at a place of a part, as far as it goes.
+fn put_run(src: &[u8], from: usize, to: usize, dst: &mut [u8], at: usize)
+    requires { ⌜ (from ≤ to) × (to ≤ length (now src)) ⌝ }
+    ensures { λ r. ⌜ now (dst .exit) ≡ clipped (now (dst .entry)) at (take (to - from) (drop from (now (src .entry)))) ⌝ }
+{
+    if dst.len() <= at {
+        return;
+    }
+    let room = dst.len() - at;
+    if to - from <= room {
+        token::put_value(&src[from..to], dst, at);
+        return;
+    }
+    token::put_value(&src[from..from + room], dst, at);
+}
+
+// One byte, where the part has the place.
+fn put_byte(dst: &mut [u8], at: usize, b: u8)
+    ensures { λ r. ⌜ now (dst .exit) ≡ clipped (now (dst .entry)) at (b ∷ []) ⌝ }
+{
+    if at < dst.len() {
+        dst[at] = b;
+    }
+}
+
+// A code point of which maybe not all bytes have a place.
+fn put_point(dst: &mut [u8], at: usize, code: u32)
+    requires { ⌜ code < 1114112 ⌝ }
+    ensures { λ r. ⌜ now (dst .exit) ≡ clipped (now (dst .entry)) at (utf8 code) ⌝ }
+{
+    let mut point = [0u8; 4];
+    escape::put_utf8(&mut point, 0, code);
+    put_run(&point, 0, escape::utf8_len(code), dst, at);
+}
+
+// One unit's bytes at a place of a part, as far as it goes.
+fn put_unit(dst: &mut [u8], at: usize, u: TextUnit)
+    requires { ⌜ isWritable u ⌝ }
+    ensures { λ r. ⌜ now (dst .exit) ≡ clipped (now (dst .entry)) at (bytesOf u) ⌝ }
+{
+    match u {
+        TextUnit::Byte { value, after: _ } => {
+            put_byte(dst, at, value);
+        }
+        TextUnit::Point { code, after: _ } => {
+            put_point(dst, at, code);
+        }
+        TextUnit::Ends {
+            stop: _,
+            from: _,
+            after: _,
+        } => {}
+        TextUnit::Fault {
+            number: _,
+            place: _,
+        } => {}
+        TextUnit::Undecided => {}
+    }
+}
+
+// The text from `at` on, measured; a part gets the bytes read so far, as many as it has places.
+// Each turn passes a run of bytes that stand for themselves, and the unit after it.
+pub fn read_text(m: Mode, src: &[u8], label: &[u8], at: usize, end: bool, dst: &mut [u8]) -> Scanned
     requires { ⌜ (at ≤ length (now src)) × (length (now src) ≤ 65536) × (length (now label) ≤ 64) ⌝ }
-    ensures { λ r. ⌜ r ≡ measured (textAt m (now (label .entry)) end at (drop at (now (src .entry)))) ⌝ }
+    ensures { λ r. ⌜ Reads m (now (src .entry)) (now (label .entry)) at end (now (dst .entry)) r (now (dst .exit)) ⌝ }
 {
     let mut i = at;
     let mut len = 0;
     let mut broken = false;
     while i < src.len() {
         let n = units::plain_end(m, src, i);
+        put_run(src, i, n, dst, len);
         if src.len() <= n {
             return unclosed(end, n);
         }
@@ -204,7 +267,9 @@ fn scan_units(m: Mode, src: &[u8], label: &[u8], at: usize, end: bool) -> Scanne
         if width == 0 {
             return ended_as(m, len + (n - i), last_break(src, i, n, broken), u);
         }
-        len += n - i + width;
+        len += n - i;
+        put_unit(dst, len, u);
+        len += width;
         broken = is_break(u);
         i = after_of(u);
     }
@@ -251,84 +316,38 @@ fn scan_label(src: &[u8], label: &[u8], at: usize, end: bool) -> Scanned
     unclosed(end, i)
 }
 
-// A nowdoc's text, by its label; unit by unit where the label has no byte to look for.
-fn scan_nowdoc(src: &[u8], label: &[u8], at: usize, end: bool) -> Scanned
-    requires { ⌜ (at ≤ length (now src)) × (length (now src) ≤ 65536) × (length (now label) ≤ 64) ⌝ }
-    ensures { λ r. ⌜ r ≡ measured (textAt Mode.Nowdoc (now (label .entry)) end at (drop at (now (src .entry)))) ⌝ }
+// Whether a nowdoc's label has a byte to look for.
+fn is_searched(label: &[u8]) -> bool
+    ensures { λ r. ⌜ r ≡ isSearched Mode.Nowdoc (now (label .entry)) ⌝ }
 {
-    if 0 < label.len() {
-        if label[0] != b'\n' {
-            return scan_label(src, label, at, end);
-        }
+    if label.len() == 0 {
+        return false;
     }
-    scan_units(Mode::Nowdoc, src, label, at, end)
+    label[0] != b'\n'
 }
 
-// The text from `at` on, measured: nothing is written.
-pub fn scan_text(m: Mode, src: &[u8], label: &[u8], at: usize, end: bool) -> Scanned
+// A nowdoc's text, by its label; unit by unit where the label has no byte to look for.
+fn scan_nowdoc(src: &[u8], label: &[u8], at: usize, end: bool, dst: &mut [u8]) -> Scanned
     requires { ⌜ (at ≤ length (now src)) × (length (now src) ≤ 65536) × (length (now label) ≤ 64) ⌝ }
-    ensures { λ r. ⌜ r ≡ measured (textAt m (now (label .entry)) end at (drop at (now (src .entry)))) ⌝ }
+    ensures { λ r. ⌜ Scans Mode.Nowdoc (now (src .entry)) (now (label .entry)) at end (now (dst .entry)) r (now (dst .exit)) ⌝ }
+{
+    if is_searched(label) {
+        return scan_label(src, label, at, end);
+    }
+    read_text(Mode::Nowdoc, src, label, at, end, dst)
+}
+
+// The same, but a nowdoc is found by its label, and then the part stays as it was: its text is the source's own bytes.
+pub fn scan_text(m: Mode, src: &[u8], label: &[u8], at: usize, end: bool, dst: &mut [u8]) -> Scanned
+    requires { ⌜ (at ≤ length (now src)) × (length (now src) ≤ 65536) × (length (now label) ≤ 64) ⌝ }
+    ensures { λ r. ⌜ Scans m (now (src .entry)) (now (label .entry)) at end (now (dst .entry)) r (now (dst .exit)) ⌝ }
 {
     match m {
-        Mode::Single => scan_units(m, src, label, at, end),
-        Mode::Double => scan_units(m, src, label, at, end),
-        Mode::DoubleQuote => scan_units(m, src, label, at, end),
-        Mode::ShellExec => scan_units(m, src, label, at, end),
-        Mode::Heredoc => scan_units(m, src, label, at, end),
-        Mode::Nowdoc => scan_nowdoc(src, label, at, end),
-    }
-}
-
-// One unit's bytes at a place of a part.
-fn put_unit(dst: &mut [u8], at: usize, u: TextUnit)
-    requires { ⌜ Writable (length (now dst)) at u ⌝ }
-    ensures { λ r. ⌜ now (dst .exit) ≡ laid (now (dst .entry)) at (bytesOf u) ⌝ }
-{
-    match u {
-        TextUnit::Byte { value, after: _ } => {
-            dst[at] = value;
-        }
-        TextUnit::Point { code, after: _ } => {
-            escape::put_utf8(dst, at, code);
-        }
-        TextUnit::Ends {
-            stop: _,
-            from: _,
-            after: _,
-        } => {}
-        TextUnit::Fault {
-            number: _,
-            place: _,
-        } => {}
-        TextUnit::Undecided => {}
-    }
-}
-
-// The value of a text that was measured, `len` bytes, at the start of a part.
-pub fn write_text(
-    m: Mode,
-    src: &[u8],
-    label: &[u8],
-    at: usize,
-    end: bool,
-    len: usize,
-    dst: &mut [u8],
-)
-    requires { ⌜ Measured m (now src) (now label) at end len (length (now dst)) ⌝ }
-    ensures { λ r. ⌜ now (dst .exit) ≡ laid (now (dst .entry)) 0 (valueOf (textAt m (now (label .entry)) end at (drop at (now (src .entry))))) ⌝ }
-{
-    let mut i = at;
-    let mut j = 0;
-    while j < len {
-        let n = units::plain_end(m, src, i);
-        token::put_value(&src[i..n], dst, j);
-        j += n - i;
-        if len <= j {
-            return;
-        }
-        let u = units::unit_at(m, src, label, n, end);
-        put_unit(dst, j, u);
-        j += width_of(u);
-        i = after_of(u);
+        Mode::Single => read_text(m, src, label, at, end, dst),
+        Mode::Double => read_text(m, src, label, at, end, dst),
+        Mode::DoubleQuote => read_text(m, src, label, at, end, dst),
+        Mode::ShellExec => read_text(m, src, label, at, end, dst),
+        Mode::Heredoc => read_text(m, src, label, at, end, dst),
+        Mode::Nowdoc => scan_nowdoc(src, label, at, end, dst),
     }
 }

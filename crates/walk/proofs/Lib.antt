@@ -1,2 +1,7 @@
+pub mod Writes
+pub mod Walks
 pub mod Places
 pub mod Walking
+pub mod Passed
+pub mod Held
+pub mod Values

@@ -1,206 +1,173 @@
 -- A walk on its way: what is left of it gives what the whole gives. Assumes nothing.
---   calledOn-..   a call and the steps after it, by the call's answer
---   Walking       the walk from the beginning is the walk from here on, of the calls that are left; the gate is open here; and whether
---                 the first call is behind
---   walks, walking   the rulesets of `turns` and of the loop
-use Prim.Native.Nat.{ℕ, zero, suc, _+_, _-_, _≤_, _<_}
+--   Walking   the walk from the beginning is the walk from here on, of the calls that are left; the gate is open
+--             here; whether the first call is behind; and what was written to the numbers
+--   walking-..   where it begins, where it goes on, and where it ends
+use Prim.Native.Nat.{ℕ, _+_, _*_, _-_, _≤_, _<_}
 use mathlib.Core.Path.{_≡_, refl, sym, ap, subst, _∙_}
-use mathlib.Core.Bool.{Bool, true, false, not, false≢true}
+use mathlib.Core.Bool.{Bool, true, false, not, _||_, false≢true}
 use mathlib.Core.List.{List}
 use native.Mathlib.Omega.{arith}
 use lib.Dec.{eqb, ltb}
-use lib.ListN.{length, set}
-use borrow.Author.Tests.{leb-false, ltb-true, ltb-false, eqb-true, eq-eqb, not-true, not-false}
-use Rattle.source.specs.Cursor.{origin}
+use lib.ListN.{length, getD, drop, set}
+use lib.Seq.{getD-set-same}
+use borrow.Author.Tests.{ltb-true, ltb-false, eqb-true, eq-eqb, not-true, not-false}
+use Rattle.byte.specs.Laid.{laid}
 use Rattle.state.specs.declared.Answer.{Answer}
 use Rattle.state.specs.declared.Frame.{Frame}
 use Rattle.state.specs.declared.Choices.{Choices}
 use Rattle.state.specs.declared.Slot.{Slot}
 use Rattle.state.specs.declared.Session.{Session}
 use Rattle.state.specs.declared.Turn.{Turn}
-use Rattle.state.specs.Calls.{done, refused}
+use Rattle.state.specs.Bounds.{isFrame, noSlot}
 use Rattle.state.specs.Gates.{lentRefusal}
+use Rattle.layout.specs.Sessions.{slotNumbers, framesIn, areChoices, choicesIn, depthIn, sessionIn}
+use Rattle.layout.specs.Answers.{refusalIn}
+use Rattle.layout.specs.Lent.{Rewritten}
+use Rattle.layout.proofs.Sessions.{length-framesIn}
+use Rattle.layout.proofs.Again.{isHeld, depth-some}
+use Rattle.layout.proofs.Rewriting.{Slotted, slotted-first, slotted-on, framesIn-laid, isFrame-held, rewritten}
 use Rattle.outcome.specs.declared.Call.{Call}
 use Rattle.outcome.specs.declared.Change.{Change}
 use Rattle.outcome.specs.Steps.{topFrame, callOutcome}
 use Rattle.commit.specs.declared.Mark.{Mark}
 use Rattle.commit.specs.declared.Next.{Next}
-use Rattle.commit.specs.Code.{isFull, Committed}
+use Rattle.commit.specs.Code.{Committed}
 use Rattle.lexer.specs.declared.Place.{Place}
 use Rattle.lexer.specs.Turns.{After, Gives, depthAfter, framesAfter, markOf, turnOf}
 use Rattle.lexer.specs.Calls.{called}
 use Rattle.lexer.specs.Code.{sessionAt, outcomeAt, Standing}
-use Rattle.lexer.proofs.Calls.{called-shut, open-depth, open-standing, open-free}
-use Rattle.demands.specs.Walks.{goOn, walked, calledOn, isDone, begins}
-use Rattle.walk.specs.declared.Walked.{Walked}
-use Rattle.walk.specs.Walks.{Walks}
-use Rattle.walk.specs.Code.{endedAt}
+use Rattle.lexer.proofs.Calls.{lent-opened, open-depth, open-standing, open-free}
+use Rattle.demands.specs.Walks.{calledOn, isDone}
+use Rattle.walk.specs.Walks.{isWritten, Walks}
+use Rattle.walk.specs.Code.{topIn, frameAfter, numbersAfter, placedAt, endedAt, Deep, Opened, Changes, Changed}
 use Rattle.walk.proofs.Places.{place-still, place-gives, list-kept, pool-kept, place-next}
-
--- an arm of a match on an answer
-pub isDone-arm : (a arm : Answer) (r : Bool) → a ≡ arm → r ≡ isDone arm → r ≡ isDone a
-isDone-arm a arm r e h = rw e h
-
-pub endedAt-made : (answer : Answer) (at : Place) (frames : List Slot) (choices : Choices) (s : Session)
-    → s ≡ sessionAt at frames choices → record { answer = answer; session = s } ≡ endedAt answer at frames choices
-endedAt-made answer at frames choices s e = rw e
-
--- ---- a call and the steps after it
-
-pub walked-calledOn : (n : ℕ) (src : List ℕ) (end : Bool) (s : Session) (l q : List ℕ)
-    → calledOn Call.Step n src end s l q ≡ walked n src end s l q
-unfolding calledOn walked
-walked-calledOn zero src end s l q = refl
-walked-calledOn (suc n) src end s l q = refl
-
-module _ (call : Call) (src : List ℕ) (end : Bool) (s : Session) (l q : List ℕ) where
-  abbrev now : After
-  now = called call src end s l q
-
-  go-on : (a : Answer) (later : After) → isDone a ≡ true → goOn a now later ≡ later
-  unfolding goOn isDone
-  go-on Answer.Done later e = refl
-  go-on Answer.Finished later e = absurd (false≢true e)
-  go-on (Answer.Refused number span) later e = absurd (false≢true e)
-
-  go-over : (a : Answer) (later : After) → isDone a ≡ false → goOn a now later ≡ now
-  unfolding goOn isDone
-  go-over Answer.Done later e = absurd (false≢true (sym e))
-  go-over Answer.Finished later e = refl
-  go-over (Answer.Refused number span) later e = refl
-
-  calledOn-on : (left : ℕ) → 0 < left → isDone (now .turn .answer) ≡ true
-      → calledOn call left src end s l q ≡ calledOn Call.Step (left - 1) src end (now .turn .session) (now .list) (now .pool)
-  unfolding calledOn
-  calledOn-on zero h e = absurd (omega (arith, h))
-  calledOn-on (suc n) h e =
-      let one : suc n - 1 ≡ n = omega arith in
-      go-on (now .turn .answer) _ e
-      ∙ sym (walked-calledOn n src end (now .turn .session) (now .list) (now .pool))
-      ∙ rw one
-
-  pub calledOn-over : (left : ℕ) → 0 < left → isDone (now .turn .answer) ≡ false → calledOn call left src end s l q ≡ now
-  unfolding calledOn
-  calledOn-over zero h e = absurd (omega (arith, h))
-  calledOn-over (suc n) h e = go-over (now .turn .answer) _ e
-
-  pub begins-some : (most : ℕ) → 0 < most → begins call most src end s l q ≡ isDone (now .turn .answer)
-  unfolding begins
-  begins-some zero h = absurd (omega (arith, h))
-  begins-some (suc n) h = refl
-
-  pub walk-none : (most : ℕ) → most ≡ 0 → Walks call most src end s l q (record { turn = done s; begun = false }) l q
-  unfolding calledOn begins
-  walk-none most e = rw e (record { gives = record { turn = refl; list = refl; pool = refl }; begun = refl })
-
-  pub walk-shut : (most shut : ℕ) (r : Turn) → (most ≡ 0 → ⊥) → shut ≡ lentRefusal src (length l) (length q) s → (shut ≡ 0 → ⊥)
-      → r ≡ refused shut origin s → Walks call most src end s l q (record { turn = r; begun = false }) l q
-  unfolding isDone
-  walk-shut most shut r h e n k =
-      let some : 0 < most = omega (arith, h) in
-      let g = called-shut call src end s l q shut e r n k in
-      let a : isDone (now .turn .answer) ≡ false = ap (λ (t : Turn). isDone (t .answer)) (sym (g .turn) ∙ k) in
-      record {
-        gives = rw (calledOn-over most some a) g;
-        begun = sym (begins-some most some ∙ a);
-      }
-
-  -- where one call is wanted
-  pub calledOn-one : calledOn call 1 src end s l q ≡ now
-  unfolding calledOn isDone
-  calledOn-one = go (isDone (now .turn .answer)) refl
-    where
-      last : (a : Answer) → now .turn .answer ≡ a → isDone a ≡ true
-          → calledOn Call.Step 0 src end (now .turn .session) (now .list) (now .pool) ≡ now
-      last Answer.Done e d = rw (← e)
-      last Answer.Finished e d = absurd (false≢true d)
-      last (Answer.Refused number span) e d = absurd (false≢true d)
-
-      go : (t : Bool) → isDone (now .turn .answer) ≡ t → calledOn call 1 src end s l q ≡ now
-      go true e = calledOn-on 1 (omega arith) e ∙ last (now .turn .answer) refl e
-      go false e = calledOn-over 1 (omega arith) e
-
-pub ruleset walks = (walk-none, walk-shut)
-
--- ---- the loop
+use Rattle.walk.proofs.Walks.{calledOn-on, calledOn-over, done-unrefused, isWritten-some}
+use Rattle.walk.proofs.Writes.{changed-place}
 
 abbrev place : Mark → ℕ → Place
 place mark depth = record { mark = mark; depth = depth }
 
-pub record Walking (first : Call) (most : ℕ) (src : List ℕ) (end : Bool) (s₀ : Session) (l₀ q₀ : List ℕ) (left : ℕ) (call : Call)
-    (mark : Mark) (depth : ℕ) (frames : List Slot) (choices : Choices) (l q : List ℕ) : Type 0 where
-  pub same : calledOn first most src end s₀ l₀ q₀ ≡ calledOn call left src end (sessionAt (place mark depth) frames choices) l q
-  pub gate : lentRefusal src (length l) (length q) (sessionAt (place mark depth) frames choices) ≡ 0
+-- the session that a place, numbers and choices stand for
+abbrev pub standing : Mark → ℕ → List ℕ → Choices → Session
+standing mark depth n choices = sessionAt (place mark depth) (framesIn 64 (drop 7 n)) choices
+
+pub record Walking (first : Call) (most : ℕ) (src : List ℕ) (end : Bool) (n₀ l₀ q₀ : List ℕ) (left : ℕ) (call : Call)
+    (mark : Mark) (depth : ℕ) (f : Frame) (choices : Choices) (n l q : List ℕ) : Type 0 where
+  pub same : calledOn first most src end (sessionIn n₀) l₀ q₀ ≡ calledOn call left src end (standing mark depth n choices) l q
+  pub gate : lentRefusal src (length l) (length q) (standing mark depth n choices) ≡ 0
+  pub top : f ≡ topIn n depth
   pub low : 1 ≤ depth
   pub high : depth ≤ 64
   pub list : length l ≡ length l₀
   pub pool : length q ≡ length q₀
+  pub size : length n ≡ length n₀
+  pub long : 199 ≤ length n
   pub some : 0 < most
   pub least : left ≤ most
   pub fresh : left ≡ most
-      → called first src end s₀ l₀ q₀ ≡ called call src end (sessionAt (place mark depth) frames choices) l q
-  pub begun : (left ≡ most → ⊥) → isDone (called first src end s₀ l₀ q₀ .turn .answer) ≡ true
+      → called first src end (sessionIn n₀) l₀ q₀ ≡ called call src end (standing mark depth n choices) l q
+  pub still : left ≡ most → n ≡ n₀
+  pub begun : (left ≡ most → ⊥) → isDone (called first src end (sessionIn n₀) l₀ q₀ .turn .answer) ≡ true
+  pub chosen : choices ≡ choicesIn (getD n₀ 6 0)
+  pub flags : areChoices (getD n₀ 6 0) ≡ true
+  pub slots : Slotted n₀ n
 
-module _ (first : Call) (most : ℕ) (src : List ℕ) (end : Bool) (s : Session) (l₀ q₀ : List ℕ) (m₀ : Mark) (m : m₀ ≡ markOf s) where
-  -- where the walk begins
-  abbrev begin : Session
-  begin = sessionAt (place m₀ (s .depth)) (s .frames) (s .choices)
+-- the depth is the fourth number: the choices are choices
+module _ (most : ℕ) (src n₀ l₀ q₀ : List ℕ) (o : Opened most src n₀ (length l₀) (length q₀)) where
+  deep : (1 ≤ depthIn (getD n₀ 3 0) (getD n₀ 6 0)) × (depthIn (getD n₀ 3 0) (getD n₀ 6 0) ≤ 64)
+  deep = open-depth Call.Step src true (sessionIn n₀) l₀ q₀ (o .gate)
 
-  begin-same : begin ≡ s
-  begin-same = ap (λ (x : Mark). sessionAt (place x (s .depth)) (s .frames) (s .choices)) m
+  depth-first : (areChoices (getD n₀ 6 0) ≡ true) × (depthIn (getD n₀ 3 0) (getD n₀ 6 0) ≡ getD n₀ 3 0)
+  depth-first = depth-some (getD n₀ 3 0) (getD n₀ 6 0) (deep .0)
 
-  from-begin : (r : Walked) (l q : List ℕ) → Walks first most src end begin l₀ q₀ r l q → Walks first most src end s l₀ q₀ r l q
-  from-begin r l q w = subst (λ (x : Session). Walks first most src end x l₀ q₀ r l q) begin-same w
+  walking-low : 1 ≤ getD n₀ 3 0
+  walking-low = rw (← depth-first .1) (deep .0)
 
-  pub walking-first : (lentRefusal src (length l₀) (length q₀) s ≡ 0) × (0 < most)
-      → Walking first most src end begin l₀ q₀ most first m₀ (s .depth) (s .frames) (s .choices) l₀ q₀
-  walking-first h =
-      let depth = open-depth first src end s l₀ q₀ (h .0) in
-      record {
-        same = refl;
-        gate = rw m (h .0);
-        low = depth .0;
-        high = depth .1;
-        list = refl;
-        pool = refl;
-        some = h .1;
-        least = omega arith;
-        fresh = λ e. refl;
-        begun = λ n. absurd (n refl);
-      }
+  walking-high : getD n₀ 3 0 ≤ 64
+  walking-high = rw (← depth-first .1) (deep .1)
 
-  module _ (left : ℕ) (call : Call) (mark : Mark) (depth : ℕ) (frames : List Slot) (choices : Choices) (l q : List ℕ)
-      (w : Walking first most src end begin l₀ q₀ left call mark depth frames choices l q) where
+  pub walking-deep : Deep n₀ (getD n₀ 3 0)
+  walking-deep = record { long = o .long; low = walking-low; high = walking-high }
+
+module _ (first : Call) (most : ℕ) (src : List ℕ) (end : Bool) (n₀ l₀ q₀ : List ℕ) where
+  module _ (o : Opened most src n₀ (length l₀) (length q₀)) where
+    pub walking-first : (m₀ : Mark) (choices : Choices) (f : Frame) → m₀ ≡ markOf (sessionIn n₀)
+        → choices ≡ choicesIn (getD n₀ 6 0)
+        → f ≡ topIn n₀ (getD n₀ 3 0)
+        → Walking first most src end n₀ l₀ q₀ most first m₀ (getD n₀ 3 0) f choices n₀ l₀ q₀
+    walking-first m₀ choices f m c t =
+        let begin : standing m₀ (getD n₀ 3 0) n₀ choices ≡ sessionIn n₀ =
+        rw (m, c, depth-first most src n₀ l₀ q₀ o .1) in
+        record {
+          same = ap (λ (s : Session). calledOn first most src end s l₀ q₀) (sym begin);
+          gate = rw begin (o .gate);
+          top = t;
+          low = walking-low most src n₀ l₀ q₀ o;
+          high = walking-high most src n₀ l₀ q₀ o;
+          list = refl;
+          pool = refl;
+          size = refl;
+          long = o .long;
+          some = o .some;
+          least = omega arith;
+          fresh = λ e. ap (λ (s : Session). called first src end s l₀ q₀) (sym begin);
+          still = λ e. refl;
+          begun = λ n. absurd (n refl);
+          chosen = c;
+          flags = depth-first most src n₀ l₀ q₀ o .0;
+          slots = slotted-first n₀;
+        }
+
+  module _ (left : ℕ) (call : Call) (mark : Mark) (depth : ℕ) (f : Frame) (choices : Choices) (n l q : List ℕ)
+      (w : Walking first most src end n₀ l₀ q₀ left call mark depth f choices n l q) where
     abbrev here : Session
-    here = sessionAt (place mark depth) frames choices
+    here = standing mark depth n choices
 
-    pub walking-standing : Standing src (topFrame here) mark (length l) (length q)
-    walking-standing = open-standing call src end here l q (w .gate)
+    -- the first call, and all
+    abbrev one : After
+    one = called first src end (sessionIn n₀) l₀ q₀
 
-    pub walking-end : (r : Turn) → left ≤ 0 → r ≡ endedAt Answer.Done (place mark depth) frames choices
-        → Walks first most src end s l₀ q₀ (record { turn = r; begun = true }) l q
+    abbrev all : After
+    all = calledOn first most src end (sessionIn n₀) l₀ q₀
+
+    pub walking-standing : Standing src f mark (length l) (length q)
+    walking-standing = rw (w .top) (open-standing call src end here l q (w .gate))
+
+    -- numbers with a place written over them
+    placed-so : (m : Mark) (n′ : List ℕ) → n′ ≡ placedAt m depth n → Rewritten n₀ (standing m depth n choices) n′
+    placed-so m n′ e =
+        rw (w .chosen)
+        (rewritten n₀ n (w .slots) (rw (← w .size) (w .long)) (w .flags) (m .span) depth (m .tokens) (m .bytes) n′ e)
+
+    pub walking-end : (n′ : List ℕ) → left ≤ 0 → n′ ≡ placedAt mark depth n
+        → Walks first most src end n₀ l₀ q₀ Answer.Done n′ l q
     unfolding calledOn
-    walking-end r h e =
+    walking-end n′ h e =
         let none : left ≡ 0 = omega (arith, h) in
+        let over : all ≡ calledOn call 0 src end here l q = w .same ∙ rw none in
         let done-so = w .begun (λ z. omega (arith, z, none, w .some)) in
-        from-begin _ l q
-        (record {
-          gives = rw (w .same, none, e) (record { turn = refl; list = refl; pool = refl });
-          begun = sym (begins-some first src end begin l₀ q₀ most (w .some) ∙ done-so);
-        })
+        let first-so : isWritten most one ≡ true =
+        isWritten-some most one (w .some) ∙ rw (done-unrefused (one .turn .answer) done-so) in
+        record {
+          answer = rw over;
+          list = rw over;
+          pool = rw over;
+          stays = λ z. absurd (false≢true (sym z ∙ first-so));
+          holds = λ z. rw over (placed-so mark n′ e);
+        }
 
     -- the call has made x
     module _ (h : 0 < left) (x : Next) (l′ q′ : List ℕ)
-        (c : Committed src mark l q (outcomeAt call src end (topFrame here) choices (place mark depth)) x l′ q′) where
+        (c : Committed src mark l q (outcomeAt call src end f choices (place mark depth)) x l′ q′) where
       made-so : Committed src (markOf here) l q (callOutcome call src end here) x l′ q′
       unfolding callOutcome
-      made-so = c
+      made-so = subst (λ (g : Frame). Committed src mark l q (outcomeAt call src end g choices (place mark depth)) x l′ q′) (w .top) c
 
       made : Gives (called call src end here l q) (turnOf here x) l′ q′
       made = place-gives call src end here l q (w .gate) x l′ q′ made-so
 
-      answer-same : isDone (called call src end here l q .turn .answer) ≡ isDone (x .answer)
-      answer-same = ap (λ (t : Turn). isDone (t .answer)) (sym (made .turn))
+      answer-same : called call src end here l q .turn .answer ≡ x .answer
+      answer-same = ap (λ (t : Turn). t .answer) (sym (made .turn))
 
       pub walking-list : length l′ ≡ length l₀
       walking-list = list-kept call src end here l q (w .gate) x l′ q′ made-so ∙ w .list
@@ -208,101 +175,164 @@ module _ (first : Call) (most : ℕ) (src : List ℕ) (end : Bool) (s : Session)
       pub walking-pool : length q′ ≡ length q₀
       walking-pool = pool-kept call src end here l q (w .gate) x l′ q′ made-so ∙ w .pool
 
+      -- whether the numbers are written where x is the last
+      written-so : isWritten most one ≡ (ltb left most || eqb (refusalIn (x .answer)) 0)
+      written-so = isWritten-some most one (w .some) ∙ go (ltb left most) refl
+        where
+          go : (t : Bool) → ltb left most ≡ t
+              → eqb (refusalIn (one .turn .answer)) 0 ≡ (t || eqb (refusalIn (x .answer)) 0)
+          go true e =
+              rw (done-unrefused (one .turn .answer) (w .begun (λ z. omega (arith, z, ltb-true left most e))))
+          go false e =
+              let whole : left ≡ most = omega (arith, w .least, ltb-false left most e) in
+              ap (λ (a : After). eqb (refusalIn (a .turn .answer)) 0) (w .fresh whole)
+              ∙ ap (λ (a : Answer). eqb (refusalIn a) 0) answer-same
+
       module _ (flag : Bool) (d : flag ≡ isDone (x .answer)) where
         -- it is the last: the frame stays
-        pub walking-over : not flag ≡ true → (r : Turn) → r ≡ endedAt (x .answer) (place (x .mark) depth) frames choices
-            → Walks first most src end s l₀ q₀ (record { turn = r; begun = ltb left most }) l′ q′
+        pub walking-over : (n′ : List ℕ) → not flag ≡ true → n′ ≡ endedAt (ltb left most) (x .answer) (x .mark) depth n
+            → Walks first most src end n₀ l₀ q₀ (x .answer) n′ l′ q′
         unfolding framesAfter depthAfter
-        walking-over n r e =
-            let over : isDone (x .answer) ≡ false = sym d ∙ not-true flag n in
+        walking-over n′ t e =
+            let over : isDone (x .answer) ≡ false = sym d ∙ not-true flag t in
             let keep = place-still call src end here l q (w .gate) x l′ q′ made-so over in
-            let turn : turnOf here x ≡ endedAt (x .answer) (place (x .mark) depth) frames choices = rw keep in
-            from-begin _ l′ q′
-            (record {
-              gives = rw (w .same, calledOn-over call src end here l q left h (answer-same ∙ over), e, ← turn) made;
-              begun = go (ltb left most) refl ∙ sym (begins-some first src end begin l₀ q₀ most (w .some));
-            })
+            let last : all ≡ called call src end here l q =
+            w .same ∙ calledOn-over call src end here l q left h (ap isDone answer-same ∙ over) in
+            let moved : turnOf here x .session ≡ all .turn .session =
+            rw last (ap (λ (t : Turn). t .session) (made .turn)) in
+            let ends : standing (x .mark) depth n choices ≡ all .turn .session = rw keep at moved in
+            record {
+              answer = rw last (sym answer-same);
+              list = rw last (made .list);
+              pool = rw last (made .pool);
+              stays = λ z. untouched (sym written-so ∙ z);
+              holds = λ z. subst (λ (s : Session). Rewritten n₀ s n′) ends (placed-so (x .mark) n′ (e ∙ rw (sym written-so ∙ z)));
+            }
           where
-            go : (t : Bool) → ltb left most ≡ t → t ≡ isDone (called first src end begin l₀ q₀ .turn .answer)
-            go true e = sym (w .begun (λ z. omega (arith, z, ltb-true left most e)))
-            go false e =
-                let all : left ≡ most = omega (arith, w .least, ltb-false left most e) in
-                sym (ap (λ (a : After). isDone (a .turn .answer)) (w .fresh all) ∙ answer-same ∙ sym d ∙ not-true flag n)
+            untouched : (ltb left most || eqb (refusalIn (x .answer)) 0) ≡ false → n′ ≡ n₀
+            untouched z = e ∙ rw z (go (ltb left most) refl z)
+              where
+                go : (b : Bool) → ltb left most ≡ b → (b || eqb (refusalIn (x .answer)) 0) ≡ false → n ≡ n₀
+                go true k y = absurd (false≢true (sym y))
+                go false k y = w .still (omega (arith, w .least, ltb-false left most k))
 
-        module _ (n : not flag ≡ false) where
+        pub walking-changes : Changes n depth (x .change)
+        walking-changes = record {
+          stack = record { long = w .long; low = w .low; high = w .high };
+          free = open-free call src end here l q (w .gate) x l′ q′ made-so;
+        }
+
+        -- it is done, and the change of frame is made
+        module _ (t : not flag ≡ false) (r : ℕ) (n′ : List ℕ) (k : Changed n depth (x .change) r n′) where
+          abbrev turned : Session
+          turned = turnOf here x .session
+
           done-so : isDone (x .answer) ≡ true
-          done-so = sym d ∙ not-false flag n
+          done-so = sym d ∙ not-false flag t
 
-          -- the place after a change of frame
-          abbrev Behind : Change → Type 0
-          Behind change =
-              Walking first most src end begin l₀ q₀ (left - 1) Call.Step (x .mark) (depthAfter change depth)
-              (framesAfter change depth frames) choices l′ q′
+          gate-next : lentRefusal src (length l′) (length q′) turned ≡ 0
+          gate-next = place-next call src end here l q (w .gate) x l′ q′ made-so
 
-          begun-so : isDone (called first src end begin l₀ q₀ .turn .answer) ≡ true
+          deep-next : (1 ≤ turned .depth) × (turned .depth ≤ 64)
+          deep-next = open-depth Call.Step src end turned l′ q′ gate-next
+
+          -- a frame that a change puts on top
+          module _ (g : Frame) (i : ℕ) (inside : i < 64) (e : turned .frames ≡ set (framesIn 64 (drop 7 n)) i
+              (record { frame = g }))
+              (p : turned .depth - 1 ≡ i) where
+            on-top : topFrame turned ≡ g
+            on-top =
+                let z : i < length (framesIn 64 (drop 7 n)) = rw (length-framesIn 64 (drop 7 n)) inside in
+                ap (λ (y : List Slot). getD y (turned .depth - 1) noSlot .frame) e
+                ∙ ap (λ (j : ℕ). getD (set (framesIn 64 (drop 7 n)) i (record { frame = g })) j noSlot .frame) p
+                ∙ ap (λ (y : Slot). y .frame) (getD-set-same (framesIn 64 (drop 7 n)) i (record { frame = g }) noSlot z)
+
+            held : isHeld (record { frame = g }) ≡ true
+            held =
+                isFrame-held src g (lent-opened src here (length l) (length q) (w .gate) .source)
+                (subst (λ (y : Frame). isFrame src y ≡ true) on-top (open-standing Call.Step src end turned l′ q′ gate-next .top))
+
+            slot-written : (framesIn 64 (drop 7 (laid n (7 + i * 3) (slotNumbers (record { frame = g }))))
+                ≡ set (framesIn 64 (drop 7 n)) i (record { frame = g }))
+                × Slotted n₀ (laid n (7 + i * 3) (slotNumbers (record { frame = g })))
+            slot-written = (
+              framesIn-laid n i (record { frame = g }) (w .long) inside held,
+              slotted-on n₀ n (w .slots) (rw (← w .size) (w .long)) i inside (record { frame = g }) held,
+            )
+
+          enters : (g : Frame) → x .change ≡ Change.Enter g → depth < 64
+          enters g e = changed-place n depth (x .change) g walking-changes e
+
+          -- the numbers after the change, and the frame on top of them
+          written : (change : Change) → x .change ≡ change
+              → (framesIn 64 (drop 7 (numbersAfter change depth n)) ≡ framesAfter change depth (framesIn 64 (drop 7 n)))
+              × Slotted n₀ (numbersAfter change depth n)
+          unfolding numbersAfter framesAfter depthAfter
+          written Change.Keep e = (refl, w .slots)
+          written (Change.Swap g) e = slot-written g (depth - 1) (omega (arith, w .low, w .high)) (rw e) (rw e)
+          written (Change.Enter g) e = slot-written g depth (enters g e) (rw e) (rw e (omega arith))
+          written Change.Leave e = (refl, w .slots)
+
+          frames-next : framesIn 64 (drop 7 n′) ≡ turned .frames
+          frames-next = ap (λ (y : List ℕ). framesIn 64 (drop 7 y)) (k .holds) ∙ written (x .change) refl .0
+
+          slots-next : Slotted n₀ n′
+          slots-next = rw (k .holds) (written (x .change) refl .1)
+
+          top-next : topIn n′ r ≡ topFrame turned
+          top-next =
+              ap (λ (y : List Slot). getD y (r - 1) noSlot .frame) frames-next
+              ∙ ap (λ (j : ℕ). getD (turned .frames) (j - 1) noSlot .frame) (k .deep)
+
+          topped : (change : Change) → x .change ≡ change → frameAfter f change (topIn n′ r) ≡ topIn n′ r
+          unfolding frameAfter framesAfter depthAfter
+          topped Change.Keep e = w .top ∙ sym (top-next ∙ rw e)
+          topped (Change.Swap g) e = sym (top-next ∙ on-top g (depth - 1) (omega (arith, w .low, w .high)) (rw e) (rw e))
+          topped (Change.Enter g) e = sym (top-next ∙ on-top g depth (enters g e) (rw e) (rw e (omega arith)))
+          topped Change.Leave e = refl
+
+          pub walking-size : length n′ ≡ length n₀
+          walking-size = slots-next .size
+
+          pub walking-next : Deep n′ r
+          walking-next = record {
+            long = rw (slots-next .size, ← w .size) (w .long);
+            low = rw (k .deep) (deep-next .0);
+            high = rw (k .deep) (deep-next .1);
+          }
+
+          begun-so : isDone (one .turn .answer) ≡ true
           begun-so = go (eqb left most) refl
             where
-              go : (t : Bool) → eqb left most ≡ t → isDone (called first src end begin l₀ q₀ .turn .answer) ≡ true
+              go : (b : Bool) → eqb left most ≡ b → isDone (one .turn .answer) ≡ true
               go true e =
-                  ap (λ (a : After). isDone (a .turn .answer)) (w .fresh (eqb-true left most e)) ∙ answer-same ∙ done-so
+                  ap (λ (a : After). isDone (a .turn .answer)) (w .fresh (eqb-true left most e))
+                  ∙ ap isDone answer-same ∙ done-so
               go false e = w .begun (λ z. false≢true (sym e ∙ eq-eqb left most z))
 
-          behind : Behind (x .change)
-          behind =
-              let gate = place-next call src end here l q (w .gate) x l′ q′ made-so in
-              let stack = open-depth Call.Step src end (turnOf here x .session) l′ q′ gate in
-              let after = calledOn-on call src end here l q left h (answer-same ∙ done-so) in
+          pub walking-on : (f′ : Frame) → f′ ≡ frameAfter f (x .change) (topIn n′ r)
+              → Walking first most src end n₀ l₀ q₀ (left - 1) Call.Step (x .mark) r f′ choices n′ l′ q′
+          walking-on f′ e =
+              let same-so : standing (x .mark) r n′ choices ≡ turned =
+              ap (λ (j : ℕ). sessionAt (place (x .mark) j) (framesIn 64 (drop 7 n′)) choices) (k .deep)
+              ∙ ap (λ (y : List Slot). sessionAt (place (x .mark) (turned .depth)) y choices) frames-next in
+              let after = calledOn-on call src end here l q left h (ap isDone answer-same ∙ done-so) in
               record {
-                same = rw (made .list, made .pool) (w .same ∙ (rw (← made .turn) at after));
-                gate = gate;
-                low = stack .0;
-                high = stack .1;
+                same = rw (same-so, made .list, made .pool) (w .same ∙ (rw (← made .turn) at after));
+                gate = rw same-so gate-next;
+                top = e ∙ topped (x .change) refl;
+                low = walking-next .low;
+                high = walking-next .high;
                 list = walking-list;
                 pool = walking-pool;
+                size = walking-size;
+                long = walking-next .long;
                 some = w .some;
                 least = omega (arith, w .least);
-                fresh = λ e. absurd (omega (arith, e, h, w .least));
-                begun = λ e. begun-so;
+                fresh = λ z. absurd (omega (arith, z, h, w .least));
+                still = λ z. absurd (omega (arith, z, h, w .least));
+                begun = λ z. begun-so;
+                chosen = w .chosen;
+                flags = w .flags;
+                slots = slots-next;
               }
-
-          pub walking-keep : x .change ≡ Change.Keep
-              → Walking first most src end begin l₀ q₀ (left - 1) Call.Step (x .mark) depth frames choices l′ q′
-          unfolding depthAfter framesAfter
-          walking-keep k = subst Behind k behind
-
-          pub walking-leave : x .change ≡ Change.Leave
-              → Walking first most src end begin l₀ q₀ (left - 1) Call.Step (x .mark) (depth - 1) frames choices l′ q′
-          unfolding depthAfter framesAfter
-          walking-leave k = subst Behind k behind
-
-          module _ (f : Frame) where
-            pub walking-swap : x .change ≡ Change.Swap f
-                → Walking first most src end begin l₀ q₀ (left - 1) Call.Step (x .mark) depth
-                (set frames (depth - 1) (record { frame = f })) choices l′ q′
-            unfolding depthAfter framesAfter
-            walking-swap k = subst Behind k behind
-
-            pub walking-enter : x .change ≡ Change.Enter f
-                → Walking first most src end begin l₀ q₀ (left - 1) Call.Step (x .mark) (depth + 1)
-                (set frames depth (record { frame = f })) choices l′ q′
-            unfolding depthAfter framesAfter
-            walking-enter k = subst Behind k behind
-
-      pub walking-place : (f : Frame) → x .change ≡ Change.Enter f → depth < 64
-      unfolding isFull
-      walking-place f k =
-          leb-false 64 depth (rw k at (open-free call src end here l q (w .gate) x l′ q′ made-so))
-
-pub ruleset walking = (
-  walking-first,
-  walking-standing,
-  walking-list,
-  walking-pool,
-  walking-place,
-  walking-over,
-  walking-keep,
-  walking-leave,
-  walking-swap,
-  walking-enter,
-  walking-end,
-)

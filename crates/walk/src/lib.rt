@@ -1,28 +1,25 @@
-// The walk: a call and, where it is done, as many steps after it as are wanted. The gate is asked once, and the frames stay in one place.
+// The walk: a call and, where it is done, as many steps after it as are wanted, over the numbers of a host's session. The gate is asked
+// once; a slot is read where its frame is on top, and written where a step changes it; the place is read once and written once.
 // A step and each reading is a walk of one call.
 use commit::Mark;
 use lexer::Place;
 use outcome::Call;
 use outcome::Change;
+use source::Span;
 use state::Answer;
-use state::Choices;
+use state::Frame;
 use state::Session;
-use state::Slot;
 use state::Turn;
 ghost use mathlib.Core.Path.{_≡_};
-ghost use Prim.Native.Nat.{_<_};
+ghost use Prim.Native.Nat.{_≤_};
 ghost use lib.ListN.{length};
-ghost use Rattle.state.specs.Gates.{lentRefusal};
-ghost use Rattle.lexer.specs.Turns.{Gives};
+ghost use Rattle.layout.specs.Sessions.{sessionIn};
+ghost use Rattle.plan.specs.Code.{Here};
+ghost use Rattle.modes.specs.Code.{Near};
+ghost use Rattle.lexer.specs.Turns.{Gives, markOf};
 ghost use Rattle.demands.specs.Walks.{calledOn, isDone};
 ghost use Rattle.walk.specs.Walks.{Walks};
-ghost use Rattle.walk.specs.Code.{endedAt};
-
-// What a walk comes to, and whether its first call was done: then its session is another than before, also where a later step is refused.
-pub struct Walked {
-    pub turn: Turn,
-    pub begun: bool,
-}
+ghost use Rattle.walk.specs.Code.{topIn, frameAfter, GoesAlong, placedAt, endedAt, Deep, Opened, Changes, Changed};
 
 // Done, and not finished.
 fn is_done(a: Answer) -> bool
@@ -35,100 +32,181 @@ fn is_done(a: Answer) -> bool
     }
 }
 
-// The turn of a walk that ends at a place.
-fn ended(answer: Answer, at: Place, frames: [Slot; 64], choices: Choices) -> Turn
-    ensures { λ r. ⌜ r ≡ endedAt answer at frames choices ⌝ }
+// The cursor and the marks in a session's numbers.
+fn mark_in(session: &[u32]) -> Mark
+    requires { ⌜ 199 ≤ length (now session) ⌝ }
+    ensures { λ r. ⌜ r ≡ markOf (sessionIn (now (session .entry))) ⌝ }
 {
-    let session = lexer::session_at(at, frames, choices);
-    Turn { answer, session }
+    let span = layout::span_in(session);
+    Mark {
+        span,
+        tokens: session[4],
+        bytes: session[5],
+    }
 }
 
-// After the gate, where a call is wanted.
+// The place is written to a session's numbers, with the depth and the marks.
+fn put_at(session: &mut [u32], mark: Mark, depth: u32)
+    requires { ⌜ 199 ≤ length (now session) ⌝ }
+    ensures { λ r. ⌜ now (session .exit) ≡ placedAt mark depth (now (session .entry)) ⌝ }
+{
+    layout::put_place(session, mark.span, depth, mark.tokens, mark.bytes);
+}
+
+// The place where a walk ends, but where its first call is refused: then it has not begun.
+fn put_end(session: &mut [u32], begun: bool, answer: Answer, mark: Mark, depth: u32)
+    requires { ⌜ 199 ≤ length (now session) ⌝ }
+    ensures { λ r. ⌜ now (session .exit) ≡ endedAt begun answer mark depth (now (session .entry)) ⌝ }
+{
+    if begun | (layout::refusal_in(answer) == 0) {
+        put_at(session, mark, depth);
+    }
+}
+
+// A frame that is entered, or that takes another's place, is written to its slot. Gives the depth after the change.
+fn change_frame(session: &mut [u32], depth: u32, change: Change) -> u32
+    requires { ⌜ Changes (now session) depth change ⌝ }
+    ensures { λ r. ⌜ Changed (now (session .entry)) depth change r (now (session .exit)) ⌝ }
+{
+    match change {
+        Change::Keep => depth,
+        Change::Swap(f) => {
+            layout::put_frame(session, depth as usize - 1, f);
+            depth
+        }
+        Change::Enter(f) => {
+            layout::put_frame(session, depth as usize, f);
+            depth + 1
+        }
+        Change::Leave => depth - 1,
+    }
+}
+
+// The frame on top of a session's slots.
+fn top_in(session: &[u32], depth: u32) -> Frame
+    requires { ⌜ Deep (now session) depth ⌝ }
+    ensures { λ r. ⌜ r ≡ topIn (now (session .entry)) depth ⌝ }
+{
+    layout::frame_at(session, depth as usize - 1)
+}
+
+// The frame on top after a change, at the depth after it; f was on top before.
+fn frame_after(session: &[u32], depth: u32, f: Frame, change: Change) -> Frame
+    requires { ⌜ Deep (now session) depth ⌝ }
+    ensures { λ r. ⌜ r ≡ frameAfter f change (topIn (now (session .entry)) depth) ⌝ }
+{
+    match change {
+        Change::Keep => f,
+        Change::Swap(g) => g,
+        Change::Enter(g) => g,
+        Change::Leave => top_in(session, depth),
+    }
+}
+
+// Where steps end that only pass bytes, and how many are left there.
+struct Along {
+    mark: Mark,
+    left: u32,
+}
+
+// Steps in a row that only pass bytes.
+fn go_along(call: Call, src: &[u8], f: Frame, mark: Mark, left: u32) -> Along
+    requires { ⌜ Here (now src) (mark .span .position) × Near (mark .span) ⌝ }
+    ensures { λ r. ⌜ GoesAlong call (now (src .entry)) f mark left (r .mark) (r .left) ⌝ }
+{
+    let r = modes::pass_on(call, src, f, mark.span, left);
+    let span = r.span;
+    let after = Mark {
+        span,
+        tokens: mark.tokens,
+        bytes: mark.bytes,
+    };
+    Along {
+        mark: after,
+        left: r.left,
+    }
+}
+
+// After the gate, where a call is wanted. Steps that only pass bytes are told in a row, ahead of a step by its plan.
 fn walk_on(
     first: Call,
     src: &[u8],
     end: bool,
     most: u32,
-    s: Session,
+    session: &mut [u32],
     list: &mut [u32],
     pool: &mut [u8],
-) -> Walked
-    requires { ⌜ (lentRefusal (now src) (length (now list)) (length (now pool)) s ≡ 0) × (0 < most) ⌝ }
-    ensures { λ r. ⌜ Walks first most (now (src .entry)) end s (now (list .entry)) (now (pool .entry)) r (now (list .exit)) (now (pool .exit)) ⌝ }
+) -> Answer
+    requires { ⌜ Opened most (now src) (now session) (length (now list)) (length (now pool)) ⌝ }
+    ensures { λ r. ⌜ Walks first most (now (src .entry)) end (now (session .entry)) (now (list .entry)) (now (pool .entry)) r (now (session .exit)) (now (list .exit)) (now (pool .exit)) ⌝ }
 {
-    let mut frames = s.frames;
-    let choices = s.choices;
+    let choices = layout::choices_in(session[6]);
     let mut call = first;
-    let mut depth = s.depth;
-    let mut mark = lexer::mark_of(s);
+    let mut depth = session[3];
+    let mut mark = mark_in(session);
     let mut left = most;
+    let mut f = top_in(session, depth);
     while 0 < left {
-        let top = depth as usize - 1;
-        let slot = frames[top];
-        let f = slot.frame;
+        let r = go_along(call, src, f, mark, left);
+        mark = r.mark;
+        left = r.left;
+        if left == 0 {
+            put_at(session, mark, depth);
+            return Answer::Done;
+        }
         let at = Place { mark, depth };
         let x = lexer::step_at(call, src, end, f, choices, at, list, pool);
         mark = x.mark;
         let answer = x.answer;
         if !is_done(answer) {
-            let turn = ended(answer, Place { mark, depth }, frames, choices);
-            return Walked {
-                turn,
-                begun: left < most,
-            };
+            put_end(session, left < most, answer, mark, depth);
+            return answer;
         }
         call = Call::Step;
         left -= 1;
         let change = x.change;
-        match change {
-            Change::Keep => {}
-            Change::Swap(h) => {
-                frames[top] = Slot { frame: h };
-            }
-            Change::Enter(h) => {
-                let next = depth as usize;
-                frames[next] = Slot { frame: h };
-                depth += 1;
-            }
-            Change::Leave => {
-                depth -= 1;
-            }
-        }
+        depth = change_frame(session, depth, change);
+        f = frame_after(session, depth, f, change);
     }
-    let turn = ended(Answer::Done, Place { mark, depth }, frames, choices);
-    Walked { turn, begun: true }
+    put_at(session, mark, depth);
+    Answer::Done
 }
 
-// A call, and at most `most` in all with the steps after it, up to one that is not done.
+// A call, and at most `most` in all with the steps after it, up to one that is not done: over the host's own numbers. Where none is
+// wanted, or the first is refused, they stay as they were.
 pub fn turns(
     call: Call,
     src: &[u8],
     end: bool,
     most: u32,
-    s: Session,
+    session: &mut [u32],
     list: &mut [u32],
     pool: &mut [u8],
-) -> Walked
-    ensures { λ r. ⌜ Walks call most (now (src .entry)) end s (now (list .entry)) (now (pool .entry)) r (now (list .exit)) (now (pool .exit)) ⌝ }
+) -> Answer
+    requires { ⌜ 199 ≤ length (now session) ⌝ }
+    ensures { λ r. ⌜ Walks call most (now (src .entry)) end (now (session .entry)) (now (list .entry)) (now (pool .entry)) r (now (session .exit)) (now (list .exit)) (now (pool .exit)) ⌝ }
 {
     if most == 0 {
-        let turn = Turn {
-            answer: Answer::Done,
-            session: s,
-        };
-        return Walked { turn, begun: false };
+        return Answer::Done;
     }
-    let shut = state::gate_with_tables(src, list.len(), pool.len(), s);
+    let shut = layout::gate_in(src, list.len(), pool.len(), session);
     if shut != 0 {
-        let turn = state::refuse_at_gate(shut, s);
-        return Walked { turn, begun: false };
+        let origin = Span {
+            line: 1,
+            column: 1,
+            position: 0,
+        };
+        return Answer::Refused {
+            number: shut,
+            span: origin,
+        };
     }
-    walk_on(call, src, end, most, s, list, pool)
+    walk_on(call, src, end, most, session, list, pool)
 }
 
-// The same without telling whether it has begun. With `most` 1 it is a step, in which the routine of the top frame reads on from the
-// cursor; or a reading: the number at the cursor, or the quoted string whose text starts there. 11 and 12 come first, then 10 for a
-// reading without Scripting on top, then what the routine refuses, 9, 7, 8.
+// The same with the session by value. With `most` 1 it is a step, in which the routine of the top frame reads on from the cursor; or a
+// reading: the number at the cursor, or the quoted string whose text starts there. 11 and 12 come first, then 10 for a reading without
+// Scripting on top, then what the routine refuses, 9, 7, 8.
 pub fn calls(
     call: Call,
     src: &[u8],
@@ -140,6 +218,9 @@ pub fn calls(
 ) -> Turn
     ensures { λ r. ⌜ Gives (calledOn call most (now (src .entry)) end s (now (list .entry)) (now (pool .entry))) r (now (list .exit)) (now (pool .exit)) ⌝ }
 {
-    let w = turns(call, src, end, most, s, list, pool);
-    w.turn
+    let mut numbers = [0u32; 199];
+    layout::put_session(&mut numbers, s);
+    let answer = turns(call, src, end, most, &mut numbers, list, pool);
+    let session = layout::session_in(&numbers);
+    Turn { answer, session }
 }

@@ -14,6 +14,10 @@ use crate::session::{End, Progress, Session};
 /// How many tokens the list has room for; two are enough for any step.
 const PLACES: usize = 512;
 
+/// After a wait an open text is read again from its start. One of more than so many bytes is read again only when it has doubled, or at
+/// the end: so what a long text costs grows with its length, and not with its square.
+const LONG: usize = 4_096;
+
 /// A token with its value.
 #[derive(Clone, Debug, PartialEq, Eq, Hash)]
 pub struct Token {
@@ -52,7 +56,8 @@ pub enum Event {
     Refused(Refusal),
 }
 
-/// Reads a script that is fed in parts. The parts may be of any size: the tokens are the same.
+/// Reads a script that is fed in parts. The parts may be of any size: the tokens are the same. They come as soon as they are settled, but
+/// for those of a text or comment of more than 4,096 bytes: they come at the latest when it has doubled, or at the end.
 pub struct Stream {
     source: Vec<u8>,
     end: End,
@@ -60,6 +65,8 @@ pub struct Stream {
     list: Vec<u32>,
     pool: Vec<u8>,
     behind: Option<Event>,
+    /// How many bytes must have come before it is worth while to read on after a wait.
+    enough: usize,
 }
 
 impl Stream {
@@ -72,6 +79,7 @@ impl Stream {
             list: vec![0; PLACES * RECORD],
             pool: vec![0; MOST_BYTES],
             behind: None,
+            enough: 0,
         }
     }
 
@@ -90,7 +98,9 @@ impl Stream {
             return Err(Refusal { number: OUT_OF_PLACE, span: self.session.span() });
         }
         self.add(part);
-        self.end_wait();
+        if self.enough <= self.source.len() {
+            self.end_wait();
+        }
         Ok(())
     }
 
@@ -128,7 +138,10 @@ impl Stream {
         self.behind = match answer {
             Ok(Progress::Done) => None,
             Ok(Progress::Finished) => Some(Event::Finished(self.session.position())),
-            Err(Refusal { number: WAIT, .. }) => Some(Event::Wait),
+            Err(Refusal { number: WAIT, .. }) => {
+                self.enough = enough(self.session.position() as usize, self.source.len());
+                Some(Event::Wait)
+            }
             // The tables are empty again, so the walk goes on.
             Err(Refusal { number: LIST_FULL | POOL_FULL, .. }) if !tokens.is_empty() => None,
             Err(refusal) => Some(Event::Refused(refusal)),
@@ -169,6 +182,13 @@ impl Stream {
         self.session.empty_tables();
         tokens
     }
+}
+
+/// After a wait at a position with so many bytes: how many are worth another look. One too many for a script always is.
+fn enough(position: usize, filled: usize) -> usize {
+    let open = filled - position;
+    let more = if open > LONG { open } else { 1 };
+    (filled + more).min(MOST_BYTES + 1)
 }
 
 impl fmt::Debug for Stream {

@@ -209,3 +209,46 @@ fn a_script_too_large_by_far() {
     stream.feed(&script).unwrap();
     assert_eq!(stream.source().len(), limits::MOST_BYTES + 1);
 }
+
+/// An open text of more than 4,096 bytes is read again when it has doubled or at the end; a shorter one at once.
+#[test]
+fn a_long_text_is_looked_at_when_it_has_doubled() {
+    let open = |rows: usize| {
+        let mut stream = Stream::new(Reading::Sheet);
+        stream.feed(b"<?php <<<'EOT'\n").unwrap();
+        stream.feed(&b"kerb\n".repeat(rows)).unwrap();
+        assert!(matches!(stream.next(), Event::Tokens(tokens) if tokens.len() == 1));
+        assert_eq!(stream.next(), Event::Wait);
+        stream.feed(b"EOT;\n").unwrap();
+        stream
+    };
+    let lengths = |event| match event {
+        Event::Tokens(tokens) => tokens.iter().map(|token| token.value.len()).collect::<Vec<_>>(),
+        other => panic!("{:?}", other),
+    };
+    assert_eq!(lengths(open(819).next()), [4094, 3]);
+    let mut long = open(820);
+    assert_eq!(long.next(), Event::Wait);
+    long.feed(&[b' '; 4094]).unwrap();
+    assert_eq!(long.next(), Event::Wait);
+    long.feed(b" ").unwrap();
+    assert_eq!(lengths(long.next()), [4099, 3]);
+    let mut ended = open(820);
+    ended.finish();
+    assert_eq!(lengths(ended.next()), [4099, 3]);
+}
+
+/// One that is still open when the script is too long is refused as any is.
+#[test]
+fn a_long_text_in_too_long_a_script() {
+    let mut stream = Stream::new(Reading::Sheet);
+    let mut fed = 0;
+    while fed < limits::MOST_BYTES {
+        stream.feed(if fed == 0 { b"<?php /*" } else { b"kerbkerb" }).unwrap();
+        fed += 8;
+        while matches!(stream.next(), Event::Tokens(_)) {}
+        assert_eq!(stream.next(), Event::Wait);
+    }
+    stream.feed(b"k").unwrap();
+    assert_eq!(stream.next(), refused(refusals::TOO_LARGE, 1, 1, 0));
+}

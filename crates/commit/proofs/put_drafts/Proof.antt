@@ -6,14 +6,13 @@ use Rattle.commit.proofs.put_drafts.Statement.{statement}
 use Rattle.commit.proofs.put_drafts.Tie as tie
 
 abbrev Inv : tie.InvT-loop
-Inv src end ds list₀ pool₀ at₀ i₀ list pool at i = Putting src end at₀ ds list₀ pool₀ at i list pool
+Inv src end ds scratch list₀ pool₀ at₀ i₀ list pool at i = Putting src end scratch at₀ ds list₀ pool₀ at i list pool
 
 abbrev left : tie.MeasureT-loop
-left src end ds list₀ pool₀ at₀ i₀ list pool at i = ds .count - i
+left src end ds scratch list₀ pool₀ at₀ i₀ list pool at i = ds .count - i
 
 pub put-drafts-spec : {M : Type 1} → statement M
 put-drafts-spec =
     tie.close
-    (tie.spec Inv left (λ c. search putting) (λ c κs. search needs) (λ c κs. search (putting, needs))
-    (λ c. search (putting, needs)) (λ c. search needs) (λ c. search putting-on) (λ c. search needs) (λ c. search needs)
-    (λ c. search putting))
+    (tie.spec Inv left (λ c. search putting) (λ c κs. search (putting, needs)) (λ c. search (putting, needs))
+    (λ c. search needs) (λ c. search putting-on) (λ c. search needs) (λ c. search needs) (λ c. search putting))

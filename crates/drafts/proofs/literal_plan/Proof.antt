@@ -1,6 +1,6 @@
 -- `drafts::literal_plan` meets its contract: an interpolation is left, or the literal is closed. Assumes nothing.
 use borrow.Author.Needs.{needs}
-use Rattle.drafts.proofs.Works.{literalPlans}
+use Rattle.drafts.proofs.Texts.{literalPlans}
 use Rattle.drafts.proofs.literal_plan.Statement.{statement}
 use Rattle.drafts.proofs.literal_plan.Tie as tie
 

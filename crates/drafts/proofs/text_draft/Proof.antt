@@ -1,6 +1,6 @@
 -- `drafts::text_draft` meets its contract: copied where the text passed as many bytes as it has, else made. Assumes nothing.
 use borrow.Author.Needs.{needs}
-use Rattle.drafts.proofs.Works.{textDrafts}
+use Rattle.drafts.proofs.Texts.{textDrafts}
 use Rattle.drafts.proofs.text_draft.Statement.{statement}
 use Rattle.drafts.proofs.text_draft.Tie as tie
 

@@ -1,5 +1,5 @@
 -- `drafts::value_kind` meets its contract: an interpolation is left, or the literal is closed. Assumes nothing.
-use Rattle.drafts.proofs.Works.{valueKinds}
+use Rattle.drafts.proofs.Texts.{valueKinds}
 use Rattle.drafts.proofs.value_kind.Statement.{statement}
 use Rattle.drafts.proofs.value_kind.Tie as tie
 

@@ -13,5 +13,5 @@ plan-of-spec =
     (λ c κs. search needs) (λ c. search needs) (λ c κs. search needs) (λ c. search needs) (λ c κs. search needs)
     (λ c. search needs) (λ c κs. search (planned, needs)) (λ c. search needs) (λ c κs. search needs)
     (λ c. search needs) (λ c κs. search needs) (λ c. search needs) (λ c κs. search needs) (λ c. search needs)
-    (λ c. search planned) (λ c. search planned) (λ c. search planned) (λ c. search planned) (λ c. search planned)
-    (λ c. search planned) (λ c. search planned) (λ c. search planned) (λ c. search planned))
+    (λ c. search planned) (λ c. search needs) (λ c. search planned) (λ c. search planned) (λ c. search planned)
+    (λ c. search planned) (λ c. search planned) (λ c. search planned) (λ c. search planned) (λ c. search planned))

@@ -7,6 +7,8 @@ use Rattle.probe.proofs.puretakoi_probe_value.Tie as tie
 pub puretakoi-probe-value-spec : {M : Type 1} → statement M
 puretakoi-probe-value-spec =
     tie.close
-    (tie.spec (λ c κs. search needs) (λ c. search needs) (λ c. search valuings) (λ c κs. search needs)
-    (λ c κs. search (valuings, needs)) (λ c. search needs) (λ c. search needs) (λ c. search needs)
-    (λ c. search valuings) (λ c. search valuings) (λ c. search valuings))
+    (tie.spec (λ c κs. search (valuings, needs)) (λ c. search (valuings, needs)) (λ c. search (valuings, needs))
+    (λ c κs. search (valuings, needs)) (λ c. search (valuings, needs)) (λ c. search (valuings, needs))
+    (λ c κs. search (valuings, needs)) (λ c. search (valuings, needs)) (λ c. search (valuings, needs))
+    (λ c. search (valuings, needs)) (λ c. search (valuings, needs)) (λ c. search (valuings, needs))
+    (λ c. search (valuings, needs)))

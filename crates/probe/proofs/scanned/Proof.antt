@@ -7,6 +7,7 @@ use Rattle.probe.proofs.scanned.Tie as tie
 pub scanned-spec : {M : Type 1} → statement M
 scanned-spec =
     tie.close
-    (tie.spec (λ c κs. search needs) (λ c. search askings) (λ c κs. search needs) (λ c. search askings)
-    (λ c κs. search needs) (λ c. search askings) (λ c κs. search needs) (λ c. search askings) (λ c κs. search needs)
-    (λ c κs. search needs) (λ c. search askings))
+    (tie.spec (λ c κs. search (askings, needs)) (λ c. search (askings, needs)) (λ c κs. search (askings, needs))
+    (λ c. search (askings, needs)) (λ c κs. search (askings, needs)) (λ c. search (askings, needs))
+    (λ c κs. search (askings, needs)) (λ c. search (askings, needs)) (λ c κs. search (askings, needs))
+    (λ c. search (askings, needs)) (λ c κs. search (askings, needs)) (λ c. search (askings, needs)))

@@ -7,5 +7,5 @@ use Rattle.state.proofs.gate.Tie as tie
 pub gate-spec : {M : Type 1} → statement M
 gate-spec =
     tie.close
-    (tie.spec (λ c. search gates) (λ c κs. search (gates, needs)) (λ c. search gates) (λ c κs. search (gates, needs))
+    (tie.spec (λ c. search gates) (λ c κs. search needs) (λ c κs. search (gates, needs)) (λ c. search gates) (λ c κs. search (gates, needs))
     (λ c. search gates) (λ c. search gates))

@@ -7,6 +7,7 @@ use Rattle.text.proofs.put_unit.Tie as tie
 pub put-unit-spec : {M : Type 1} → statement M
 put-unit-spec =
     tie.close
-    (tie.spec (λ c. search needs) (λ c. search (puts, needs)) (λ c. search needs)
-    (λ c κs. search puts) (λ c. search needs) (λ c. search needs) (λ c. search needs) (λ c. search needs)
-    (λ c. search puts) (λ c. search needs) (λ c. search puts) (λ c. search puts) (λ c. search puts) (λ c. search puts))
+    (tie.spec (λ c. search (puts, needs)) (λ c κs. search (puts, needs)) (λ c. search (puts, needs))
+    (λ c κs. search (puts, needs)) (λ c. search (puts, needs)) (λ c. search (puts, needs)) (λ c. search (puts, needs))
+    (λ c. search (puts, needs)) (λ c. search (puts, needs)) (λ c. search (puts, needs)) (λ c. search (puts, needs))
+    (λ c. search (puts, needs)) (λ c. search (puts, needs)) (λ c. search (puts, needs)))

@@ -1,7 +1,7 @@
 -- `walk::is_done` meets its contract: an arm for each answer. Assumes nothing.
 use Rattle.demands.specs.Walks.{isDone}
 use borrow.Author.Needs.{needs}
-use Rattle.walk.proofs.Walking.{isDone-arm}
+use Rattle.walk.proofs.Writes.{isDone-arm}
 use Rattle.walk.proofs.is_done.Statement.{statement}
 use Rattle.walk.proofs.is_done.Tie as tie
 

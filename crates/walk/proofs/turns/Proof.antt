@@ -1,11 +1,12 @@
 -- `walk::turns` meets its contract: where no call is wanted the gate is not asked, and after an open gate `walk_on` walks. Assumes nothing.
 use borrow.Author.Needs.{needs}
-use Rattle.walk.proofs.Walking.{walks}
+use Rattle.walk.proofs.Walks.{walks}
 use Rattle.walk.proofs.turns.Statement.{statement}
 use Rattle.walk.proofs.turns.Tie as tie
 
 pub turns-spec : {M : Type 1} → statement M
 turns-spec =
     tie.close
-    (tie.spec (λ c. search (walks, needs)) (λ c κs. search needs) (λ c κs. search needs)
-    (λ c. search (walks, needs)) (λ c κs. search needs) (λ c. search needs) (λ c. search needs) (λ c. search needs))
+    (tie.spec (λ c. search (walks, needs)) (λ c κs. search (walks, needs)) (λ c. search (walks, needs))
+    (λ c. search (walks, needs)) (λ c κs. search (walks, needs)) (λ c. search (walks, needs))
+    (λ c. search (walks, needs)) (λ c. search (walks, needs)) (λ c. search (walks, needs)))

@@ -1,26 +1,19 @@
 -- `walk::walk_on` meets its contract: the loop keeps `Walking`. Assumes nothing.
 use borrow.Author.Needs.{needs}
-use Rattle.lexer.specs.Code.{sessionAt}
-use Rattle.walk.proofs.Walking.{Walking, walking, walking-keep, walking-swap, walking-enter, walking-leave, walking-over}
+use Rattle.walk.proofs.Walking.{Walking, walking-deep, walking-first, walking-end}
+use Rattle.walk.proofs.Passed.{walking-asks, passed-end, passed-standing, passed-less, passed-list, passed-pool, passed-over}
+use Rattle.walk.proofs.Passed.{passed-changes, passed-next, passed-on}
 use Rattle.walk.proofs.walk_on.Statement.{statement}
 use Rattle.walk.proofs.walk_on.Tie as tie
 
 abbrev Inv : tie.InvT-loop
-Inv src end most list₀ pool₀ frames₀ choices call₀ depth₀ mark₀ left₀ list pool frames call depth mark left =
-    Walking call₀ most src end (sessionAt (record { mark = mark₀; depth = depth₀ }) frames₀ choices) list₀ pool₀ left call mark depth
-    frames choices list pool
+Inv src end most session₀ list₀ pool₀ choices call₀ depth₀ mark₀ left₀ f₀ session list pool call depth mark left f =
+    Walking call₀ most src end session₀ list₀ pool₀ left call mark depth f choices session list pool
 
 abbrev measure : tie.MeasureT-loop
-measure src end most list₀ pool₀ frames₀ choices call₀ depth₀ mark₀ left₀ list pool frames call depth mark left = left
+measure src end most session₀ list₀ pool₀ choices call₀ depth₀ mark₀ left₀ f₀ session list pool call depth mark left f = left
 
 pub walk-on-spec : {M : Type 1} → statement M
 walk-on-spec =
     tie.close
-    (tie.spec Inv measure (λ c κs. search needs) (λ c. search walking) (λ c. search needs) (λ c. search needs)
-    (λ c. search needs) (λ c. search needs) (λ c κs. search walking) (λ c κs. search needs) (λ c κs. search needs)
-    (λ c. search walking) (λ c. search walking) (λ c. search walking-over) (λ c. search needs) (λ c. search needs)
-    (λ c. search needs) (λ c. search walking-keep) (λ c. search needs) (λ c. search needs) (λ c. search needs)
-    (λ c. search needs) (λ c. search walking-swap) (λ c. search needs) (λ c. search needs)
-    (λ c. search (walking, needs)) (λ c. search (walking, needs)) (λ c. search (walking, needs)) (λ c. search needs)
-    (λ c. search walking-enter) (λ c. search needs) (λ c. search needs) (λ c. search needs) (λ c. search walking-leave)
-    (λ c κs. search needs) (λ c. search needs) (λ c. search needs) (λ c. search walking))
+    (tie.spec Inv measure (λ c. search needs) (λ c κs. search needs) (λ c. search needs) (λ c κs. search needs) (λ c κs. search walking-deep) (λ c. search walking-first) (λ c κs. search walking-asks) (λ c κs. search needs) (λ c. search needs) (λ c. search needs) (λ c. search needs) (λ c. search passed-end) (λ c κs. passed-standing _ _ _ _ _ _ _ _ _ _ _ _ _ _ _ _ _ _ (c .before .before .before .before .go-along .ensures) (c .before .before .before .before .before .before .loop .inv)) (λ c κs. search needs) (λ c κs. search needs) (λ c. search needs) (λ c. passed-list _ _ _ _ _ _ _ _ _ _ _ _ _ _ _ _ _ _ (c .before .before .before .before .before .before .before .before .before .before .before .before .before .before .before .before .go-along .ensures) (c .before .before .before .before .before .before .before .before .before .before .before .before .before .before .before .before .before .before .loop .inv) (c .before .before .before .before .before .before .before .before .before .before .before .before .before .before .if1 .left) _ _ _ (c .before .before .before .before .before .before .before .before .before .before .before .step-at .ensures)) (λ c. passed-pool _ _ _ _ _ _ _ _ _ _ _ _ _ _ _ _ _ _ (c .before .before .before .before .before .before .before .before .before .before .before .before .before .before .before .before .go-along .ensures) (c .before .before .before .before .before .before .before .before .before .before .before .before .before .before .before .before .before .before .loop .inv) (c .before .before .before .before .before .before .before .before .before .before .before .before .before .before .if1 .left) _ _ _ (c .before .before .before .before .before .before .before .before .before .before .before .step-at .ensures)) (λ c. passed-over _ _ _ _ _ _ _ _ _ _ _ _ _ _ _ _ _ _ (c .before .before .before .before .before .before .before .before .before .before .before .before .before .before .before .before .go-along .ensures) (c .before .before .before .before .before .before .before .before .before .before .before .before .before .before .before .before .before .before .loop .inv) (c .before .before .before .before .before .before .before .before .before .before .before .before .before .before .if1 .left) _ _ _ (c .before .before .before .before .before .before .before .before .before .before .before .step-at .ensures) _ (c .before .before .before .before .before .is-done .ensures) _ (c .before .before .before .before .if2 .taken) (c .before .before .put-end .ensures)) (λ c. search needs) (λ c κs. passed-changes _ _ _ _ _ _ _ _ _ _ _ _ _ _ _ _ _ _ (c .before .before .before .before .before .before .before .before .before .before .before .before .before .go-along .ensures) (c .before .before .before .before .before .before .before .before .before .before .before .before .before .before .before .loop .inv) (c .before .before .before .before .before .before .before .before .before .before .before .if1 .left) _ _ _ (c .before .before .before .before .before .before .before .before .step-at .ensures) _ (c .before .before .is-done .ensures)) (λ c κs. passed-next _ _ _ _ _ _ _ _ _ _ _ _ _ _ _ _ _ _ (c .before .before .before .before .before .before .before .before .before .before .before .before .before .before .before .before .before .go-along .ensures) (c .before .before .before .before .before .before .before .before .before .before .before .before .before .before .before .before .before .before .before .loop .inv) (c .before .before .before .before .before .before .before .before .before .before .before .before .before .before .before .if1 .left) _ _ _ (c .before .before .before .before .before .before .before .before .before .before .before .before .step-at .ensures) _ (c .before .before .before .before .before .before .is-done .ensures) (c .before .before .before .before .before .if2 .left) _ _ (c .before .before .before .change-frame .ensures)) (λ c. passed-less _ _ _ _ _ _ _ _ _ _ _ _ _ _ _ _ _ _ (c .before .before .before .before .before .before .before .before .before .before .before .before .before .before .before .before .before .before .go-along .ensures) (c .before .before .before .before .before .before .before .before .before .before .before .before .before .before .before .before .before .before .before .before .loop .inv) (c .before .before .before .before .before .before .before .before .before .before .before .before .before .before .before .before .if1 .left)) (λ c. passed-on _ _ _ _ _ _ _ _ _ _ _ _ _ _ _ _ _ _ (c .before .before .before .before .before .before .before .before .before .before .before .before .before .before .before .before .before .before .go-along .ensures) (c .before .before .before .before .before .before .before .before .before .before .before .before .before .before .before .before .before .before .before .before .loop .inv) (c .before .before .before .before .before .before .before .before .before .before .before .before .before .before .before .before .if1 .left) _ _ _ (c .before .before .before .before .before .before .before .before .before .before .before .before .before .step-at .ensures) _ (c .before .before .before .before .before .before .before .is-done .ensures) (c .before .before .before .before .before .before .if2 .left) _ _ (c .before .before .before .before .change-frame .ensures) _ (c .frame-after .ensures)) (λ c κs. search needs) (λ c. search needs) (λ c. search needs) (λ c. search needs) (λ c. search walking-end))

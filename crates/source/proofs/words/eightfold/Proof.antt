@@ -1,6 +1,6 @@
 -- `source::words::eightfold` meets its contract: a product of eight ones. Assumes nothing.
 use borrow.Author.Needs.{needs}
-use Rattle.source.specs.Marks.{repeated}
+use Rattle.source.specs.Code.{repeated}
 use Rattle.source.proofs.words.eightfold.Statement.{statement}
 use Rattle.source.proofs.words.eightfold.Tie as tie
 

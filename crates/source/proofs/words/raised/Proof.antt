@@ -1,6 +1,6 @@
 -- `source::words::raised` meets its contract: seven bits and 127 fit in a byte. Assumes nothing.
 use mathlib.Core.Path.{refl}
-use Rattle.source.specs.Marks.{repeated}
+use Rattle.source.specs.Code.{repeated}
 use Rattle.source.proofs.Marks.{raised-fits}
 use Rattle.source.proofs.words.raised.Statement.{statement}
 use Rattle.source.proofs.words.raised.Tie as tie
