@@ -168,7 +168,7 @@ uint32_t puretakoi_fresh(uint32_t choices, uint32_t *session, size_t session_len
 uint32_t puretakoi_step(const uint8_t *src, size_t src_len, uint32_t end, uint32_t *session, size_t session_len, uint32_t *list,
                         size_t list_len, uint8_t *pool, size_t pool_len, uint32_t *answer, size_t answer_len);
 
-/* At most `most` steps in one call, up to one that is not done: much faster than a call for each. The answer is the last step's, or done.
+/* At most `most` steps in one call, up to one that is not done: faster than a call for each. The answer is the last step's, or done.
  * What the steps before it wrote stays: where the walk is refused after a step that was done, the session stands before the refused one,
  * and list and pool hold what was read. Where the first step is refused all is as it was; with `most` 0 the answer is done, and neither
  * session nor script is looked at. So after LIST_FULL or POOL_FULL take the tokens, set both marks to 0 and walk on; from marks of 0, 16

@@ -141,7 +141,7 @@ impl Session {
         self.numbers[slot..slot + SLOT].copy_from_slice(&frame.slot());
     }
 
-    /// At most `most` steps from the cursor on, up to one that is not done: much faster than a call for each. New records and value
+    /// At most `most` steps from the cursor on, up to one that is not done: faster than a call for each. New records and value
     /// bytes stand behind the fill marks. Where a step is refused, the session stands before it, and what the steps before it wrote
     /// stays; where that is the first step, all is as it was. So after 7 or 8 take the tokens, empty the tables and walk on.
     pub fn walk(
