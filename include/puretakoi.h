@@ -70,14 +70,16 @@ extern "C" {
 #define PURETAKOI_FRAME_LOOKING_FOR_PROPERTY 7 /* at an arrow after a variable */
 #define PURETAKOI_FRAME_VAR_OFFSET 8           /* between [ and ] after a variable */
 
-/* ---- An answer: 5 numbers. A longer slice is as good. */
+/* ---- An answer: 5 numbers, or 6. A longer slice is as good. The step, the readings and the walk write the sixth where it is lent. */
 
-#define PURETAKOI_ANSWER 5          /* how many numbers an answer has */
+#define PURETAKOI_ANSWER 5          /* how many numbers an answer has at least */
+#define PURETAKOI_ANSWER_COUNTED 6  /* how many it has with the steps */
 #define PURETAKOI_ANSWER_WAY 0      /* done, finished or refused, below */
 #define PURETAKOI_ANSWER_REFUSAL 1  /* the refusal's number, or 0 */
 #define PURETAKOI_ANSWER_LINE 2     /* the refusal's line, or 0 */
 #define PURETAKOI_ANSWER_COLUMN 3   /* the refusal's column, or 0 */
 #define PURETAKOI_ANSWER_POSITION 4 /* the refusal's position, or 0 */
+#define PURETAKOI_ANSWER_STEPS 5    /* how many steps, or readings, were done; one that is finished or refused does not count */
 
 #define PURETAKOI_DONE 0     /* done: go on */
 #define PURETAKOI_FINISHED 1 /* done, and nothing is left to read: stop. One more step or walk is FINISHED too, and */
@@ -170,9 +172,10 @@ uint32_t puretakoi_step(const uint8_t *src, size_t src_len, uint32_t end, uint32
 
 /* At most `most` steps in one call, up to one that is not done: faster than a call for each. The answer is the last step's, or done.
  * What the steps before it wrote stays: where the walk is refused after a step that was done, the session stands before the refused one,
- * and list and pool hold what was read. Where the first step is refused all is as it was; with `most` 0 the answer is done, and neither
- * session nor script is looked at. So after LIST_FULL or POOL_FULL take the tokens, set both marks to 0 and walk on; from marks of 0, 16
- * numbers and a pool as long as the source are room for a step at least. */
+ * and list and pool hold what was read. Where the first step is refused all is as it was; with `most` 0 nothing is read, and the
+ * answer is done, or 11 or 12. An answer of 6 numbers tells how many steps were done: all stands just as after so many. So after
+ * LIST_FULL or POOL_FULL take the tokens, set both marks to 0 and walk on; from marks of 0, 16 numbers and a pool as long as the source
+ * are room for a step at least. */
 uint32_t puretakoi_walk(const uint8_t *src, size_t src_len, uint32_t end, uint32_t most, uint32_t *session, size_t session_len,
                         uint32_t *list, size_t list_len, uint8_t *pool, size_t pool_len, uint32_t *answer, size_t answer_len);
 

@@ -66,7 +66,8 @@ fn compare(
 /// All that an uncut walk leaves, in tables with just enough room.
 fn given_by(call: &Call, walked: &Walked) -> Given {
     let Walked { session, records, values, end } = walked;
-    let all = Told::Done { finished: true, session: session.clone(), records: records.clone(), values: values.clone() };
+    let (session, records, values) = (session.clone(), records.clone(), values.clone());
+    let all = Told::Done { finished: true, session, records, values, steps: None };
     let mut given = all.given(call);
     if let Told::Refused { number, .. } = end {
         given.number = *number;

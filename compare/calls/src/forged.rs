@@ -92,7 +92,8 @@ pub fn forged(random: &mut Random) -> Call {
         }
     }
     call.arguments = arguments(&call, random);
-    call.answer = ANSWER + if random.below(16) == 0 { random.below(4) } else { 0 };
+    let tells_steps = call.function == Function::Walk && random.below(2) == 0;
+    call.answer = ANSWER + usize::from(tells_steps) + if random.below(16) == 0 { random.below(4) } else { 0 };
     call
 }
 

@@ -1,7 +1,7 @@
 //! Walks in one call: whole scripts at once, in walks of any length, in tables that fill on the way, and in parts; each must
 //! give what the steps one by one give.
 
-use cases::call::{BYTES, RECORD, TOKENS};
+use cases::call::{ANSWER, BYTES, RECORD, TOKENS};
 use cases::hex::shown;
 use cases::random::Random;
 use cases::{Call, Function, Told};
@@ -71,6 +71,7 @@ pub fn leap(held: &mut Held, script: &[u8], choices: usize, random: &mut Random)
 fn walked_so(held: &mut Held, script: &[u8], choices: usize, way: &Way, random: &mut Random) -> Result<Walked, String> {
     let mut call = begin(held, script, choices)?;
     call.function = Function::Walk;
+    call.answer = ANSWER + 1;
     let mut cuts = way.cuts.iter();
     let mut is_stuck = false;
     let (mut records, mut values) = (Vec::new(), Vec::new());

@@ -30,7 +30,7 @@ pub fn walk(held: &mut Held, script: &[u8], choices: usize) -> Result<Walked, St
     for _ in 0..most_steps(script) {
         lend_ample(&mut call);
         let told = held.hold(&call)?;
-        if let Told::Done { finished, session, records: new, values: more } = &told {
+        if let Told::Done { finished, session, records: new, values: more, .. } = &told {
             call.session.clone_from(session);
             records.extend_from_slice(new);
             values.extend_from_slice(more);
@@ -87,7 +87,7 @@ fn step_in_small_tables(held: &mut Held, call: &mut Call, random: &mut Random) -
             call.pool = bytes;
             held.hold_to(call, number).map(|_| None)
         }
-        Told::Done { finished, session, records, values } => {
+        Told::Done { finished, session, records, values, .. } => {
             for places in 0..records.len() {
                 call.list = (tokens + places) * RECORD + random.below(RECORD);
                 held.hold_to(call, 7)?;

@@ -4,7 +4,8 @@
 use crate::case::number;
 use crate::hex;
 
-/// How many numbers a session, an answer, a record and a slot have, and where a session's slots begin.
+/// How many numbers a session, an answer, a record and a slot have, and where a session's slots begin. An answer may have a place
+/// more, for how many steps were done.
 pub const SESSION: usize = 199;
 pub const ANSWER: usize = 5;
 pub const RECORD: usize = 8;
@@ -140,6 +141,11 @@ impl Call {
         write_session(&self.session, out);
         out.extend_from_slice(format!(" {} {} {} ", self.list, self.pool, self.answer).as_bytes());
         hex::write_repeats(&self.source, out);
+    }
+
+    /// Whether the answer has a place for how many steps, or readings, were done.
+    pub fn tells_steps(&self) -> bool {
+        self.function.has_tables() && self.answer > ANSWER
     }
 
     /// A number of the session, 0 where it is too short.

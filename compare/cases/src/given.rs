@@ -1,6 +1,7 @@
 //! What a call gives: the number that comes back and all that the lent slices hold then. As text one of
 //! `refused NUMBER LINE COLUMN POSITION`, `short`, `done SESSION RECORDS VALUES`, `finished SESSION RECORDS VALUES`,
-//! `stopped NUMBER LINE COLUMN POSITION SESSION RECORDS VALUES`.
+//! `stopped NUMBER LINE COLUMN POSITION SESSION RECORDS VALUES`; the last three with one word more, how many steps were done, where the
+//! answer has a place for it.
 
 use crate::call::{
     answer_pattern, as_small, list_pattern, numbers, pool_pattern, read_session, small, write_numbers, write_session,
@@ -26,10 +27,18 @@ pub enum Told {
     Refused { number: u32, span: Span },
     /// A slice is too short: 10 comes back, and nothing at all is written.
     Short,
-    /// The records and value bytes stand from the marks on; session is the whole slice after the call.
-    Done { finished: bool, session: Vec<u32>, records: Vec<[u32; RECORD]>, values: Vec<u8> },
+    /// The records and value bytes stand from the marks on; session is the whole slice after the call. How many steps were done is
+    /// there where the answer has a place for it.
+    Done { finished: bool, session: Vec<u32>, records: Vec<[u32; RECORD]>, values: Vec<u8>, steps: Option<u32> },
     /// A walk that is refused after steps that were done: the refusal, and what these steps wrote.
-    Stopped { number: u32, span: Span, session: Vec<u32>, records: Vec<[u32; RECORD]>, values: Vec<u8> },
+    Stopped {
+        number: u32,
+        span: Span,
+        session: Vec<u32>,
+        records: Vec<[u32; RECORD]>,
+        values: Vec<u8>,
+        steps: Option<u32>,
+    },
 }
 
 /// The session's slice, records and value bytes that a call wrote.
@@ -106,6 +115,9 @@ impl Told {
             }
             Told::Done { finished, .. } => put_answer([usize::from(*finished), 0, 0, 0, 0]),
         }
+        if call.tells_steps() && *self != Told::Short {
+            given.answer[ANSWER] = self.steps().unwrap_or(0);
+        }
         if let Some((session, records, values)) = self.written() {
             given.session = session.to_vec();
             put(&records.concat(), call.number(TOKENS) * RECORD, &mut given.list);
@@ -124,6 +136,14 @@ impl Told {
         }
     }
 
+    /// How many steps were done, where the answer has a place for it and they are not none.
+    pub fn steps(&self) -> Option<u32> {
+        match self {
+            Told::Short | Told::Refused { .. } => None,
+            Told::Done { steps, .. } | Told::Stopped { steps, .. } => *steps,
+        }
+    }
+
     /// The number that comes back, and the span of a refusal in the answer.
     pub fn refusal(&self) -> (u32, Option<Span>) {
         match self {
@@ -135,6 +155,7 @@ impl Told {
 
     /// What a call came to, if what is given has one of the forms.
     pub fn of(call: &Call, given: &Given) -> Option<Told> {
+        let steps = given.answer.get(ANSWER).copied().filter(|_| call.tells_steps());
         let told = match given.answer.first() {
             _ if given.number == 10 && *given == Told::Short.given(call) => Told::Short,
             None if given.number != 0 => Told::Refused { number: given.number, span: nowhere() },
@@ -145,12 +166,12 @@ impl Told {
                     Told::Refused { number, span }
                 } else {
                     let (session, records, values) = given.written(call)?;
-                    Told::Stopped { number, span, session, records, values }
+                    Told::Stopped { number, span, session, records, values, steps }
                 }
             }
             way => {
                 let (session, records, values) = given.written(call)?;
-                Told::Done { finished: way == Some(&1), session, records, values }
+                Told::Done { finished: way == Some(&1), session, records, values, steps }
             }
         };
         (told.fits(call) && told.given(call) == *given).then(|| told)
@@ -169,7 +190,8 @@ impl Told {
                 && (records.is_empty() || call.number(TOKENS) + records.len() <= call.list / RECORD)
                 && (values.is_empty() || call.number(BYTES) + values.len() <= call.pool)
         };
-        has_room && has_form && self.written().map_or(true, holds)
+        let has_steps = self.written().is_none() || self.steps().is_some() == call.tells_steps();
+        has_room && has_form && has_steps && self.written().map_or(true, holds)
     }
 
     /// What the text says of the call, or in plain words what is wrong with the text.
@@ -181,14 +203,16 @@ impl Told {
                 let (number, span) = read_refusal(&words[1..])?;
                 Told::Refused { number, span }
             }
-            (b"done" | b"finished", 4) => {
+            (b"done" | b"finished", 4 | 5) => {
                 let (session, records, values) = read_written(&words[1..])?;
-                Told::Done { finished: words[0] == b"finished", session, records, values }
+                let steps = read_steps(words.get(4))?;
+                Told::Done { finished: words[0] == b"finished", session, records, values, steps }
             }
-            (b"stopped", 8) => {
+            (b"stopped", 8 | 9) => {
                 let (number, span) = read_refusal(&words[1..])?;
                 let (session, records, values) = read_written(&words[5..])?;
-                Told::Stopped { number, span, session, records, values }
+                let steps = read_steps(words.get(8))?;
+                Told::Stopped { number, span, session, records, values, steps }
             }
             _ => return Err("what is given is refused.., short, done.., finished.. or stopped..".to_string()),
         };
@@ -220,6 +244,9 @@ impl Told {
             out.push(b' ');
             hex::write_repeats(values, out);
         }
+        if let Some(steps) = self.steps() {
+            out.extend_from_slice(format!(" {}", steps).as_bytes());
+        }
     }
 }
 
@@ -227,6 +254,11 @@ impl Told {
 fn read_refusal(words: &[&[u8]]) -> Result<(u32, Span), String> {
     let part = |place: usize| number("span's number", words[place]);
     Ok((small("refusal", words[0])?, Span { line: part(1)?, column: part(2)?, position: part(3)? }))
+}
+
+/// How many steps were done, in one word, if there is one.
+fn read_steps(word: Option<&&[u8]>) -> Result<Option<u32>, String> {
+    word.map(|word| small("number of steps", word)).transpose()
 }
 
 /// `SESSION RECORDS VALUES` in three words.

@@ -31,9 +31,6 @@ impl Teller {
         if call.session.len() < SESSION || call.answer < ANSWER {
             return Told::Short;
         }
-        if call.function == Function::Walk {
-            return self.walked(call);
-        }
         if is_too_large(call) {
             return refused(11, START);
         }
@@ -45,7 +42,8 @@ impl Teller {
             Function::Skip => skipped(call, session),
             Function::Push => pushed(call, session),
             Function::Pop => popped(call, session),
-            Function::Fresh | Function::Step | Function::Walk => self.turned(call, session),
+            Function::Walk => self.walked(call),
+            Function::Fresh | Function::Step => self.turned(call, session),
             Function::ReadNumber | Function::ReadSingle | Function::ReadDouble => match session.top().0 {
                 Frame::Scripting => self.turned(call, session),
                 _ => refused(10, session.span),
@@ -53,27 +51,29 @@ impl Teller {
         }
     }
 
-    /// At most so many steps, each on the session and the marks that the one before left, until one is not done.
+    /// At most so many steps after the gate, each on the session and the marks that the one before left, until one is not done.
     fn walked(&mut self, call: &Call) -> Told {
         let mut step = Call { function: Function::Step, arguments: Vec::new(), ..call.clone() };
         let (mut records, mut values) = (Vec::new(), Vec::new());
         for made in 0..call.arguments[0] {
+            let steps = steps_told(call, made);
             match self.told(&step) {
-                Told::Done { finished, session, records: new, values: more } => {
+                Told::Done { finished, session, records: new, values: more, .. } => {
                     step.session = session;
                     records.extend(new);
                     values.extend(more);
                     if finished {
-                        return Told::Done { finished, session: step.session, records, values };
+                        return Told::Done { finished, session: step.session, records, values, steps };
                     }
                 }
                 Told::Refused { number, span } if made > 0 => {
-                    return Told::Stopped { number, span, session: step.session, records, values };
+                    return Told::Stopped { number, span, session: step.session, records, values, steps };
                 }
                 refused => return refused,
             }
         }
-        Told::Done { finished: false, session: step.session, records, values }
+        let steps = steps_told(call, call.arguments[0]);
+        Told::Done { finished: false, session: step.session, records, values, steps }
     }
 
     /// A step or reading of a good session.
@@ -99,7 +99,8 @@ impl Teller {
                 after.bytes += size;
                 let mut numbers = call.session.clone();
                 after.write_step(&mut numbers, change);
-                Told::Done { finished, session: numbers, records, values }
+                let steps = steps_told(call, usize::from(!finished));
+                Told::Done { finished, session: numbers, records, values, steps }
             }
         }
     }
@@ -110,7 +111,13 @@ fn refused(number: u32, span: Span) -> Told {
 }
 
 fn done(call: &Call, session: Session) -> Told {
-    Told::Done { finished: false, session: written(call, &session), records: Vec::new(), values: Vec::new() }
+    let session = written(call, &session);
+    Told::Done { finished: false, session, records: Vec::new(), values: Vec::new(), steps: None }
+}
+
+/// How many steps or readings were done, where the answer has a place for it.
+fn steps_told(call: &Call, made: usize) -> Option<u32> {
+    call.tells_steps().then(|| made as u32)
 }
 
 /// The whole slice of a call's session with another session in it.

@@ -23,6 +23,11 @@ pub &&-right : (a b : Bool) → (a && b) ≡ true → b ≡ true
 pub &&-both : (a b : Bool) → a ≡ true → b ≡ true → (a && b) ≡ true
 &&-both a b e f = rw (e, f)
 
+-- neither side of a disjunction that fails
+pub ||-neither : (a b : Bool) → (a || b) ≡ false → (a ≡ false) × (b ≡ false)
+||-neither true b e = absurd (false≢true (sym e))
+||-neither false b e = (refl, e)
+
 -- none of four
 pub record None (b w x y z : ℕ) : Type 0 where
   pub first : eqb b w ≡ false
@@ -48,6 +53,12 @@ none-of b w x y z e =
 pub choice : {A : Type 0} (P : A → Type 0) (t : Bool) (a b : A) → (t ≡ true → P a) → (t ≡ false → P b) → P (if t then a else b)
 choice P true a b first other = first refl
 choice P false a b first other = other refl
+
+-- two choices by one test
+pub if-both : {A B : Type 0} (P : A → B → Type 0) (t : Bool) {a a′ : A} {b b′ : B} → (t ≡ true → P a b) → (t ≡ false → P a′ b′)
+    → P (if t then a else a′) (if t then b else b′)
+if-both P true x y = x refl
+if-both P false x y = y refl
 
 -- a chain of choices, as the code goes through it: a byte is the choice's, no choice's or a later one's; a flag tells
 module _ {A : Type 0} (r u o : A) where

@@ -1,5 +1,9 @@
 -- The refusal numbers of document 01 by name, as the source has them.
+--   isAmong   whether a number stands in a list
 use Prim.Native.Nat.{ℕ}
+use mathlib.Core.Bool.{Bool, false, _||_}
+use mathlib.Core.List.{List, [], _∷_}
+use lib.Dec.{eqb}
 
 abbrev pub unexpectedEndOfFile : ℕ
 unexpectedEndOfFile = 1
@@ -47,3 +51,7 @@ badSession = 12
 -- sheet reading: another byte inside the indentation
 abbrev pub strayIndentation : ℕ
 strayIndentation = 13
+
+unfoldable pub isAmong : ℕ → List ℕ → Bool
+isAmong number [] = false
+isAmong number (n ∷ more) = eqb number n || isAmong number more

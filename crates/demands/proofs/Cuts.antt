@@ -36,7 +36,8 @@ Ended Answer.Finished = Unit {0}
 Ended (Answer.Refused number span) = Unit {0}
 
 -- with more steps allowed it is the same
-walk-more : (m k : ℕ) (src : List ℕ) (end : Bool) (s : Session) (l q : List ℕ) → Ended (walked m src end s l q .turn .answer)
+pub walk-more : (m k : ℕ) (src : List ℕ) (end : Bool) (s : Session) (l q : List ℕ)
+    → Ended (walked m src end s l q .turn .answer)
     → walked (m + k) src end s l q ≡ walked m src end s l q
 unfolding walked goOn
 walk-more zero k src end s l q e = absurd e
@@ -63,13 +64,14 @@ data Fate (n : ℕ) (part whole : List ℕ) (s : Session) (l q : List ℕ) (w : 
       → Fate n part whole s l q w
 
 module _ (n : ℕ) (src : List ℕ) (end : Bool) (s : Session) (l q : List ℕ) where
-  walked-on : stepped src end s l q .turn .answer ≡ Answer.Done
+  pub walked-on : stepped src end s l q .turn .answer ≡ Answer.Done
       → walked (suc n) src end s l q
       ≡ walked n src end (stepped src end s l q .turn .session) (stepped src end s l q .list) (stepped src end s l q .pool)
   unfolding walked goOn
   walked-on e = rw e
 
-  walked-last : (a : Answer) → stepped src end s l q .turn .answer ≡ a → Ended a → walked (suc n) src end s l q ≡ stepped src end s l q
+  pub walked-last : (a : Answer) → stepped src end s l q .turn .answer ≡ a → Ended a
+      → walked (suc n) src end s l q ≡ stepped src end s l q
   unfolding walked goOn
   walked-last Answer.Done e f = absurd f
   walked-last Answer.Finished e f = rw e

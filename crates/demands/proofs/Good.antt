@@ -71,9 +71,9 @@ module _ (src : List ℕ) (s : Session) (e : isGood src s ≡ true) where
   bottom-set (a ∷ frames) zero f h k = h
   bottom-set (a ∷ frames) (suc i) f h k = k
 
-  swapped-good : (f : Frame) → Welcome src f → isGood src (swapped f) ≡ true
+  swapped-good : (top f : Frame) → Welcome src top f → isGood src (swapped f) ≡ true
   unfolding isGood isStack isWithin
-  swapped-good f w =
+  swapped-good top f w =
       let deep : s .depth - 1 + 1 ≡ s .depth = omega (arith, good-numbers src s e .depth-low) in
       let below = every-take (isSlot src) (s .frames) (s .depth - 1) (s .depth) (omega arith) (good-slots src s e) in
       let slots = every-set (isSlot src) (s .frames) (s .depth - 1) (record { frame = f }) below (w .good) in
@@ -88,11 +88,11 @@ module _ (src : List ℕ) (s : Session) (e : isGood src s ≡ true) where
     there-good : isGood src there ≡ true
     there-good = moved-good src s e (after - s .position) (omega arith)
 
-    changed-good : (change : Change) → ChangeGood src (s .depth) change → Room (s .depth) change
+    changed-good : (change : Change) → ChangeGood src (topFrame s) (s .depth) change → Room (s .depth) change
         → isGood src (changed s (spanAt src (spanOf s) after) tokens bytes change) ≡ true
     unfolding isGood isStack isWithin framesAfter depthAfter
     changed-good Change.Keep c r = there-good
-    changed-good (Change.Swap f) c r = swapped-good src there there-good f c
+    changed-good (Change.Swap f) c r = swapped-good src there there-good (topFrame s) f c
     changed-good (Change.Enter f) c r = entered-good src there there-good f c r
     changed-good Change.Leave c r = left-good src there there-good c
 
@@ -103,7 +103,8 @@ module _ (src : List ℕ) (s : Session) (l q : List ℕ) (h : Sound src (length 
   same-sound number span = record { sound = h; list = refl; pool = refl }
 
   written-sound : (pieces : List Piece) (after : ℕ) (change : Change) (finished : Bool) → s .position ≤ after
-      → after ≤ length src → ChangeGood src (s .depth) change → Room (s .depth) change → room src s l q pieces ≡ 0
+      → after ≤ length src → ChangeGood src (topFrame s) (s .depth) change → Room (s .depth) change
+      → room src s l q pieces ≡ 0
       → StaysSound src l q (written src s l q pieces after change finished)
   written-sound pieces after change finished low high c r e =
       let fits = room-facts (length l) (length q) (s .tokens) (s .bytes) (length pieces) (length (values pieces)) e in
@@ -119,11 +120,13 @@ module _ (src : List ℕ) (s : Session) (l q : List ℕ) (h : Sound src (length 
         pool = size .1;
       }
 
-  pub settled-sound : (o : Outcome) → Inside (s .position) (length src) o → Changes src (s .depth) o → Limited (s .depth) o
-      → StaysSound src l q (settled src s l q o)
+  pub settled-sound : (o : Outcome) → Inside (s .position) (length src) o → Changes src (topFrame s) (s .depth) o
+      → Limited (s .depth) o → StaysSound src l q (settled src s l q o)
   settled-sound =
       settled-cases src s l q
-      (λ o a. Inside (s .position) (length src) o → Changes src (s .depth) o → Limited (s .depth) o → StaysSound src l q a)
+      (λ o a.
+      Inside (s .position) (length src) o → Changes src (topFrame s) (s .depth) o → Limited (s .depth) o
+      → StaysSound src l q a)
       (λ pieces after change finished e i c r. written-sound pieces after change finished (i .order) (i .inside) c r e)
       (λ pieces after change finished i c r. same-sound _ (spanOf s)) (λ number place i c r. same-sound number _)
       (λ i c r. same-sound wait (spanOf s))

@@ -39,7 +39,7 @@ finished-told e = let z : _≡_ {A = ℕ} 0 1 = cc in omega arith
 pub done-told : {number : ℕ} {span : Span} → Answer.Done ≡ Answer.Refused number span → ⊥
 done-told e = let z : _≡_ {A = ℕ} 0 1 = cc in omega arith
 
-answer-told : (finished : Bool) (number : ℕ) (span : Span) → answerOf finished ≡ Answer.Refused number span → ⊥
+pub answer-told : (finished : Bool) (number : ℕ) (span : Span) → answerOf finished ≡ Answer.Refused number span → ⊥
 answer-told true number span e = finished-told e
 answer-told false number span e = done-told e
 

@@ -6,3 +6,9 @@ pub mod Narrow
 pub mod Waiting
 pub mod Cuts
 pub mod Ends
+pub mod Steps
+pub mod Refusals
+pub mod Room
+pub mod Taken
+pub mod Emptied
+pub mod Apart

@@ -1,5 +1,5 @@
 -- The value bytes of a step are no more than the bytes it passed, and the cursor never goes back. Assumes nothing.
-use Prim.Native.Nat.{ℕ, _-_, _≤_}
+use Prim.Native.Nat.{ℕ, _+_, _≤_}
 use mathlib.Core.Bool.{Bool}
 use mathlib.Core.List.{List}
 use native.Mathlib.Omega.{arith}
@@ -19,10 +19,10 @@ use Rattle.lexer.specs.Calls.{called}
 use Rattle.lexer.proofs.Nexts.{settled-cases}
 use Rattle.demands.proofs.Rising.{span-place}
 
--- of the session before and the one after
+-- of the session before and the one after; as sums, since a difference of numbers is never below 0
 pub record Narrow (s t : Session) : Type 0 where
   pub forward : s .position ≤ t .position
-  pub bytes : t .bytes - s .bytes ≤ t .position - s .position
+  pub bytes : t .bytes + s .position ≤ s .bytes + t .position
 
 module _ (src : List ℕ) (s : Session) (l q : List ℕ) (h : s .position ≤ length src) where
   abbrev NarrowAfter : After → Type 0

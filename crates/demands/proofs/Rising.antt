@@ -35,7 +35,7 @@ use Rattle.demands.proofs.Good.{Sound, call-sound, position-inside}
 
 -- ---- positions of a list in two parts
 
-eight-on : (m : ℕ) → 8 + m * 8 ≡ suc m * 8
+pub eight-on : (m : ℕ) → 8 + m * 8 ≡ suc m * 8
 eight-on m = omega arith
 
 positions-sum : (m k : ℕ) (zs : List ℕ) → positions (m + k) zs ≡ positions m zs ++ positions k (drop (m * 8) zs)
@@ -46,7 +46,7 @@ positions-sum (suc m) k zs =
     let there : drop (m * 8) (drop 8 zs) ≡ drop (suc m * 8) zs = drop-drop (m * 8) 8 zs ∙ ap (λ (i : ℕ). drop i zs) (eight-on m) in
     rw (suc-add m k, more, there)
 
-drop-take : (n k : ℕ) (l : List ℕ) → drop n (take (n + k) l) ≡ take k (drop n l)
+pub drop-take : (n k : ℕ) (l : List ℕ) → drop n (take (n + k) l) ≡ take k (drop n l)
 drop-take zero k l = rw (zero-add k)
 drop-take (suc n) k [] = rw (take-nil {A = ℕ} (suc n + k), drop-nil {A = ℕ} (suc n), take-nil {A = ℕ} k)
 drop-take (suc n) k (x ∷ l) = rw (suc-add n k) (drop-take n k l)
@@ -66,11 +66,11 @@ positions-same (suc m) zs ws e =
     rw (first, positions-same m (drop 8 zs) (drop 8 ws) more)
 
 -- what stands before a write, and from it on
-laid-front : (l : List ℕ) (i : ℕ) (vs : List ℕ) → i ≤ length l → take i (laid l i vs) ≡ take i l
+pub laid-front : (l : List ℕ) (i : ℕ) (vs : List ℕ) → i ≤ length l → take i (laid l i vs) ≡ take i l
 unfolding laid
 laid-front l i vs h = rw (append-assoc (take i l) vs (drop (i + length vs) l)) (take-at (take i l) _ i (length-take-le i l h))
 
-laid-back : (l : List ℕ) (i : ℕ) (vs : List ℕ) → i ≤ length l → drop i (laid l i vs) ≡ vs ++ drop (i + length vs) l
+pub laid-back : (l : List ℕ) (i : ℕ) (vs : List ℕ) → i ≤ length l → drop i (laid l i vs) ≡ vs ++ drop (i + length vs) l
 unfolding laid
 laid-back l i vs h = rw (append-assoc (take i l) vs (drop (i + length vs) l)) (drop-at (take i l) _ i (length-take-le i l h))
 

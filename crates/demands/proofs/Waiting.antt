@@ -1,18 +1,21 @@
--- Demand 3 of step and the three readings: `call-waits-exactly`, for every part, good session and tables. Assumes nothing.
+-- Demand 3 of step and the three readings: `call-waits-exactly`, for every part, good session and tables; `called-let`,
+-- for all that the gate lets pass. Assumes nothing.
 --   settled-other, settled-wait, settled-six   only the wait is answered with 6: room's refusals are 7 and 8, and an outcome's own are
 --                                              others
+--   wait-first   a wait comes before 7 and 8, however small the tables
 use Prim.Native.Nat.{ℕ, _+_, _/_, _≤_}
 use mathlib.Core.Path.{_≡_, refl, sym, ap, _∙_}
 use mathlib.Core.Bool.{Bool, true, false, false≢true}
 use mathlib.Core.List.{List, [], _++_, append-nil}
 use lib.Dec.{eqb, leb}
 use lib.ListN.{length}
+use borrow.Author.Tests.{le-leb}
 use Rattle.byte.specs.Words.{every}
 use Rattle.byte.specs.Demand.{isByte}
 use Rattle.byte.specs.Refusals.{wait}
-use Rattle.byte.proofs.Tests.{choice}
+use Rattle.byte.proofs.Tests.{choice, &&-both}
 use Rattle.state.specs.declared.Session.{Session}
-use Rattle.state.specs.Gates.{tablesFit}
+use Rattle.state.specs.Gates.{lentRefusal, tablesFit}
 use Rattle.token.specs.Records.{roomRefusal}
 use Rattle.outcome.specs.declared.Call.{Call}
 use Rattle.outcome.specs.Outcomes.{Outcome, values}
@@ -25,6 +28,7 @@ use Rattle.commit.specs.Records.{answerOf, reached}
 use Rattle.lexer.specs.Turns.{settled}
 use Rattle.lexer.specs.Calls.{called}
 use Rattle.lexer.proofs.Nexts.{settled-cases}
+use Rattle.lexer.proofs.Calls.{lent-opened}
 use Rattle.demands.specs.Walks.{isWait}
 use Rattle.demands.specs.Waits.{WaitsExactly}
 use Rattle.demands.proofs.Good.{Sound, position-inside}
@@ -82,8 +86,9 @@ module _ (call : Call) (part : List ℕ) (s : Session) (l q : List ℕ) (bytes :
   here : (end : Bool) → called call part end s l q ≡ settled part s l q (callOutcome call part end s)
   here end = rw (append-nil part) at (gives [] end (rw (append-nil part) short))
 
-  six : callOutcome call part false s ≡ Outcome.Wait → isWait (called call part false s l q .turn .answer) ≡ true
-  six e = rw (here false) (settled-six part s l q (callOutcome call part false s) e)
+  -- a wait comes before 7 and 8, however small the tables
+  pub wait-first : callOutcome call part false s ≡ Outcome.Wait → isWait (called call part false s l q .turn .answer) ≡ true
+  wait-first e = rw (here false) (settled-six part s l q (callOutcome call part false s) e)
 
   waiting-six : isWait (called call part false s l q .turn .answer) ≡ true → callOutcome call part false s ≡ Outcome.Wait
   waiting-six e =
@@ -94,10 +99,10 @@ module _ (call : Call) (part : List ℕ) (s : Session) (l q : List ℕ) (bytes :
   call-waits-exactly =
       let waiting = call-waits call part s bytes (h .good) in
       record {
-        exactly = (λ e. waiting .exactly .0 (waiting-six e), λ x. six (waiting .exactly .1 x));
+        exactly = (λ e. waiting .exactly .0 (waiting-six e), λ x. wait-first (waiting .exactly .1 x));
         settled = λ e rest k.
             gives rest true k
-            ∙ ap (settled (part ++ rest) s l q) (waiting .settled (λ z. false≢true (sym e ∙ six z)) rest)
+            ∙ ap (settled (part ++ rest) s l q) (waiting .settled (λ z. false≢true (sym e ∙ wait-first z)) rest)
             ∙ settled-append part rest s l q place (callOutcome call part false s) (call-inside call part false s place)
             ∙ sym (here false);
         never =
@@ -105,3 +110,14 @@ module _ (call : Call) (part : List ℕ) (s : Session) (l q : List ℕ) (bytes :
             (settled-other part s l q (callOutcome call part true s) (length part) (call-inside call part true s place)
             (call-never-waits call part s bytes (h .good)));
       }
+
+-- whatever frame is on top: a reading out of place is among them
+pub called-let : (call : Call) (part : List ℕ) (s : Session) (l q : List ℕ) → every isByte part ≡ true
+    → lentRefusal part (length l) (length q) s ≡ 0
+    → WaitsExactly (λ xs end. called call xs end s l q) (λ xs. callOutcome call xs true s) part
+unfolding tablesFit
+called-let call part s l q bytes gate =
+    let opened = lent-opened part s (length l) (length q) gate in
+    call-waits-exactly call part s l q bytes (opened .source)
+    (&&-both _ _ (le-leb _ _ (opened .room)) (le-leb _ _ (opened .places)))
+    (record { good = opened .good; tokens = opened .tokens; bytes = opened .bytes })

@@ -1,3 +1,5 @@
 pub mod Walks
 pub mod Waits
 pub mod Records
+pub mod Refusals
+pub mod Emptied

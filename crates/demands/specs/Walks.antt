@@ -1,7 +1,9 @@
 -- Many steps, and a script that comes in parts (demand 3).
 --   goOn     a step that is done is followed by the next; any other answer is the last
 --   walked   at most so many steps
---   calledOn a call and, where it is done, steps after it: at most so many in all
+--   calledOn a call and, where it is done, steps after it: at most so many in all; the gate is asked also where none is wanted
+--   stepsDone   how many steps of a walk are done
+--   callsDone   how many of a call and the steps after it are done
 --   isDone   done, and not finished
 --   isWait   refusal 6
 --   joined   the script that parts make
@@ -18,7 +20,7 @@ use Rattle.state.specs.declared.Session.{Session}
 use Rattle.state.specs.Calls.{done}
 use Rattle.outcome.specs.declared.Call.{Call}
 use Rattle.lexer.specs.Turns.{After}
-use Rattle.lexer.specs.Calls.{called, stepped}
+use Rattle.lexer.specs.Calls.{gated, called, stepped}
 
 unfoldable pub goOn : Answer → After → After → After
 goOn Answer.Done now later = later
@@ -32,10 +34,28 @@ walked (suc n) src end s list pool =
     goOn (now .turn .answer) now (walked n src end (now .turn .session) (now .list) (now .pool))
 
 unfoldable pub calledOn : Call → ℕ → List ℕ → Bool → Session → List ℕ → List ℕ → After
-calledOn call zero src end s list pool = record { turn = done s; list = list; pool = pool }
+calledOn call zero src end s list pool = gated src s list pool (record { turn = done s; list = list; pool = pool })
 calledOn call (suc n) src end s list pool =
     let now = called call src end s list pool in
     goOn (now .turn .answer) now (walked n src end (now .turn .session) (now .list) (now .pool))
+
+-- one more where the answer is done
+unfoldable pub counted : Answer → ℕ → ℕ
+counted Answer.Done later = suc later
+counted Answer.Finished later = 0
+counted (Answer.Refused number span) later = 0
+
+unfoldable pub stepsDone : ℕ → List ℕ → Bool → Session → List ℕ → List ℕ → ℕ
+stepsDone zero src end s list pool = 0
+stepsDone (suc n) src end s list pool =
+    let now = stepped src end s list pool in
+    counted (now .turn .answer) (stepsDone n src end (now .turn .session) (now .list) (now .pool))
+
+unfoldable pub callsDone : Call → ℕ → List ℕ → Bool → Session → List ℕ → List ℕ → ℕ
+callsDone call zero src end s list pool = 0
+callsDone call (suc n) src end s list pool =
+    let now = called call src end s list pool in
+    counted (now .turn .answer) (stepsDone n src end (now .turn .session) (now .list) (now .pool))
 
 unfoldable pub isDone : Answer → Bool
 isDone Answer.Done = true

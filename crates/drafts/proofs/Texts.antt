@@ -24,7 +24,7 @@ use Rattle.unit.specs.declared.Mode.{Mode}
 use Rattle.unit.specs.declared.Stop.{Stop}
 use Rattle.unit.specs.Readings as unit
 use Rattle.unit.proofs.Inside as unit-inside
-use Rattle.unit.proofs.Stands.{isLiteral}
+use Rattle.unit.proofs.Stands.{isLiteral, faults}
 use Rattle.unit.proofs.Readings.{TextStands, StandsReading, text-stands, text-copied}
 use Rattle.text.specs.declared.Scanned.{Scanned}
 use Rattle.text.specs.Code as text-scans
@@ -228,12 +228,12 @@ abbrev pub readText : Mode → List ℕ → Label → Bool → ℕ → ℕ → O
 readText mode src label end place at =
     textRead mode place at (drop at src) (unit.textAt mode (labelBytes src label) end at (drop at src))
 
-reading-placed : (literal : Bool) (at hi : ℕ) (xs : List ℕ) (r : unit.Reading) → StandsReading literal at hi xs r
+reading-placed : (m : Mode) (at hi : ℕ) (xs : List ℕ) (r : unit.Reading) → StandsReading m at hi xs r
     → Placed at (text-scans.measured r)
 unfolding text-scans.measured Placed
-reading-placed literal at hi xs (unit.Text value stop from after) i = (i .fits, i .order)
-reading-placed literal at hi xs (unit.Refused number place) i = tt
-reading-placed literal at hi xs unit.Wait i = tt
+reading-placed m at hi xs (unit.Text value stop from after) i = (i .fits, i .order)
+reading-placed m at hi xs (unit.Refused number place) i = tt
+reading-placed m at hi xs unit.Wait i = tt
 
 -- a held draft's value stands in the scratch part
 abbrev Holds : Mode → List ℕ → Label → Bool → ℕ → List ℕ → Type 0
@@ -244,7 +244,7 @@ Holds mode src label end at scratch = (value : List ℕ)
 module _ (mode : Mode) (src : List ℕ) (label : Label) (end : Bool) (at : ℕ) (here : Here src at)
     (name : Named src label)
     (scratch : List ℕ) where
-  text-read : StandsReading (isLiteral mode) at (length src) (drop at src)
+  text-read : StandsReading mode at (length src) (drop at src)
       (unit.textAt mode (labelBytes src label) end at (drop at src))
   text-read = rw (all-left src at (here .inside)) at (text-stands mode (labelBytes src label) end at (drop at src))
 
@@ -315,7 +315,8 @@ module _ (mode : Mode) (src : List ℕ) (label : Label) (end : Bool) (at : ℕ) 
           choice (PlansIn src end scratch (textRead mode place at xs found)) (eqb kind 0) _ _
           (λ t. rw (textRead-mode place at xs mode found (eqb-true kind 0 t))
           (read-plans mode src end at
-          (λ len. textDraft stringPart at (textMaking mode label (isHeld mode len (length scratch))) at len) whole (text-makes stringPart at) found e (rw e at (rw (all-left src at (here .inside)) at within))))
+          (λ len. textDraft stringPart at (textMaking mode label (isHeld mode len (length scratch))) at len) whole
+          (text-makes stringPart at) (faults mode) found e (rw e at (rw (all-left src at (here .inside)) at within))))
           (λ t. rw (textRead-literal place at xs mode found (eqb-false kind 0 t))
           (literal-plans kind (isLeft stop) from after stop value refl e))
       text-plans (unit.Refused number fault) e =
@@ -325,7 +326,7 @@ module _ (mode : Mode) (src : List ℕ) (label : Label) (end : Bool) (at : ℕ) 
   module _ (part : List ℕ) (p : part ≡ labelBytes src label) (dst : List ℕ) (scan : Scanned)
       (s : text-scans.Scans mode src part at end dst scan scratch) where
     pub text-placed : Placed at scan
-    text-placed = rw (s .told, p) (reading-placed (isLiteral mode) at (length src) (drop at src) _ text-read)
+    text-placed = rw (s .told, p) (reading-placed mode at (length src) (drop at src) _ text-read)
 
     pub text-planned : (place : ℕ) (r : Plan) → r ≡ readPlan mode place label at (length scratch) scan
         → PlansIn src end scratch (readText mode src label end place at) r

@@ -28,7 +28,7 @@ use Rattle.number.specs.Numbers as numbers
 use Rattle.number.proofs.Values.{numberAt-inside, numberAt-valueOf}
 use Rattle.sheet.specs.Code.{blankOf}
 use Rattle.sheet.specs.Sheets.{sheetAt}
-use Rattle.sheet.proofs.Inside.{SheetStands, StandsSheet, sheet-stands, sheet-inside}
+use Rattle.sheet.proofs.Inside.{SheetStands, StandsSheet, sheet-stands, sheet-inside, sheetFaults}
 use Rattle.sheet.proofs.Writes.{sheet-copied}
 use Rattle.outcome.specs.Outcomes.{piece}
 use Rattle.outcome.specs.Texts.{slice, stopKind, stopDetail, stopChange, texted, literal}
@@ -88,8 +88,9 @@ measures scan unit.Wait len stop from after s a =
 module _ {scratch : List ℕ} (mode : Mode) (src : List ℕ) (end : Bool) (at : ℕ) (draft : ℕ → Stop → ℕ → Draft)
     (read : unit.Reading)
     (makes : (value : List ℕ) (stop : Stop) (from after : ℕ) → read ≡ unit.Text value stop from after
-    → Makes src end scratch (piece stringPart at value) (draft (length value) stop from)) where
-  pub read-plans : (r : unit.Reading) → read ≡ r → unit-inside.InsideReading at (length src) r
+    → Makes src end scratch (piece stringPart at value) (draft (length value) stop from))
+    (numbers : List ℕ) where
+  pub read-plans : (r : unit.Reading) → read ≡ r → unit-inside.InsideReading numbers at (length src) r
       → PlansIn src end scratch (texted mode at (drop at src) r) (textWork mode draft (text-scans.measured r))
   unfolding texted textWork textPlan text-scans.measured madeBy outcomeOf
   read-plans (unit.Text value stop from after) e i =
@@ -101,7 +102,7 @@ module _ {scratch : List ℕ} (mode : Mode) (src : List ℕ) (end : Bool) (at : 
   read-plans (unit.Refused number place) e i = record { told = refl; ready = tt }
   read-plans unit.Wait e i = record { told = refl; ready = tt }
 
-  scan-plans : unit-inside.InsideReading at (length src) read → (scan arm : Scanned) → scan ≡ text-scans.measured read → scan ≡ arm
+  scan-plans : unit-inside.InsideReading numbers at (length src) read → (scan arm : Scanned) → scan ≡ text-scans.measured read → scan ≡ arm
       → (r : Plan) → r ≡ textWork mode draft arm → PlansIn src end scratch (texted mode at (drop at src) read) r
   scan-plans i scan arm s a r e =
       let work : r ≡ textWork mode draft (text-scans.measured read) = e ∙ rw (← a, s) in
@@ -150,7 +151,7 @@ module _ (src : List ℕ) (label : Label) (end : Bool) (at : ℕ) (here : Here s
         → Plans src end (nowdoc session.Reading.Sheet (labelBytes src label) end at (drop at src)) r
     unfolding nowdoc
     sheet-arm arm r a e =
-        scan-plans Mode.Nowdoc src end at (sheetDraft at) (sheetAt (labelBytes src label) end at (drop at src)) sheet-makes
+        scan-plans Mode.Nowdoc src end at (sheetDraft at) (sheetAt (labelBytes src label) end at (drop at src)) sheet-makes sheetFaults
         (rw (all-left src at (here .inside)) at (sheet-inside (labelBytes src label) end at (drop at src))) scan arm (s ∙ rw p) a r e
 
     module _ (len : ℕ) (stop : Stop) (from after : ℕ) (a : scan ≡ Scanned.Text len stop from after) where

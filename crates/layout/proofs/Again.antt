@@ -2,6 +2,7 @@
 --   choices-flags, choices-again, number-again   choices and the numbers whose bits are flags stand for each other, one for one
 --   session-again              reading what was written gives the session again
 --   held-in                    what is read is such a session, whatever the numbers
+--   held-moved, held-entered, held-left   it stays one at another place, with a frame more, with a frame less
 --   good-session, no-session   numbers that are no session are refused: 11 for a source or tables that are too large, else 12
 use Prim.Native.Nat.{ℕ, zero, suc, _≤_, _<_, _%_}
 use mathlib.Core.Path.{_≡_, refl, sym, _∙_}
@@ -9,12 +10,13 @@ use mathlib.Core.Bool.{Bool, true, false, _&&_, false≢true}
 use mathlib.Core.List.{List, [], _∷_, _++_}
 use native.Mathlib.Omega.{arith}
 use lib.Dec.{eqb}
-use lib.ListN.{length, getD, take, drop}
+use lib.ListN.{length, getD, set, take, drop, length-set}
 use borrow.Author.Tests.{eqb-true, eqb-false, lt-ltb, ltb-true}
 use Rattle.byte.specs.Words.{if_then_else_, every}
 use Rattle.byte.specs.Laid.{laid}
 use Rattle.byte.specs.Refusals.{tooLarge, badSession}
 use Rattle.byte.proofs.Tests.{&&-left, &&-right, &&-both, choice}
+use Rattle.source.specs.declared.Span.{Span}
 use Rattle.state.specs.declared.Label.{Label}
 use Rattle.state.specs.declared.Frame.{Frame}
 use Rattle.state.specs.declared.Slot.{Slot}
@@ -22,6 +24,7 @@ use Rattle.state.specs.declared.Reading.{Reading}
 use Rattle.state.specs.declared.Choices.{Choices}
 use Rattle.state.specs.declared.Session.{Session}
 use Rattle.state.specs.Bounds.{isLabel, isFrame, isBottom, noSlot, isSlot, isStack, isWithin, isGood, noLabel}
+use Rattle.state.specs.Calls.{moved, entered, left}
 use Rattle.state.specs.Gates.{sourceFits, tablesFit, gateRefusal, lentRefusal}
 use Rattle.state.proofs.Bounds.{isWithin-facts}
 use Rattle.layout.specs.Sessions.{frameNumber, labelOf, framesNumbers, readingFlag, choicesNumber, numbersOf, isLabelNumbers, labelIn, frameIn, framesIn, readingIn, areChoices, choicesIn, depthIn, sessionIn, isFrameNumbers, areSlots, isSession}
@@ -121,7 +124,7 @@ frameIn-each P number start len p0 p1 p2 p3 p4 p5 p6 p7 p8 none =
     choice P (eqb number 7) Frame.LookingForProperty _ (λ e. p7 (eqb-true number 7 e)) (λ e.
     choice P (eqb number 8) Frame.VarOffset (Frame.Heredoc noLabel) (λ e. p8 (eqb-true number 8 e)) (λ e. none)))))))))
 
-frameIn-held : (number start len : ℕ) → isHeld (record { frame = frameIn number start len }) ≡ true
+pub frameIn-held : (number start len : ℕ) → isHeld (record { frame = frameIn number start len }) ≡ true
 unfolding isHeld labelOf
 frameIn-held number start len =
     frameIn-each (λ (f : Frame). isLabelNumbers (labelOf f .start) (labelOf f .len) ≡ true) number start len (λ e. refl) (λ e. refl) (λ e. refl) (λ e. refl)
@@ -135,6 +138,32 @@ framesIn-held (suc count) numbers =
 
 pub held-in : (numbers : List ℕ) → Held (sessionIn numbers)
 held-in numbers = record { slots = length-framesIn 64 (drop 7 numbers); labels = framesIn-held 64 (drop 7 numbers) }
+
+-- ---- it stays such a session
+
+every-put : {A : Type 0} (test : A → Bool) (xs : List A) (i : ℕ) (a : A) → every test xs ≡ true → test a ≡ true
+    → every test (set xs i a) ≡ true
+unfolding every
+every-put test [] i a e f = refl
+every-put test (x ∷ xs) zero a e f = &&-both (test a) _ f (&&-right (test x) (every test xs) e)
+every-put test (x ∷ xs) (suc i) a e f =
+    &&-both (test x) _ (&&-left (test x) (every test xs) e)
+    (every-put test xs i a (&&-right (test x) (every test xs) e) f)
+
+module _ (s : Session) (h : Held s) where
+  pub held-moved : (p : Span) → Held (moved s p)
+  held-moved p = record { slots = h .slots; labels = h .labels }
+
+  pub held-left : Held (left s)
+  held-left = record { slots = h .slots; labels = h .labels }
+
+  pub held-entered : (f : Frame) → isHeld (record { frame = f }) ≡ true → Held (entered s f)
+  held-entered f e = record {
+    slots = length-set (s .frames) (s .depth) _ ∙ h .slots;
+    labels = every-put isHeld (s .frames) (s .depth) _ (h .labels) e;
+  }
+
+-- ---- numbers that are no session
 
 -- a label that the gate lets in has a label's numbers
 labelIn-good : (src : List ℕ) (start len : ℕ) → isLabel src (labelIn start len) ≡ true → isLabelNumbers start len ≡ true

@@ -1,6 +1,7 @@
 -- An answer and a turn as numbers, on each way through the functions that write them. Assumes nothing.
+--   turned-one   two results that meet one statement are equal
 use Prim.Native.Nat.{ℕ}
-use mathlib.Core.Path.{_≡_, _∙_}
+use mathlib.Core.Path.{_≡_, sym, _∙_}
 use mathlib.Core.List.{List}
 use borrow.Author.Tests.{eq-eqb, ne-eqb}
 use Rattle.byte.specs.Laid.{laid}
@@ -28,3 +29,8 @@ module _ (t : Turn) (session answer answer′ : List ℕ) (number : ℕ) (e : nu
   turned-done session′ h f = record { number = e; holds = f ∙ rw (← e, eq-eqb number 0 h); tells = a }
 
 pub ruleset turned = (turned-refused, turned-done)
+
+pub turned-one : (t : Turn) (session answer : List ℕ) (r r′ : ℕ) (s s′ a a′ : List ℕ) → Turned t session answer r s a
+    → Turned t session answer r′ s′ a′ → (r ≡ r′) × (s ≡ s′) × (a ≡ a′)
+turned-one t session answer r r′ s s′ a a′ x y =
+    (x .number ∙ sym (y .number), x .holds ∙ sym (y .holds), x .tells ∙ sym (y .tells))

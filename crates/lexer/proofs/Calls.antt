@@ -30,7 +30,8 @@ use Rattle.outcome.specs.Steps.{topFrame, callAt, callOutcome}
 use Rattle.outcome.proofs.StepWays.{callAt-ways}
 use Rattle.plan.specs.declared.Plan.{Plan}
 use Rattle.plan.specs.Code.{outcomeOf, PlansIn, Here}
-use Rattle.modes.specs.Code.{Passes, Near}
+use Rattle.modes.specs.Code.{Near}
+use Rattle.modes.proofs.Passes.{Passes}
 use Rattle.commit.specs.declared.Next.{Next}
 use Rattle.commit.specs.Records.{put, reached}
 use Rattle.commit.specs.Code.{isFull, Commits, Committed}

@@ -26,7 +26,7 @@ use Rattle.plan.proofs.Plans.{token-plans, goes-plans, refused-plans, wait-plan
 
 -- ---- runs of identifier bytes
 
-named-run : (end : Bool) (k : ℕ) (xs : List ℕ)
+pub named-run : (end : Bool) (k : ℕ) (xs : List ℕ)
     → named end k xs ≡ (if ltb (run isIdentifier xs) (length xs) then Run.Over (k + run isIdentifier xs)
     else if end then Run.Over (k + run isIdentifier xs) else Run.Undecided)
 unfolding named run

@@ -9,32 +9,35 @@
 --   finishedPlan  nothing is left
 --   isStep        the call is a step
 --   isOther       a byte of the table's last row, if no identifier starts with it
---   PassesAt      so many bytes are passed from a place on; 0 tells nothing
---   Passes        r is the place after such a step; the cursor p itself tells nothing
+--   quickAt       how many bytes such a step passes; 0 where the step is another, or would wait
+--   quick         the cursor after such a step; the cursor itself where the call is another
+--   quickOn       such steps in a row, at most so many: where they end, and how many are left there
+--   PassesAt      so many bytes are passed from a place on, and they lie in the source
 --   Near          a cursor's line and column are no larger than its position and one
---   PassesOn      such steps in a row, from p with so many steps left: where they end, and how many are left there
--- What is told holds of every session with this frame on top, at the announced end or before it.
-use Prim.Native.Nat.{ℕ, _+_, _-_, _≤_, _<_}
+-- What a quick step tells holds of every session with this frame on top, at the announced end or before it:
+-- `quick-passes` (proofs/Passes.antt).
+use Prim.Native.Nat.{ℕ, zero, suc, _+_, _≤_}
 use Prim.Native.Char.{code}
 use mathlib.Core.Path.{_≡_}
 use mathlib.Core.Bool.{Bool, true, false, not, _&&_}
-use mathlib.Core.List.{List}
+use mathlib.Core.List.{List, [], _∷_}
+use lib.Dec.{eqb, ltb}
 use lib.ListN.{length, getD, take, drop}
-use Rattle.byte.specs.Words.{if_then_else_, every}
-use Rattle.byte.specs.Bytes.{isDigit, isNoBreak, isNoneOf}
+use Rattle.byte.specs.Words.{if_then_else_, run}
+use Rattle.byte.specs.Bytes.{isDigit, isStart, isIdentifier, isNoneOf}
 use Rattle.byte.specs.Refusals.{outOfPlace}
 use Rattle.source.specs.Cursor.{passed}
 use Rattle.source.specs.declared.Span.{Span}
 use Rattle.state.specs.declared.Frame.{Frame}
 use Rattle.state.specs.declared.Reading.{Reading}
 use Rattle.state.specs.declared.Choices.{Choices}
-use Rattle.state.specs.Bounds.{labelBytes, noLabel}
+use Rattle.state.specs.Bounds.{labelBytes, noLabel, isScripting}
 use Rattle.unit.specs.declared.Mode.{Mode}
 use Rattle.unit.specs.Readings.{textAt}
 use Rattle.number.specs.Numbers.{numberAt}
 use Rattle.outcome.specs.declared.Call.{Call}
 use Rattle.outcome.specs.declared.Change.{Change}
-use Rattle.outcome.specs.Outcomes.{Outcome, goes}
+use Rattle.outcome.specs.Outcomes.{Outcome}
 use Rattle.outcome.specs.Initials.{initial}
 use Rattle.outcome.specs.Texts.{textRead, numbered}
 use Rattle.outcome.specs.Scripts.{scripting}
@@ -44,6 +47,7 @@ use Rattle.plan.specs.declared.Plan.{Plan}
 use Rattle.plan.specs.Code.{Named, noDrafts}
 use Rattle.modes.specs.declared.rows.Way.{Way}
 use Rattle.modes.specs.declared.rows.Row.{Row}
+use Rattle.modes.specs.declared.passing.PassedOn.{PassedOn}
 
 abbrev pub plainRow : Way → Mode → ℕ → Row
 plainRow way mode start = record { way = way; mode = mode; label = noLabel; start = start }
@@ -118,26 +122,30 @@ isOther b =
     && isNoneOf (code "{") (code "}") (code "?") (code "<") b
     && isNoneOf (code "/") (code "#") (code "/") (code "#") b
 
--- an LF is passed only alone, as the one byte
-pub record PassesAt (src : List ℕ) (at k : ℕ) : Type 0 where
-  pub inside : at + k ≤ length src
-  pub line : (k ≡ 1 → ⊥) → every isNoBreak (take k (drop at src)) ≡ true
-  pub told : (k ≡ 0 → ⊥) → (depth : ℕ) (end : Bool) → scripting depth end at (drop at src) ≡ goes (at + k) Change.Keep
+-- a name that is over before the part is, or a byte of the last row
+unfoldable pub quickAt : List ℕ → ℕ
+quickAt [] = 0
+quickAt (b ∷ rest) =
+    if isStart b then (if ltb (run isIdentifier rest) (length rest) then suc (run isIdentifier rest) else 0)
+    else if isOther b then 1
+    else 0
 
-pub record Passes (call : Call) (src : List ℕ) (f : Frame) (p r : Span) : Type 0 where
-  pub low : p .position ≤ r .position
-  pub high : r .position ≤ length src
-  pub span : r ≡ passed p (take (r .position - p .position) (drop (p .position) src))
-  pub step : (r .position ≡ p .position → ⊥) → call ≡ Call.Step
-  pub told : (r .position ≡ p .position → ⊥) → (choices : Choices) (depth : ℕ) (end : Bool)
-      → callAt call f src choices depth end (p .position) (drop (p .position) src) ≡ goes (r .position) Change.Keep
+unfoldable pub quick : Call → List ℕ → Frame → Span → Span
+quick call src f p =
+    let xs = drop (p .position) src in
+    if isStep call && isScripting f then passed p (take (quickAt xs) xs) else p
+
+unfoldable pub quickOn : Call → List ℕ → Frame → Span → ℕ → PassedOn
+quickOn call src f p zero = record { span = p; left = 0 }
+quickOn call src f p (suc most) =
+    let next = quick call src f p in
+    if eqb (next .position) (p .position) then record { span = p; left = suc most }
+    else quickOn call src f next most
+
+pub record PassesAt (src : List ℕ) (at k : ℕ) : Type 0 where
+  pub whole : k ≡ quickAt (drop at src)
+  pub inside : at + k ≤ length src
 
 pub record Near (p : Span) : Type 0 where
   pub line : p .line ≤ p .position + 1
   pub column : p .column ≤ p .position + 1
-
-pub data PassesOn (call : Call) (src : List ℕ) (f : Frame) (p : Span) (most : ℕ) : Span → ℕ → Type 0 where
-  none : PassesOn call src f p most p most
-  more : {q : Span} {left : ℕ} → PassesOn call src f p most q left → 0 < left → (r : Span) → Passes call src f q r
-      → (r .position ≡ q .position → ⊥)
-      → PassesOn call src f p most r (left - 1)

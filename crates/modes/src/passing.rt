@@ -7,7 +7,7 @@ ghost use lib.ListN.{length};
 ghost use Rattle.state.specs.Bounds.{isScripting};
 ghost use Rattle.source.specs.Code.{Reaches};
 ghost use Rattle.plan.specs.Code.{Here};
-ghost use Rattle.modes.specs.Code.{isStep, isOther, PassesAt, Passes, Near, PassesOn};
+ghost use Rattle.modes.specs.Code.{isStep, isOther, quick, quickOn, PassesAt, Near};
 
 // Whether a call is a step.
 fn is_step(call: Call) -> bool
@@ -82,7 +82,7 @@ fn passed_at(src: &[u8], at: usize) -> usize
 // The place after such a step; the place itself where the call is another.
 fn passed(call: Call, src: &[u8], f: Frame, p: Span) -> Span
     requires { ⌜ Here (now src) (p .position) × Reaches p (length (now src)) ⌝ }
-    ensures { λ r. ⌜ Passes call (now (src .entry)) f p r ⌝ }
+    ensures { λ r. ⌜ r ≡ quick call (now (src .entry)) f p ⌝ }
 {
     if !is_step(call) {
         return p;
@@ -111,7 +111,7 @@ pub struct PassedOn {
 // Such steps in a row, at most `most` of them.
 pub fn pass_on(call: Call, src: &[u8], f: Frame, p: Span, most: u32) -> PassedOn
     requires { ⌜ Here (now src) (p .position) × Near p ⌝ }
-    ensures { λ r. ⌜ PassesOn call (now (src .entry)) f p most (r .span) (r .left) ⌝ }
+    ensures { λ r. ⌜ r ≡ quickOn call (now (src .entry)) f p most ⌝ }
 {
     let mut span = p;
     let mut left = most;

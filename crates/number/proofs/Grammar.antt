@@ -8,7 +8,7 @@
 use Prim.Native.Nat.{ℕ, _+_, _≤_, _<_}
 use Prim.Native.Char.{code}
 use mathlib.Core.Path.{_≡_, refl, sym, ap, subst, _∙_}
-use mathlib.Core.Bool.{Bool, true, false, not, _&&_, _||_, false≢true}
+use mathlib.Core.Bool.{true, false, not, _&&_, _||_, false≢true}
 use mathlib.Core.List.{List, [], _∷_, _++_, append-assoc, append-nil}
 use native.Mathlib.Omega.{arith}
 use lib.Dec.{ltb}
@@ -17,7 +17,7 @@ use lib.Seq.{drop-append-seam, length-take-le}
 use borrow.Author.Tests.{eqb-true, ltb-true, ltb-false, not-true}
 use Rattle.byte.specs.Words.{if_then_else_, _is_}
 use Rattle.byte.specs.Bytes.{isDigit, isOctal}
-use Rattle.byte.proofs.Tests.{&&-left, &&-right}
+use Rattle.byte.proofs.Tests.{&&-left, &&-right, ||-neither}
 use Rattle.number.specs.declared.Literal.{Literal}
 use Rattle.number.specs.Numbers.{Reading, isOne, baseNamed, baseOf, isExponent, isSign, numberAt}
 use Rattle.number.specs.Manual.{grouped, isLnum, maybeLnum, LiteralOf, Begins, Longest, startsWith, leadingMore}
@@ -30,10 +30,6 @@ use Rattle.number.proofs.Leading.{begins-split, leading-begins, leading
 use Rattle.number.proofs.Texts.{readTail, readText, number-text}
 use Rattle.number.proofs.Covers.{integer-within}
 use Rattle.number.proofs.Longest.{integerText-begins, longest-literal, no-literal}
-
-||-neither : (a b : Bool) → (a || b) ≡ false → (a ≡ false) × (b ≡ false)
-||-neither true b e = absurd (false≢true (sym e))
-||-neither false b e = (refl, e)
 
 -- the same told of a text and of a kind that are equal
 longest-same : (literal : Literal) (xs text : List ℕ) → beginsNumber xs ≡ true → kindOf xs ≡ literal

@@ -1,5 +1,6 @@
 pub mod Initials
 pub mod Openings
+pub mod Rows
 pub mod Pieces
 pub mod Comments
 pub mod Ways
@@ -13,3 +14,4 @@ pub mod OpeningDemand
 pub mod CommentDemand
 pub mod ScriptDemand
 pub mod StepDemand
+pub mod Manual

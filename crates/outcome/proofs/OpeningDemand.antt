@@ -13,7 +13,7 @@ use Rattle.unit.proofs.Stays.{Stays, clash}
 use Rattle.outcome.specs.declared.DocStringKind.{DocStringKind}
 use Rattle.outcome.specs.declared.Opening.{Opening}
 use Rattle.outcome.specs.Outcomes.{Outcome, limited}
-use Rattle.outcome.specs.Openings.{lineFeed, docBreak, docQuote, docEnd, docName, docStart, docLabel, thirdLess, opening}
+use Rattle.outcome.specs.Openings.{longestLabel, lineFeed, docBreak, docQuote, docEnd, docName, docStart, docLabel, thirdLess, opening}
 use Rattle.outcome.specs.Openings.{opened}
 use Rattle.outcome.proofs.Demand.{Splits, splits, Demands, told-waits}
 
@@ -96,7 +96,7 @@ module _ (start : ℕ) where
   unfolding docName
   docName-looks kind len n [] = docName-end kind len n
   docName-looks kind len n (b ∷ xs) =
-      if-looks (isIdentifier b) (if-looks (ltb len 64) (docName-looks kind (suc len) (suc n) xs) (settled Opening.Other other-told))
+      if-looks (isIdentifier b) (if-looks (ltb len longestLabel) (docName-looks kind (suc len) (suc n) xs) (settled Opening.Other other-told))
       (docEnd-looks kind len n (b ∷ xs))
 
 docStart-looks : (kind : DocStringKind) (n : ℕ) (xs : List ℕ) → Looks (docStart kind false n xs) (λ c. docStart kind true n (xs ++ c))

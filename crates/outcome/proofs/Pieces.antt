@@ -1,4 +1,5 @@
 -- Where what is told lies, between the cursor n and hi: no piece, one piece, a part and a piece. Assumes nothing.
+--   parted-few   a part and a piece are at most two
 use Prim.Native.Nat.{ℕ, _+_, _≤_}
 use mathlib.Core.Path.{ap}
 use mathlib.Core.List.{List, [], _∷_, _++_, append-nil}
@@ -49,3 +50,8 @@ module _ (n hi : ℕ) where
           (record { low = x; high = y; detail = z }, tt),
         );
       }
+
+pub parted-few : (kind n : ℕ) (value : List ℕ) (p : Piece) → length (unlessEmpty kind n value ++ p ∷ []) ≤ 2
+unfolding unlessEmpty
+parted-few kind n [] p = omega arith
+parted-few kind n (b ∷ vs) p = omega arith

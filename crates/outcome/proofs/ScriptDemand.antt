@@ -5,9 +5,8 @@ use mathlib.Core.List.{List, [], _∷_, _++_}
 use Prim.Native.Nat.{ℕ, suc, _+_}
 use Prim.Native.Char.{code}
 use native.Mathlib.Omega.{arith}
-use lib.Dec.{ltb}
 use lib.ListN.{length}
-use Rattle.byte.specs.Words.{if_then_else_, _is_, every, bytes}
+use Rattle.byte.specs.Words.{_is_, every, bytes}
 use Rattle.byte.specs.Bytes.{isStart, isIdentifier, isLetter, isDigit}
 use Rattle.state.specs.declared.Frame.{Frame}
 use Rattle.token.specs.Kinds.{literalSingleQuotedString, literalDoubleQuotedString}
@@ -99,7 +98,7 @@ module _ (n p : ℕ) where
         (if-answers p (b is ".") (point-answers xs)
         (if-answers p (isStart b) (word-answers xs)
         (if-answers p (b is "{") (settled p (goes (suc n) (Change.Enter Frame.Scripting)) told-waits)
-        (if-answers p (b is "}") (settled p (goes (suc n) (if ltb 1 depth then Change.Leave else Change.Keep)) told-waits)
+        (if-answers p (b is "}") (settled p (goes (suc n) _) told-waits)
         (if-answers p (b is "?") (closeTag-answers xs)
         (if-answers p (b is "<") (demands-answers p _ (opened-demands n p) xs)
         (if-answers p (b is "/") (slash-answers n p (b ∷ xs) xs (omega arith))

@@ -10,15 +10,18 @@ use lib.Dec.{ltb}
 use lib.ListN.{length, take, drop, length-drop}
 use lib.Seq.{drop-drop}
 use borrow.Author.Tests.{ltb-true, le-leb}
+use Rattle.byte.specs.Refusals.{isAmong}
 use Rattle.byte.specs.Words.{if_then_else_, _is_, every}
 use Rattle.byte.specs.Bytes.{isDigit, isStart, isIdentifier}
 use Rattle.byte.proofs.Tests.{choice, &&-both}
+use Rattle.state.specs.declared.Frame.{Frame}
 use Rattle.state.specs.declared.Label.{Label}
-use Rattle.state.specs.Bounds.{isLabel, isFrame, isBottom}
+use Rattle.state.specs.Bounds.{isLabel, isFrame, isBottom, isScripting}
 use Rattle.token.specs.Kinds.{inlineHtml, comment}
 use Rattle.unit.specs.declared.Mode.{Mode}
 use Rattle.unit.specs.Readings as unit
 use Rattle.unit.proofs.Inside as unit-inside
+use Rattle.unit.proofs.Stands.{faults}
 use Rattle.number.proofs.Values.{digit-passes, point-passes}
 use Rattle.outcome.specs.declared.Change.{Change}
 use Rattle.outcome.specs.declared.CommentEnd.{CommentEnd}
@@ -35,13 +38,13 @@ use Rattle.outcome.specs.Texts.{literal}
 use Rattle.outcome.specs.Lookings.{named}
 use Rattle.outcome.specs.Comments.{isNext, endTaken, commentEnd, endless, commented, commentAt, slash, hash}
 use Rattle.outcome.specs.Scripts.{point, word, closeTag, scripting}
-use Rattle.outcome.proofs.Pieces.{take-length, goes-inside, one-inside, parted-inside}
+use Rattle.outcome.proofs.Pieces.{take-length, goes-inside, one-inside, parted-inside, parted-few}
 use Rattle.outcome.proofs.Comments.{CommentInside, commentEnd-inside}
 use Rattle.outcome.proofs.Openings.{LabelInside, OpeningInside, opening-inside}
 use Rattle.outcome.proofs.Initials.{TaggedInside, tagged-within}
-use Rattle.outcome.proofs.Ways.{Welcome, ChangeGood, Asked, Ways, if-ways, waits, ending-ways, fault-ways}
-use Rattle.outcome.proofs.Ways.{told-ways, goes-ways, token-ways, scripting-in, literal-ways, numbered-ways}
-use Rattle.outcome.proofs.Ways.{RunInside, named-inside}
+use Rattle.outcome.proofs.Ways.{Welcome, ChangeGood, Asked, stepNumbers, Ways, if-ways, waits, ending-ways}
+use Rattle.outcome.proofs.Ways.{fault-ways, told-ways, goes-ways, token-ways, scripting-in, literal-ways}
+use Rattle.outcome.proofs.Ways.{numbered-ways, RunInside, named-inside}
 
 tag-some : (kind : OpenTagKind) → 0 < tagLength kind
 unfolding tagLength
@@ -50,10 +53,11 @@ tag-some OpenTagKind.Echo = omega arith
 tag-some OpenTagKind.Short = omega arith
 
 module _ (src : List ℕ) where
-  doc-in : (kind : DocStringKind) (l : Label) → isLabel src l ≡ true → Welcome src (docFrame kind l)
-  unfolding isFrame isBottom docFrame
-  doc-in DocStringKind.Heredoc l h = record { good = h; bottom = refl }
-  doc-in DocStringKind.Nowdoc l h = record { good = h; bottom = refl }
+  doc-in : (top : Frame) → isScripting top ≡ true → (kind : DocStringKind) (l : Label) → isLabel src l ≡ true
+      → Welcome src top (docFrame kind l)
+  unfolding isFrame isBottom isScripting docFrame
+  doc-in top e DocStringKind.Heredoc l h = record { good = h; bottom = refl; other = rw e }
+  doc-in top e DocStringKind.Nowdoc l h = record { good = h; bottom = refl; other = rw e }
 
   label-good : (m start len after : ℕ) → m ≤ length src → LabelInside m (drop m src) start len after
       → isLabel src (record { start = start; len = len }) ≡ true
@@ -69,22 +73,27 @@ module _ (src : List ℕ) where
           let z : m + (start - m) ≡ start = omega (arith, i .low) in
           rw (drop-drop, z) at (i .identifiers)
 
-module _ {src : List ℕ} {n : ℕ} (a : Asked src n) (end : Bool) where
-  abbrev Way : Outcome → Type 0
-  Way o = Ways a o
+-- where there are more frames than so many, which is some, one may be left
+left-good : (src : List ℕ) (top : Frame) (most depth : ℕ) → 1 ≤ most
+    → ChangeGood src top depth (if ltb most depth then Change.Leave else Change.Keep)
+left-good src top most depth h =
+    choice (ChangeGood src top depth) (ltb most depth) _ _ (λ e. omega (arith, ltb-true most depth e)) (λ e. tt)
 
-  pub initial-ways : (xs : List ℕ) → n + length xs ≡ length src → Way (initial end n xs)
+module _ {src : List ℕ} {n : ℕ} (a : Asked src n) (end : Bool) where
+  pub initial-ways : isScripting (a .top) ≡ false → (xs : List ℕ) → n + length xs ≡ length src
+      → Ways a (initial end n xs)
   unfolding initial inlined
-  initial-ways xs h = go (tagged end n xs) (rw h at (tagged-within end n xs))
+  initial-ways e xs h = go (tagged end n xs) (rw h at (tagged-within end n xs))
     where
-      go : (t : Tagged) → TaggedInside n (length src) t → Way (inlined n xs t)
+      go : (t : Tagged) → TaggedInside n (length src) t → Ways a (inlined n xs t)
       go (Tagged.At kind place) i =
           told-ways a
           (parted-inside n (length src) inlineHtml (place + tagLength kind) (take (place - n) xs) _ (i .low)
           (omega arith) (omega arith)
           (omega (arith, take-length (place - n) xs, take-length (tagLength kind) (drop (place - n) xs), i .low))
           (i .high))
-          (λ g. scripting-in src)
+          (parted-few inlineHtml n (take (place - n) xs) _)
+          (λ g. scripting-in src (a .top) e)
           (λ g. omega (arith, i .low, tag-some kind))
       go Tagged.Over i =
           record {
@@ -92,8 +101,15 @@ module _ {src : List ℕ} {n : ℕ} (a : Asked src n) (end : Bool) where
             stack = λ g. tt;
             on = λ g. tt;
             still = refl;
+            few = omega arith;
+            numbers = tt;
           }
       go Tagged.Undecided i = waits a
+
+module _ {src : List ℕ} {n : ℕ} (a : Asked src n) (top : isScripting (a .top) ≡ true)
+    (step : a .numbers ≡ stepNumbers) (end : Bool) where
+  abbrev Way : Outcome → Type 0
+  Way o = Ways a o
 
   -- one byte is passed
   sign : n < length src → Way (Outcome.Told [] (suc n) Change.Keep false)
@@ -112,10 +128,11 @@ module _ {src : List ℕ} {n : ℕ} (a : Asked src n) (end : Bool) where
   word-ways Run.Undecided size y x = waits a
 
   closeTag-ways : (xs : List ℕ) → suc n + length xs ≤ length src → Way (closeTag end n xs)
-  unfolding closeTag isFrame isBottom
+  unfolding closeTag isFrame isBottom isScripting
   closeTag-ways [] y = ending-ways a end (sign (omega arith))
   closeTag-ways (b ∷ xs) y =
-      if-ways a (b is ">") _ _ (goes-ways a (omega arith) (omega arith) (λ g. record { good = refl; bottom = refl }))
+      if-ways a (b is ">") _ _
+      (goes-ways a (omega arith) (omega arith) (λ g. record { good = refl; bottom = refl; other = rw top }))
       (sign (omega arith))
 
   opened-ways : n < length src → Way (opened n (opening end (suc n) (drop (suc n) src)))
@@ -125,7 +142,7 @@ module _ {src : List ℕ} {n : ℕ} (a : Asked src n) (end : Bool) where
       go : (o : Opening) → OpeningInside (suc n) (drop (suc n) src) o → Way (opened n o)
       go (Opening.Block kind start len after) i =
           goes-ways a (omega (arith, i .low, i .behind)) (omega (arith, i .inside, length-drop (suc n) src))
-          (λ g. doc-in src kind _ (label-good src (suc n) start len after (omega arith) i))
+          (λ g. doc-in src (a .top) top kind _ (label-good src (suc n) start len after (omega arith) i))
       go Opening.Other i = sign h
       go Opening.Undecided i = waits a
 
@@ -134,7 +151,7 @@ module _ {src : List ℕ} {n : ℕ} (a : Asked src n) (end : Bool) where
   commentAt-ways : (kind : CommentKind) (k : ℕ) (xs rest : List ℕ) → 1 ≤ k → k + length rest ≤ length xs
       → n + length xs ≤ length src
       → Way (commentAt kind k end n xs rest)
-  unfolding commented endless
+  unfolding commented endless isAmong
   commentAt-ways kind k xs rest s h y =
       go kind (commentEnd kind end k rest) (commentEnd-inside kind end k (length xs) rest h)
     where
@@ -142,7 +159,7 @@ module _ {src : List ℕ} {n : ℕ} (a : Asked src n) (end : Bool) where
       go kind (CommentEnd.At j) x =
           token-ways a comment (j + endTaken kind) xs (omega (arith, x .0)) (omega (arith, x .1)) (λ g. tt)
       go CommentKind.SingleLine CommentEnd.Over x = token-ways a comment (length xs) xs (omega arith) y (λ g. tt)
-      go CommentKind.MultiLine CommentEnd.Over x = fault-ways a refl (omega arith) y
+      go CommentKind.MultiLine CommentEnd.Over x = fault-ways a (rw step refl) (omega arith) y
       go kind CommentEnd.Undecided x = waits a
 
   pub slash-ways : (xs rest : List ℕ) → 1 + length rest ≤ length xs → n + length xs ≤ length src
@@ -163,22 +180,32 @@ module _ {src : List ℕ} {n : ℕ} (a : Asked src n) (end : Bool) where
 
   -- ---- the table
 
-  quoted-ways : (m : Mode) (kind : ℕ) (xs : List ℕ) → suc n + length xs ≡ length src
+  quoted-ways : (m : Mode) → every (λ k. isAmong k stepNumbers) (faults m) ≡ true → (kind : ℕ) (xs : List ℕ)
+      → suc n + length xs ≡ length src
       → Way (literal kind n (unit.textAt m [] end (suc n) xs))
-  quoted-ways m kind xs h =
-      literal-ways a kind (suc n) (unit.textAt m [] end (suc n) xs) (omega arith) (λ g. omega arith)
+  quoted-ways m may kind xs h =
+      literal-ways a top kind (suc n) (faults m) (rw step may) (unit.textAt m [] end (suc n) xs) (omega arith)
+      (λ g. omega arith)
       (rw h at (unit-inside.text-inside m [] end (suc n) xs))
 
   pub scripting-ways : (xs : List ℕ) → drop n src ≡ xs → n + length xs ≡ length src
       → Way (scripting (a .depth) end n xs)
-  unfolding scripting isFrame isBottom
+  unfolding scripting isFrame isBottom isScripting isAmong every
   scripting-ways [] e y =
       ending-ways a end
-      (record { lies = goes-inside n (length src) n (omega arith) (a .inside); stack = λ g. tt; on = λ g. tt; still = refl })
+      (record {
+        lies = goes-inside n (length src) n (omega arith) (a .inside);
+        stack = λ g. tt;
+        on = λ g. tt;
+        still = refl;
+        few = omega arith;
+        numbers = tt;
+      })
   scripting-ways (b ∷ xs) e y =
-      if-ways a (b is "'") _ _ (quoted-ways Mode.Single _ xs (omega arith))
-      (if-ways a (b is "\"") _ _ (quoted-ways Mode.Double _ xs (omega arith))
-      (if-ways a (b is "`") _ _ (goes-ways a (omega arith) (omega arith) (λ g. record { good = refl; bottom = refl }))
+      if-ways a (b is "'") _ _ (quoted-ways Mode.Single refl _ xs (omega arith))
+      (if-ways a (b is "\"") _ _ (quoted-ways Mode.Double refl _ xs (omega arith))
+      (if-ways a (b is "`") _ _
+      (goes-ways a (omega arith) (omega arith) (λ g. record { good = refl; bottom = refl; other = rw top }))
       (choice Way (isDigit b) _ _ (λ f. numbered-ways a end (b ∷ xs) (omega arith) (λ g. digit-passes end n b xs f))
       (λ f.
       if-ways a (b is ".") _ _ (point-ways xs (omega arith))
@@ -186,15 +213,12 @@ module _ {src : List ℕ} {n : ℕ} (a : Asked src n) (end : Bool) where
       (word-ways (named end 1 xs) (suc (length xs)) (omega arith)
       (named-inside end 1 (suc (length xs)) xs (omega arith)))
       (if-ways a (b is "{") _ _ (goes-ways a (omega arith) (omega arith) (λ g. refl))
-      (if-ways a (b is "}") _ _ (goes-ways a (omega arith) (omega arith) (λ g. left))
+      (if-ways a (b is "}") _ _ (goes-ways a (omega arith) (omega arith) (λ g. left-good src (a .top) _ (a .depth) (omega arith)))
       (if-ways a (b is "?") _ _ (closeTag-ways xs (omega arith))
       (if-ways a (b is "<") _ _ (rw behind at (opened-ways (omega arith)))
       (if-ways a (b is "/") _ _ (slash-ways (b ∷ xs) xs (omega arith) (omega arith))
       (if-ways a (b is "#") _ _ (hash-ways (b ∷ xs) xs (omega arith) (omega arith)) (sign (omega arith)))))))))))))
     where
-      left : ChangeGood src (a .depth) (if ltb 1 (a .depth) then Change.Leave else Change.Keep)
-      left = choice (ChangeGood src (a .depth)) (ltb 1 (a .depth)) _ _ (λ g. ltb-true 1 (a .depth) g) (λ g. tt)
-
       behind : drop (suc n) src ≡ xs
       behind =
           let k : suc n ≡ n + 1 = omega arith in

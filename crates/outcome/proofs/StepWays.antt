@@ -1,18 +1,22 @@
 -- Every outcome of a step and of a reading lies between the cursor and the end of the source; so positions never fall,
--- and a step has no more value bytes than it passes. The mode stack stays good, and a step that is done goes on.
+-- and a step has no more value bytes than it passes. The mode stack stays good, a step that is done goes on, at most
+-- two pieces are told, and what is refused is one of the call's own refusals.
+--   callNumbers    what each call may refuse of itself
 --   framed-ways    of any frame's routine
 --   callAt-ways, call-ways   of the step and the three readings; `call-inside` says where it lies
 --   Room, Limited, limited-room   with the limit of 64 frames there is room for the frame that is entered
 -- Assumes nothing.
 use Prim.Native.Nat.{ℕ, _+_, _≤_, _<_}
 use mathlib.Core.Path.{_≡_, refl}
-use mathlib.Core.Bool.{Bool, true, false}
-use mathlib.Core.List.{List, []}
+use mathlib.Core.Bool.{Bool, true, false, not}
+use mathlib.Core.List.{List, [], _∷_}
 use native.Mathlib.Omega.{arith}
-use lib.Dec.{ltb}
+use lib.Dec.{eqb, ltb}
 use lib.ListN.{length, drop, length-take, length-drop}
 use borrow.Author.Tests.{ltb-true}
-use Rattle.byte.specs.Refusals.{stackFull}
+use Rattle.byte.specs.Refusals.{unexpectedEndOfFile, invalidUnicodeEscape, invalidOctalEscape, wait}
+use Rattle.byte.specs.Refusals.{stackFull, outOfPlace, isAmong}
+use Rattle.byte.specs.Words.{every}
 use Rattle.byte.proofs.Tests.{choice}
 use Rattle.state.specs.declared.Frame.{Frame}
 use Rattle.state.specs.declared.Label.{Label}
@@ -25,19 +29,18 @@ use Rattle.token.specs.Kinds.{literalSingleQuotedString, literalDoubleQuotedStr
 use Rattle.unit.specs.declared.Mode.{Mode}
 use Rattle.unit.specs.Readings as unit
 use Rattle.unit.proofs.Inside as unit-inside
-use Rattle.unit.proofs.Stands.{isLiteral}
-use Rattle.sheet.proofs.Inside.{sheet-inside, sheet-moves}
+use Rattle.unit.proofs.Stands.{isLiteral, faults}
+use Rattle.number.specs.Numbers as number
+use Rattle.sheet.proofs.Inside.{sheetFaults, sheet-inside, sheet-moves, sheet-stops}
 use Rattle.outcome.specs.declared.Call.{Call}
 use Rattle.outcome.specs.declared.Change.{Change}
 use Rattle.outcome.specs.Outcomes.{Outcome, limited}
 use Rattle.outcome.specs.Insides.{Inside}
-use Rattle.outcome.specs.Texts.{literal}
-use Rattle.outcome.specs.Steps.{textMode, nowdoc, framed, topFrame, scripted, callAt, callOutcome}
-use Rattle.outcome.proofs.Ways.{Asked, Ways, if-ways, fault-ways, texted-ways, literal-ways, numbered-ways}
-use Rattle.outcome.proofs.Ways.{lookingForVarname-ways, lookingForProperty-ways, varOffset-ways}
+use Rattle.outcome.specs.Texts.{isLeft, literal, numbered}
+use Rattle.outcome.specs.Steps.{textMode, nowdoc, framed, topFrame, scripted, callAt, rest, callOutcome}
+use Rattle.outcome.proofs.Ways.{Asked, stepNumbers, Ways, fault-ways, texted-ways, literal-ways}
+use Rattle.outcome.proofs.Ways.{numbered-ways, lookingForVarname-ways, lookingForProperty-ways, varOffset-ways}
 use Rattle.outcome.proofs.ScriptWays.{initial-ways, scripting-ways}
-
--- ---- any frame
 
 pub label-some : (src : List ℕ) (l : Label) → isLabel src l ≡ true → 0 < length (labelBytes src l)
 label-some src l e =
@@ -49,6 +52,45 @@ pub record TopGood (src : List ℕ) (f : Frame) (depth : ℕ) : Type 0 where
   pub frame : isFrame src f ≡ true
   pub deep : isBottom f ≡ false → 2 ≤ depth
 
+-- ---- what is asked
+
+-- a reading's cursor may stay
+abbrev pub Moving : Call → List ℕ → Frame → ℕ → Type 0
+Moving Call.Step src f depth = TopGood src f depth
+Moving Call.Number src f depth = ⊥
+Moving Call.Single src f depth = ⊥
+Moving Call.Double src f depth = ⊥
+
+-- what a call may refuse of itself
+abbrev pub callNumbers : Call → List ℕ
+callNumbers Call.Step = stepNumbers
+callNumbers Call.Number = outOfPlace ∷ []
+callNumbers Call.Single = outOfPlace ∷ unexpectedEndOfFile ∷ []
+callNumbers Call.Double = outOfPlace ∷ unexpectedEndOfFile ∷ invalidUnicodeEscape ∷ invalidOctalEscape ∷ []
+
+-- the wait is none of them
+pub callNumbers-others : (call : Call) → every (λ k. not (eqb k wait)) (callNumbers call) ≡ true
+unfolding every
+callNumbers-others Call.Step = refl
+callNumbers-others Call.Number = refl
+callNumbers-others Call.Single = refl
+callNumbers-others Call.Double = refl
+
+module _ (src : List ℕ) (depth n : ℕ) (h : n ≤ length src) (f : Frame) where
+  abbrev pub calledBy : Call → Asked src n
+  calledBy call =
+      record {
+        inside = h;
+        top = f;
+        depth = depth;
+        Good = TopGood src f depth;
+        Moving = Moving call src f depth;
+        numbers = callNumbers call;
+        others = callNumbers-others call;
+      }
+
+-- ---- any frame
+
 whole : (src : List ℕ) (n : ℕ) → n ≤ length src → n + length (drop n src) ≡ length src
 whole src n h = omega (arith, length-drop n src)
 
@@ -57,38 +99,42 @@ module _ (src : List ℕ) (depth n : ℕ) (end : Bool) (h : n ≤ length src) wh
   left = drop n src
 
   abbrev pub asked : Frame → Asked src n
-  asked f = record { inside = h; top = f; depth = depth; Good = TopGood src f depth; Moving = TopGood src f depth }
+  asked f = calledBy src depth n h f Call.Step
 
-  textMode-ways : (f : Frame) (m : Mode) → isLiteral m ≡ false → (label : List ℕ)
-      → Ways (asked f) (textMode m label end n left)
+  textMode-ways : (f : Frame) → isScripting f ≡ false → (m : Mode) → isLiteral m ≡ false
+      → every (λ k. isAmong k stepNumbers) (faults m) ≡ true
+      → (label : List ℕ) → Ways (asked f) (textMode m label end n left)
   unfolding textMode
-  textMode-ways f m moving label =
-      texted-ways (asked f) m left _ (rw (whole src n h) at (unit-inside.text-inside m label end n left))
+  textMode-ways f e m moving may label =
+      texted-ways (asked f) e m left (faults m) may _
+      (rw (whole src n h) at (unit-inside.text-inside m label end n left))
+      (unit-inside.text-stops m label end n left moving)
       (λ g. unit-inside.text-moves m label end n left moving)
 
   pub framed-ways : (f : Frame) (choices : Choices) → Ways (asked f) (framed f src choices depth end n left)
-  unfolding framed nowdoc isBottom isFrame
-  framed-ways Frame.Initial choices = initial-ways (asked Frame.Initial) end left (whole src n h)
-  framed-ways Frame.Scripting choices = scripting-ways (asked Frame.Scripting) end left refl (whole src n h)
-  framed-ways Frame.DoubleQuote choices = textMode-ways Frame.DoubleQuote Mode.DoubleQuote refl []
-  framed-ways Frame.ShellExec choices = textMode-ways Frame.ShellExec Mode.ShellExec refl []
+  unfolding framed nowdoc isBottom isFrame isScripting isAmong every
+  framed-ways Frame.Initial choices = initial-ways (asked Frame.Initial) end refl left (whole src n h)
+  framed-ways Frame.Scripting choices = scripting-ways (asked Frame.Scripting) refl refl end left refl (whole src n h)
+  framed-ways Frame.DoubleQuote choices = textMode-ways Frame.DoubleQuote refl Mode.DoubleQuote refl refl []
+  framed-ways Frame.ShellExec choices = textMode-ways Frame.ShellExec refl Mode.ShellExec refl refl []
   framed-ways (Frame.Heredoc label) choices =
-      textMode-ways (Frame.Heredoc label) Mode.Heredoc refl (labelBytes src label)
+      textMode-ways (Frame.Heredoc label) refl Mode.Heredoc refl refl (labelBytes src label)
   framed-ways (Frame.Nowdoc label) choices = nowdoc-ways (choices .nowdocs)
     where
       nowdoc-ways : (reading : Reading) → Ways (asked (Frame.Nowdoc label)) (nowdoc reading (labelBytes src label) end n left)
-      nowdoc-ways Reading.Ported = textMode-ways (Frame.Nowdoc label) Mode.Nowdoc refl (labelBytes src label)
+      nowdoc-ways Reading.Ported = textMode-ways (Frame.Nowdoc label) refl Mode.Nowdoc refl refl (labelBytes src label)
       nowdoc-ways Reading.Sheet =
-          texted-ways (asked (Frame.Nowdoc label)) Mode.Nowdoc left _
+          texted-ways (asked (Frame.Nowdoc label)) refl Mode.Nowdoc left sheetFaults refl _
           (rw (whole src n h) at (sheet-inside (labelBytes src label) end n left))
+          (sheet-stops (labelBytes src label) end n left)
           (λ g. sheet-moves (labelBytes src label) end n left (label-some src label (g .frame)))
   framed-ways Frame.LookingForVarname choices =
       lookingForVarname-ways (asked Frame.LookingForVarname) end refl left (omega (arith, whole src n h))
   framed-ways Frame.LookingForProperty choices =
-      lookingForProperty-ways (asked Frame.LookingForProperty) end (λ g. g .deep refl) left
+      lookingForProperty-ways (asked Frame.LookingForProperty) end refl (λ g. g .deep refl) left
       (omega (arith, whole src n h))
   framed-ways Frame.VarOffset choices =
-      varOffset-ways (asked Frame.VarOffset) end (λ g. g .deep refl) left (omega (arith, whole src n h))
+      varOffset-ways (asked Frame.VarOffset) end refl (λ g. g .deep refl) left (omega (arith, whole src n h))
 
 -- ---- the limit of 64 frames
 
@@ -121,46 +167,79 @@ limited-room depth n o = limited-either (Limited depth) depth n o tt (λ r. r)
 
 -- ---- the step and the readings
 
--- a reading's cursor may stay
-abbrev pub Moving : Call → List ℕ → Frame → ℕ → Type 0
-Moving Call.Step src f depth = TopGood src f depth
-Moving Call.Number src f depth = ⊥
-Moving Call.Single src f depth = ⊥
-Moving Call.Double src f depth = ⊥
-
 module _ (src : List ℕ) (depth n : ℕ) (end : Bool) (h : n ≤ length src) (f : Frame) where
-  abbrev pub calledBy : Call → Asked src n
-  calledBy call =
-      record { inside = h; top = f; depth = depth; Good = TopGood src f depth; Moving = Moving call src f depth }
+  abbrev by : Call → Asked src n
+  by call = calledBy src depth n h f call
 
-  scripted-ways : (call : Call) (o : Outcome) → Ways (calledBy call) o → Ways (calledBy call) (scripted f n o)
-  scripted-ways call o w = if-ways (calledBy call) (isScripting f) o _ w (fault-ways _ refl (omega arith) h)
+  scripted-ways : (call : Call) → isAmong outOfPlace (callNumbers call) ≡ true → (o : Outcome)
+      → (isScripting f ≡ true → Ways (by call) o) → Ways (by call) (scripted f n o)
+  scripted-ways call e o w = choice (Ways (by call)) (isScripting f) o _ w (λ t. fault-ways _ e (omega arith) h)
 
   string-ways : (call : Call) → (Moving call src f depth → ⊥) → (kind : ℕ) (m : Mode)
-      → Ways (calledBy call) (literal kind n (unit.textAt m [] end n (drop n src)))
-  string-ways call stays kind m =
-      literal-ways (calledBy call) kind n (unit.textAt m [] end n (drop n src)) (omega arith) (λ g. absurd (stays g))
-      (rw (whole src n h) at (unit-inside.text-inside m [] end n (drop n src)))
+      → every (λ k. isAmong k (callNumbers call)) (faults m) ≡ true → isScripting f ≡ true
+      → Ways (by call) (literal kind n (unit.textAt m [] end n (drop n src)))
+  string-ways call stays kind m may top =
+      literal-ways (by call) top kind n (faults m) may (unit.textAt m [] end n (drop n src)) (omega arith)
+      (λ g. absurd (stays g)) (rw (whole src n h) at (unit-inside.text-inside m [] end n (drop n src)))
 
   pub callAt-ways : (call : Call) (choices : Choices)
-      → Ways (calledBy call) (callAt call f src choices depth end n (drop n src))
-  unfolding callAt
+      → Ways (calledBy src depth n h f call) (callAt call f src choices depth end n (drop n src))
+  unfolding callAt isAmong every
   callAt-ways Call.Step choices = framed-ways src depth n end h f choices
   callAt-ways Call.Number choices =
-      scripted-ways Call.Number _
-      (numbered-ways (calledBy Call.Number) end (drop n src) (omega (arith, length-drop n src)) (λ g. absurd g))
+      scripted-ways Call.Number refl _
+      (λ t. numbered-ways (by Call.Number) end (drop n src) (omega (arith, length-drop n src)) (λ g. absurd g))
   callAt-ways Call.Single choices =
-      scripted-ways Call.Single _ (string-ways Call.Single (λ g. g) literalSingleQuotedString Mode.Single)
+      scripted-ways Call.Single refl _ (string-ways Call.Single (λ g. g) literalSingleQuotedString Mode.Single refl)
   callAt-ways Call.Double choices =
-      scripted-ways Call.Double _ (string-ways Call.Double (λ g. g) literalDoubleQuotedString Mode.Double)
+      scripted-ways Call.Double refl _ (string-ways Call.Double (λ g. g) literalDoubleQuotedString Mode.Double refl)
+
+-- a reading enters no frame, so the limit says nothing of it
+module _ (depth n : ℕ) where
+  abbrev Free : Outcome → Type 0
+  Free o = limited depth n o ≡ o
+
+  scripted-free : (f : Frame) (o : Outcome) → Free o → Free (scripted f n o)
+  unfolding limited
+  scripted-free f o x = choice Free (isScripting f) o _ (λ e. x) (λ e. refl)
+
+  literal-free : (kind place : ℕ) (r : unit.Reading) → Free (literal kind place r)
+  unfolding limited literal
+  literal-free kind place (unit.Text value stop from after) = choice Free (isLeft stop) _ _ (λ e. refl) (λ e. refl)
+  literal-free kind place (unit.Refused number fault) = refl
+  literal-free kind place unit.Wait = refl
+
+  numbered-free : (place : ℕ) (r : number.Reading) → Free (numbered place r)
+  unfolding limited numbered
+  numbered-free place (number.Reading.Number literal value after) = refl
+  numbered-free place number.Reading.Wait = refl
+
+module _ (src : List ℕ) (end : Bool) (s : Session) (h : s .position ≤ length src) where
+  -- what the limit is put on
+  abbrev before : Call → Outcome
+  before call = callAt call (topFrame s) src (s .choices) (s .depth) end (s .position) (rest src s)
+
+  abbrev LimitedWays : Call → Type 0
+  LimitedWays call =
+      Ways (calledBy src (s .depth) (s .position) h (topFrame s) call) (callOutcome call src end s)
+
+  free-ways : (call : Call) → Free (s .depth) (s .position) (before call) → LimitedWays call
+  unfolding callOutcome
+  free-ways call e = rw e (callAt-ways src (s .depth) (s .position) end h (topFrame s) call (s .choices))
+
+  limited-ways : (call : Call) → LimitedWays call
+  unfolding callOutcome callAt isAmong
+  limited-ways Call.Step =
+      limited-either (Ways (calledBy src (s .depth) (s .position) h (topFrame s) Call.Step)) (s .depth) (s .position) _
+      (fault-ways _ refl (omega arith) h)
+      (λ r. callAt-ways src (s .depth) (s .position) end h (topFrame s) Call.Step (s .choices))
+  limited-ways Call.Number = free-ways Call.Number (scripted-free _ _ _ _ (numbered-free _ _ _ _))
+  limited-ways Call.Single = free-ways Call.Single (scripted-free _ _ _ _ (literal-free _ _ _ _ _))
+  limited-ways Call.Double = free-ways Call.Double (scripted-free _ _ _ _ (literal-free _ _ _ _ _))
 
 module _ (call : Call) (src : List ℕ) (end : Bool) (s : Session) (h : s .position ≤ length src) where
-  pub call-ways : Ways (calledBy src (s .depth) (s .position) end h (topFrame s) call) (callOutcome call src end s)
-  unfolding callOutcome
-  call-ways =
-      limited-either (Ways (calledBy src (s .depth) (s .position) end h (topFrame s) call)) (s .depth) (s .position) _
-      (fault-ways _ refl (omega arith) h)
-      (λ r. callAt-ways src (s .depth) (s .position) end h (topFrame s) call (s .choices))
+  pub call-ways : Ways (calledBy src (s .depth) (s .position) h (topFrame s) call) (callOutcome call src end s)
+  call-ways = limited-ways src end s h call
 
   pub call-inside : Inside (s .position) (length src) (callOutcome call src end s)
   call-inside = call-ways .lies

@@ -25,14 +25,14 @@ use Rattle.unit.specs.Readings as unit
 use Rattle.unit.proofs.Stays.{Stays}
 use Rattle.unit.proofs.Inside as within
 use Rattle.unit.proofs.Demand.{ending, text-stays, text-endings, text-never-waits}
-use Rattle.unit.proofs.Stands.{isLiteral}
+use Rattle.unit.proofs.Stands.{isLiteral, faults}
 use Rattle.unit.proofs.Readings.{StandsReading, text-stands}
 use Rattle.number.specs.declared.Literal as kind
 use Rattle.number.specs.Numbers as number
 use Rattle.number.proofs.Values.{numberAt-ends}
 use Rattle.number.proofs.Waiting.{number-waits}
 use Rattle.sheet.specs.Sheets.{sheetAt}
-use Rattle.sheet.proofs.Inside.{sheet-inside}
+use Rattle.sheet.proofs.Inside.{sheetFaults, sheet-inside}
 use Rattle.sheet.proofs.Demand.{sheet-stays, sheet-endings, sheet-never-waits}
 use Rattle.outcome.specs.declared.Change.{Change}
 use Rattle.outcome.specs.Outcomes.{Piece, Outcome, piece, limited}
@@ -59,13 +59,14 @@ texted-wait m n xs (unit.Text value stop from after) e = told-waits e
 texted-wait m n xs (unit.Refused number place) e = refused-waits e
 texted-wait m n xs unit.Wait e = refl
 
-texted-append : (m : Mode) (n : ℕ) (part rest : List ℕ) (r : unit.Reading) → within.InsideReading n (n + length part) r
+texted-append : (numbers : List ℕ) (m : Mode) (n : ℕ) (part rest : List ℕ) (r : unit.Reading)
+    → within.InsideReading numbers n (n + length part) r
     → texted m n (part ++ rest) r ≡ texted m n part r
 unfolding texted
-texted-append m n part rest (unit.Text value stop from after) x =
+texted-append numbers m n part rest (unit.Text value stop from after) x =
     rw (slice-append n part rest from after (omega (arith, x .narrow)) (x .order) (x .inside))
-texted-append m n part rest (unit.Refused number place) x = refl
-texted-append m n part rest unit.Wait x = refl
+texted-append numbers m n part rest (unit.Refused number place) x = refl
+texted-append numbers m n part rest unit.Wait x = refl
 
 -- what an outcome tells of the reading's ending
 abbrev ended : Outcome → unit.Reading
@@ -88,7 +89,8 @@ texted-ended p m n xs unit.Wait = refl
 
 -- what demand 3 asks of a reading from n on
 pub record Reads (n : ℕ) (read : Bool → List ℕ → unit.Reading) : Type 0 where
-  pub inside : (part : List ℕ) → within.InsideReading n (n + length part) (read false part)
+  pub numbers : List ℕ
+  pub inside : (part : List ℕ) → within.InsideReading numbers n (n + length part) (read false part)
   pub stays : (part : List ℕ) → (read false part ≡ unit.Wait → ⊥) → (rest : List ℕ) → read true (part ++ rest) ≡ read false part
   pub endings : (p : ℕ) (part : List ℕ) → read false part ≡ unit.Wait → Apart (λ xs. ending p (read true xs)) part
   pub told : (xs : List ℕ) → read true xs ≡ unit.Wait → ⊥
@@ -99,7 +101,7 @@ module _ (m : Mode) (n : ℕ) (read : Bool → List ℕ → unit.Reading) (h : R
   unfolding texted
   texted-stays part rest k =
       ap (texted m n (part ++ rest)) (h .stays part (λ z. k (ap (texted m n part) z)) rest)
-      ∙ texted-append m n part rest (read false part) (h .inside part)
+      ∙ texted-append (h .numbers) m n part rest (read false part) (h .inside part)
 
   texted-demands : (p : ℕ) → Demands p (λ end xs. texted m n xs (read end xs))
   texted-demands p =
@@ -117,6 +119,7 @@ unfolding textMode
 textMode-demands m label h n p =
     texted-demands m n (λ end. unit.textAt m label end n)
     (record {
+      numbers = faults m;
       inside = within.text-inside m label false n;
       stays = text-stays m label h n;
       endings = text-endings m label h n;
@@ -131,6 +134,7 @@ nowdoc-demands label h n p state.Reading.Ported = textMode-demands Mode.Nowdoc l
 nowdoc-demands label h n p state.Reading.Sheet =
     texted-demands Mode.Nowdoc n (λ end. sheetAt label end n)
     (record {
+      numbers = sheetFaults;
       inside = sheet-inside label false n;
       stays = sheet-stays label h n;
       endings = sheet-endings label h n;
@@ -158,26 +162,27 @@ module _ (form place : ℕ) where
   entered : {A : Type 0} → true ≡ false → A
   entered e = absurd (false≢true (sym e))
 
-  literal-ended : (p n hi : ℕ) (xs : List ℕ) (r : unit.Reading) → StandsReading true n hi xs r
+  literal-ended : (m : Mode) → isLiteral m ≡ true → (p n hi : ℕ) (xs : List ℕ) (r : unit.Reading)
+      → StandsReading m n hi xs r
       → ended (closed p (literal form place r)) ≡ ending p r
   unfolding literal isLeft limited
-  literal-ended p n hi xs (unit.Text value Stop.Quote from after) x = refl
-  literal-ended p n hi xs (unit.Text value Stop.Interpolation from after) x = refl
-  literal-ended p n hi xs (unit.Text value Stop.DollarLeftBrace from after) x = entered (x .keeps refl)
-  literal-ended p n hi xs (unit.Text value Stop.LeftBrace from after) x = entered (x .keeps refl)
-  literal-ended p n hi xs (unit.Text value (Stop.Variable Follow.Other) from after) x = refl
-  literal-ended p n hi xs (unit.Text value (Stop.Variable Follow.Offset) from after) x = entered (x .keeps refl)
-  literal-ended p n hi xs (unit.Text value (Stop.Variable Follow.Property) from after) x = entered (x .keeps refl)
-  literal-ended p n hi xs (unit.Text value (Stop.Label ind amount) from after) x = refl
-  literal-ended p n hi xs (unit.Refused number fault) x = refl
-  literal-ended p n hi xs unit.Wait x = refl
+  literal-ended m l p n hi xs (unit.Text value Stop.Quote from after) x = refl
+  literal-ended m l p n hi xs (unit.Text value Stop.Interpolation from after) x = refl
+  literal-ended m l p n hi xs (unit.Text value Stop.DollarLeftBrace from after) x = entered (x .keeps l)
+  literal-ended m l p n hi xs (unit.Text value Stop.LeftBrace from after) x = entered (x .keeps l)
+  literal-ended m l p n hi xs (unit.Text value (Stop.Variable Follow.Other) from after) x = refl
+  literal-ended m l p n hi xs (unit.Text value (Stop.Variable Follow.Offset) from after) x = entered (x .keeps l)
+  literal-ended m l p n hi xs (unit.Text value (Stop.Variable Follow.Property) from after) x = entered (x .keeps l)
+  literal-ended m l p n hi xs (unit.Text value (Stop.Label ind amount) from after) x = refl
+  literal-ended m l p n hi xs (unit.Refused number fault) x = refl
+  literal-ended m l p n hi xs unit.Wait x = refl
 
   -- a literal has no label
   module _ (m : Mode) (l : isLiteral m ≡ true) (h : Labelled m []) (n : ℕ) where
     read-ended : (p : ℕ) (xs : List ℕ)
         → ended (closed p (literal form place (unit.textAt m [] true n xs))) ≡ ending p (unit.textAt m [] true n xs)
     read-ended p xs =
-        literal-ended p n (n + length xs) xs (unit.textAt m [] true n xs) (rw l at (text-stands m [] true n xs))
+        literal-ended m l p n (n + length xs) xs (unit.textAt m [] true n xs) (text-stands m [] true n xs)
 
     pub literal-demands : (p : ℕ) → Demands p (λ end xs. literal form place (unit.textAt m [] end n xs))
     unfolding literal

@@ -1,4 +1,4 @@
--- Where an outcome lies between the cursor n and the end of the source, hi; every one of a step does (`step-inside`).
+-- Where an outcome lies between the cursor n and the end of the source, hi; every one of a step does (`call-inside`).
 --   PieceInside, AllInside   each piece bears a place from the one before on, up to the place after; its detail is no larger
 --   ToldInside               the place after is not before the cursor; there are no more value bytes than were passed
 --   Inside                   an outcome; a refusal is not the wait, and its place is not before the cursor

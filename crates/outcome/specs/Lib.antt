@@ -7,3 +7,4 @@ pub mod Comments
 pub mod Scripts
 pub mod Steps
 pub mod Insides
+pub mod Manual

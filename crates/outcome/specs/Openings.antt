@@ -2,16 +2,20 @@
 -- its run is looked at no further than the 65th. n is the position of the text's head, `end` says that the text is all there.
 --   docBreak, lineFeed   after the label: LF, or CR and LF
 --   docQuote             after a label in quotes
+--   longestLabel         how many bytes a label may have
 --   docName, docStart    in the label, so long already; at its first byte
 --   docLabel             after `<<<`
 --   opening              after the first `<`
 --   opened               what contracts cite: the step at that `<`
-use Prim.Native.Nat.{ℕ, suc}
-use mathlib.Core.Bool.{Bool, true}
-use mathlib.Core.List.{List, [], _∷_}
+--   OpeningRow           the row itself, as a text; `opening-row` (proofs/Rows.antt) says that a block opens exactly at such a text
+use Prim.Native.Nat.{ℕ, suc, _≤_}
+use mathlib.Core.Bool.{Bool, true, false, _&&_}
+use mathlib.Core.List.{List, [], _∷_, _++_}
+use mathlib.Core.Logic.{_⊎_}
 use mathlib.Core.Path.{_≡_, refl}
 use lib.Dec.{ltb}
-use Rattle.byte.specs.Words.{if_then_else_, _is_, bytes}
+use lib.ListN.{length}
+use Rattle.byte.specs.Words.{if_then_else_, _is_, every, bytes}
 use Rattle.byte.specs.Bytes.{isStart, isIdentifier, isLetter, isDigit}
 use Rattle.state.specs.declared.Frame.{Frame}
 use Rattle.state.specs.declared.Label.{Label}
@@ -19,6 +23,10 @@ use Rattle.outcome.specs.declared.Change.{Change}
 use Rattle.outcome.specs.declared.DocStringKind.{DocStringKind}
 use Rattle.outcome.specs.declared.Opening.{Opening}
 use Rattle.outcome.specs.Outcomes.{Outcome, goes}
+
+-- how many bytes a label may have
+abbrev pub longestLabel : ℕ
+longestLabel = 64
 
 -- nothing is left
 abbrev pub lastOpening : Bool → Opening
@@ -45,7 +53,7 @@ docEnd DocStringKind.Nowdoc start len end n xs = docQuote start len end n xs
 unfoldable pub docName : DocStringKind → ℕ → ℕ → Bool → ℕ → List ℕ → Opening
 docName kind start len end n [] = lastOpening end
 docName kind start len end n (b ∷ rest) =
-    if isIdentifier b then (if ltb len 64 then docName kind start (suc len) end (suc n) rest else Opening.Other)
+    if isIdentifier b then (if ltb len longestLabel then docName kind start (suc len) end (suc n) rest else Opening.Other)
     else docEnd kind start len end n (b ∷ rest)
 
 unfoldable pub docStart : DocStringKind → Bool → ℕ → List ℕ → Opening
@@ -74,6 +82,26 @@ unfoldable pub opened : ℕ → Opening → Outcome
 opened n (Opening.Block kind start len after) = goes after (Change.Swap (docFrame kind (record { start = start; len = len })))
 opened n Opening.Other = goes (suc n) Change.Keep
 opened n Opening.Undecided = Outcome.Wait
+
+-- an identifier
+unfoldable pub isName : List ℕ → Bool
+isName [] = false
+isName (b ∷ rest) = isStart b && every isIdentifier rest
+
+unfoldable pub quotes : DocStringKind → List ℕ
+quotes DocStringKind.Heredoc = []
+quotes DocStringKind.Nowdoc = bytes "'"
+
+-- after its first `<`, a label and what follows it
+abbrev pub labelled : DocStringKind → List ℕ → List ℕ → List ℕ
+labelled kind label rest = bytes "<<" ++ (quotes kind ++ (label ++ rest))
+
+-- `more` is the text after the break
+pub record OpeningRow (kind : DocStringKind) (label newline more xs : List ℕ) : Type 0 where
+  pub text : xs ≡ labelled kind label (quotes kind ++ (newline ++ more))
+  pub name : isName label ≡ true
+  pub most : length label ≤ 64
+  pub lineEnd : (newline ≡ bytes "\n") ⊎ (newline ≡ bytes "\r\n")
 
 quoted-label : opening true 1 (bytes "<<'EOT'\r\na") ≡ Opening.Block DocStringKind.Nowdoc 4 3 10
 unfolding opening thirdLess docLabel docStart docName docEnd docQuote docBreak lineFeed isStart isIdentifier isLetter isDigit bytes

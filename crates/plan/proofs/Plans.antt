@@ -172,6 +172,6 @@ module _ (src : List ℕ) (end : Bool) (scratch : List ℕ) where
   plans-in o r p = record { told = p .told; ready = ready-in r (p .ready) }
 
 -- plans that meet one statement make one outcome: they may differ in how a value comes about, and in nothing that is written
-pub plans-one : (src : List ℕ) (end : Bool) (o : Outcome) (r r′ : Plan) → Plans src end o r → Plans src end o r′
-    → outcomeOf src end r ≡ outcomeOf src end r′
-plans-one src end o r r′ x y = x .told ∙ sym (y .told)
+pub plans-one : (src : List ℕ) (end : Bool) (scratch scratch′ : List ℕ) (o : Outcome) (r r′ : Plan) → PlansIn src end scratch o r
+    → PlansIn src end scratch′ o r′ → outcomeOf src end r ≡ outcomeOf src end r′
+plans-one src end scratch scratch′ o r r′ x y = x .told ∙ sym (y .told)

@@ -80,6 +80,7 @@ pub extern "C" fn puretakoi_fresh(choices: u32, session: &mut [u32]) -> u32
 }
 
 // A call and the steps after it, at most `most` in all. Where none is wanted, or the first is refused, the session stays as it was.
+// A sixth number of the answer, where there is one, tells how many were done.
 fn turns(
     call: Call,
     src: &[u8],
@@ -95,9 +96,14 @@ fn turns(
     if !are_long(session.len(), answer.len()) {
         return byte::OUT_OF_PLACE;
     }
-    let a = walk::turns(call, src, end != 0, most, session, list, pool);
+    let r = walk::turns(call, src, end != 0, most, session, list, pool);
+    let a = r.answer;
+    let refusal = layout::refusal_in(a);
     layout::put_answer(answer, a);
-    layout::refusal_in(a)
+    if 6 <= answer.len() {
+        answer[5] = r.done;
+    }
+    refusal
 }
 
 // One step: the routine of the top frame reads on from the cursor.

@@ -65,11 +65,11 @@ line-some [] h = absurd (false≢true h)
 line-some (b ∷ rest) h = omega arith
 
 -- a blank is no break
-blank-lf : (b : ℕ) → isBlank b ≡ true → (b is "\n") ≡ false
+pub blank-lf : (b : ℕ) → isBlank b ≡ true → (b is "\n") ≡ false
 unfolding isBlank
 blank-lf b h = other-byte (λ x. isBlank x) (code "\n") b refl h
 
-blank-cr : (b : ℕ) → isBlank b ≡ true → (b is "\r") ≡ false
+pub blank-cr : (b : ℕ) → isBlank b ≡ true → (b is "\r") ≡ false
 unfolding isBlank
 blank-cr b h = other-byte (λ x. isBlank x) (code "\r") b refl h
 

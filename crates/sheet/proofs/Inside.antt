@@ -3,8 +3,9 @@
 --   block-stands   a closing line stands after whole lines and its indentation; where none does, the text is over
 --   body-inside    what is left of the lines, or the place of a stray byte
 --   sheet-stands   the value, the indentation and the label of a sheet
---   sheet-inside   InsideReading n (n + length xs) (sheetAt label end n xs)
+--   sheet-inside   InsideReading sheetFaults n (n + length xs) (sheetAt label end n xs)
 --   sheet-moves    a sheet ends after its start, as its label has a byte or more
+--   sheet-stops    it ends at its label
 -- Assumes nothing.
 use Prim.Native.Nat.{ℕ, suc, _+_, _-_, _<_, _≤_}
 use mathlib.Core.Path.{_≡_, refl, sym, ap, _∙_}
@@ -15,7 +16,7 @@ use lib.Dec.{leb, eqb}
 use lib.ListN.{length, take, drop, length-append, length-drop}
 use lib.Seq.{take-append-add}
 use borrow.Author.Tests.{eqb-true, eq-eqb}
-use Rattle.byte.specs.Refusals.{strayIndentation}
+use Rattle.byte.specs.Refusals.{unexpectedEndOfFile, invalidDocIndentation, strayIndentation, isAmong}
 use Rattle.byte.specs.Words.{if_then_else_, _is_, run, every}
 use Rattle.byte.specs.Bytes.{isBlank}
 use Rattle.byte.proofs.Tests.{choice, &&-both}
@@ -24,7 +25,7 @@ use Rattle.unit.specs.declared.Match.{Match}
 use Rattle.unit.specs.declared.Stop.{Stop}
 use Rattle.unit.specs.Closers.{matched, indented}
 use Rattle.unit.specs.Readings.{Reading}
-use Rattle.unit.proofs.Inside.{FaultInside, InsideReading, MovesReading, matched-length}
+use Rattle.unit.proofs.Inside.{FaultInside, InsideReading, MovesReading, StopsReading, matched-length}
 use Rattle.sheet.specs.declared.Line.{Line}
 use Rattle.sheet.specs.Bodies.{Text, Kept, Stray, Indent, lines, isOver, unindented, followed, bodyText, unbroken}
 use Rattle.sheet.specs.Sheets.{closingLabel, judgedLine, lineKind, Block, Closed, Missing, Open, withLine, told, block}
@@ -153,10 +154,14 @@ module _ (label : List ℕ) (end : Bool) where
 
 -- ---- the body
 
+-- what a sheet may refuse
+abbrev pub sheetFaults : List ℕ
+sheetFaults = unexpectedEndOfFile ∷ invalidDocIndentation ∷ strayIndentation ∷ []
+
 -- what is left of so many bytes from n on
 abbrev pub TextInside : ℕ → ℕ → Text → Type 0
 TextInside n hi (Kept text) = n + length text ≤ hi
-TextInside n hi (Stray p) = FaultInside n hi strayIndentation p
+TextInside n hi (Stray p) = FaultInside sheetFaults n hi strayIndentation p
 
 pub run-length : (test : ℕ → Bool) (xs : List ℕ) → run test xs ≤ length xs
 unfolding run
@@ -165,20 +170,20 @@ run-length test (b ∷ rest) =
     choice (λ k. k ≤ suc (length rest)) (test b) _ _ (λ e. omega (arith, run-length test rest)) (λ e. omega arith)
 
 unindented-inside : (ind : Indent) (n : ℕ) (line : List ℕ) → TextInside n (n + length line) (unindented ind n line)
-unfolding unindented
+unfolding unindented isAmong
 unindented-inside ind n line =
     let blanks = run (eqb (ind .blank)) line in
     choice (TextInside n (n + length line)) (leb (ind .width) blanks) _ _
     (λ e. omega (arith, length-drop (ind .width) line))
     (λ e. choice (TextInside n (n + length line)) (isOver (drop blanks line)) _ _
     (λ f. omega (arith, length-drop blanks line))
-    (λ f. record { told = refl; on = omega arith; inside = omega (arith, run-length (eqb (ind .blank)) line) }))
+    (λ f. record { among = refl; on = omega arith; inside = omega (arith, run-length (eqb (ind .blank)) line) }))
 
 followed-inside : (n m hi : ℕ) (t u : Text) → n ≤ m → m ≤ hi → TextInside n m t → TextInside m hi u → TextInside n hi (followed t u)
-unfolding followed
+unfolding followed isAmong
 followed-inside n m hi (Kept x) (Kept y) h k i j = omega (arith, length-append x y)
-followed-inside n m hi (Kept x) (Stray p) h k i j = record { told = refl; on = omega (arith, j .on); inside = j .inside }
-followed-inside n m hi (Stray p) u h k i j = record { told = refl; on = i .on; inside = omega (arith, i .inside) }
+followed-inside n m hi (Kept x) (Stray p) h k i j = record { among = refl; on = omega (arith, j .on); inside = j .inside }
+followed-inside n m hi (Stray p) u h k i j = record { among = refl; on = i .on; inside = omega (arith, i .inside) }
 
 pub body-inside : (ind : Indent) (n : ℕ) (ls : List (List ℕ)) → TextInside n (n + total ls) (bodyText ind n ls)
 unfolding bodyText total
@@ -228,7 +233,7 @@ pub record SheetStands (size n hi : ℕ) (xs value : List ℕ) (stop : Stop) (fr
 
 abbrev pub StandsSheet : ℕ → ℕ → ℕ → List ℕ → Reading → Type 0
 StandsSheet size n hi xs (Reading.Text value stop from after) = SheetStands size n hi xs value stop from after
-StandsSheet size n hi xs (Reading.Refused number place) = FaultInside n hi number place
+StandsSheet size n hi xs (Reading.Refused number place) = FaultInside sheetFaults n hi number place
 StandsSheet size n hi xs Reading.Wait = Unit {0}
 
 module _ (size n : ℕ) (xs : List ℕ) (body : List (List ℕ)) (ind : Indentation) (amount place : ℕ)
@@ -241,7 +246,7 @@ module _ (size n : ℕ) (xs : List ℕ) (body : List (List ℕ)) (ind : Indentat
 
   filled-stands : (t : Text) → bodyText (indentOf ind amount) n body ≡ t → TextInside n (n + total body) t
       → StandsSheet size n (n + length xs) xs (filled t ind amount place (place + size))
-  unfolding filled sheetOf leftOf
+  unfolding filled sheetOf leftOf isAmong
   filled-stands (Kept text) e i =
       record {
         ind = ind;
@@ -253,24 +258,25 @@ module _ (size n : ℕ) (xs : List ℕ) (body : List (List ℕ)) (ind : Indentat
         same = sym (rw (lines-before, e));
       }
   filled-stands (Stray p) e i =
-      record { told = refl; on = i .on; inside = omega (arith, i .inside, c .behind, c .inside, total-lines xs) }
+      record { among = refl; on = i .on; inside = omega (arith, i .inside, c .behind, c .inside, total-lines xs) }
 
   stripped-stands : (t : Bool) → eqb (blankOf (Stop.Label ind amount)) 0 ≡ t
       → StandsSheet size n (n + length xs) xs (stripped size n body ind amount place)
+  unfolding isAmong
   stripped-stands true e =
       rw (stripped-mixed size n body amount place ind (eqb-true _ 0 e))
-      (record { told = refl; on = omega (arith, c .behind); inside = omega (arith, c .inside, total-lines xs) })
+      (record { among = refl; on = omega (arith, c .behind); inside = omega (arith, c .inside, total-lines xs) })
   stripped-stands false e =
       rw (stripped-indent size n body amount place ind (c .bare) (λ z. false≢true (sym e ∙ eq-eqb _ 0 z)))
       (filled-stands _ refl (body-inside (indentOf ind amount) n body))
 
 answered-stands : (size n : ℕ) (xs : List ℕ) (b : Block) → BlockStands size n (lines xs) b
     → StandsSheet size n (n + length xs) xs (answered size n b)
-unfolding answered
+unfolding answered isAmong
 answered-stands size n xs (Closed body ind amount place) x =
     stripped-stands size n xs body ind amount place x (eqb (blankOf (Stop.Label ind amount)) 0) refl
 answered-stands size n xs (Missing place) x =
-    record { told = refl; on = omega arith; inside = omega (arith, total-lines xs) }
+    record { among = refl; on = omega arith; inside = omega (arith, total-lines xs) }
 answered-stands size n xs Open x = tt
 
 module _ (label : List ℕ) (end : Bool) (n : ℕ) (xs : List ℕ) where
@@ -278,10 +284,11 @@ module _ (label : List ℕ) (end : Bool) (n : ℕ) (xs : List ℕ) where
   unfolding sheetAt
   sheet-stands = answered-stands (length label) n xs _ (block-stands label end n (lines-lined xs))
 
-  pub sheet-inside : InsideReading n (n + length xs) (sheetAt label end n xs)
+  pub sheet-inside : InsideReading sheetFaults n (n + length xs) (sheetAt label end n xs)
   sheet-inside = go (sheetAt label end n xs) sheet-stands
     where
-      go : (r : Reading) → StandsSheet (length label) n (n + length xs) xs r → InsideReading n (n + length xs) r
+      go : (r : Reading) → StandsSheet (length label) n (n + length xs) xs r
+          → InsideReading sheetFaults n (n + length xs) r
       go (Reading.Text value stop from after) x =
           rw (x .label)
           (record {
@@ -298,5 +305,13 @@ module _ (label : List ℕ) (end : Bool) (n : ℕ) (xs : List ℕ) where
     where
       go : (r : Reading) → StandsSheet (length label) n (n + length xs) xs r → MovesReading n r
       go (Reading.Text value stop from after) x = omega (arith, x .narrow, x .sized)
+      go (Reading.Refused number place) x = tt
+      go Reading.Wait x = tt
+
+  pub sheet-stops : StopsReading (sheetAt label end n xs)
+  sheet-stops = go (sheetAt label end n xs) sheet-stands
+    where
+      go : (r : Reading) → StandsSheet (length label) n (n + length xs) xs r → StopsReading r
+      go (Reading.Text value stop from after) x = rw (x .label)
       go (Reading.Refused number place) x = tt
       go Reading.Wait x = tt

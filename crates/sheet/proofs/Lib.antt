@@ -9,3 +9,8 @@ pub mod Bodies
 pub mod Scans
 pub mod Parts
 pub mod Writes
+pub mod ManualLines
+pub mod ManualBodies
+pub mod Manual
+pub mod Nowdocs
+pub mod SheetNowdocs

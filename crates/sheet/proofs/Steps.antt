@@ -88,7 +88,7 @@ module _ (label line : List ℕ) (at : ℕ) (end : Bool) (m : Match) (e : m ≡ 
 pub ruleset labels = (label-inside, label-whole, label-other, label-undecided)
 
 -- after its blanks a line is what the label makes of it
-lineKind-run : (label : List ℕ) (end : Bool) (ind : Indentation) (amount : ℕ) (xs : List ℕ)
+pub lineKind-run : (label : List ℕ) (end : Bool) (ind : Indentation) (amount : ℕ) (xs : List ℕ)
     → lineKind label end ind amount xs
     ≡ judgedLine (closingLabel label end (drop (run isBlank xs) xs)) end (indentation ind (take (run isBlank xs) xs))
     (amount + run isBlank xs)

@@ -1,3 +1,4 @@
 pub mod Bodies
 pub mod Sheets
 pub mod Code
+pub mod Manual

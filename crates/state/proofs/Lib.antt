@@ -3,3 +3,4 @@ pub mod Gates
 pub mod Calls
 pub mod Kept
 pub mod Longer
+pub mod Refusals

@@ -4,3 +4,4 @@ pub mod Lines
 pub mod Runs
 pub mod Scans
 pub mod Writes
+pub mod Results

@@ -18,7 +18,7 @@ use Rattle.unit.specs.declared.TextUnit.{TextUnit}
 use Rattle.unit.specs.Digits.{utf8}
 use Rattle.unit.specs.Units.{unitAt}
 use Rattle.unit.specs.Readings.{Reading, Text, Refused, Wait, onto, taken, afterOf, collected, trimmed, losesBreak, finished, textAt}
-use Rattle.unit.proofs.Stands.{isLiteral, Stands, utf8-length, unit-stands}
+use Rattle.unit.proofs.Stands.{Stands, utf8-length, unit-stands}
 use Rattle.unit.proofs.Readings.{collected-turn}
 use Rattle.text.specs.declared.Scanned.{Scanned}
 use Rattle.text.specs.Code.{isPlain, bytesOf, isBreak, lastBreak, valueLength, ended, unclosed, measured}
@@ -209,24 +209,24 @@ pub record TextInside (n hi width after : ℕ) : Type 0 where
   pub inside : after ≤ hi
   pub narrow : n + width ≤ after
 
-bytes-inside : (u : TextUnit) (literal : Bool) (n b hi : ℕ) → (length (bytesOf u) ≡ 0 → ⊥) → Stands literal n b hi u
+bytes-inside : (u : TextUnit) (m : Mode) (n b hi : ℕ) → (length (bytesOf u) ≡ 0 → ⊥) → Stands m n b hi u
     → TextInside n hi (length (bytesOf u)) (afterOf u)
 unfolding afterOf bytesOf
-bytes-inside (TextUnit.Byte value after) literal n b hi h x =
+bytes-inside (TextUnit.Byte value after) m n b hi h x =
     record { on = x .on; inside = x .inside; narrow = omega (arith, x .on) }
-bytes-inside (TextUnit.Point code after) literal n b hi h x =
+bytes-inside (TextUnit.Point code after) m n b hi h x =
     record { on = omega (arith, x .narrow); inside = x .inside; narrow = omega (arith, x .narrow) }
-bytes-inside (TextUnit.Ends stop from after) literal n b hi h x = absurd (h refl)
-bytes-inside (TextUnit.Fault number place) literal n b hi h x = absurd (h refl)
-bytes-inside TextUnit.Undecided literal n b hi h x = absurd (h refl)
+bytes-inside (TextUnit.Ends stop from after) m n b hi h x = absurd (h refl)
+bytes-inside (TextUnit.Fault number place) m n b hi h x = absurd (h refl)
+bytes-inside TextUnit.Undecided m n b hi h x = absurd (h refl)
 
-stands-writable : (u : TextUnit) (literal : Bool) (n b hi : ℕ) → Stands literal n b hi u → isWritable u
+stands-writable : (u : TextUnit) (m : Mode) (n b hi : ℕ) → Stands m n b hi u → isWritable u
 unfolding isWritable
-stands-writable (TextUnit.Byte value after) literal n b hi x = tt
-stands-writable (TextUnit.Point code after) literal n b hi x = x .small
-stands-writable (TextUnit.Ends stop from after) literal n b hi x = tt
-stands-writable (TextUnit.Fault number place) literal n b hi x = tt
-stands-writable TextUnit.Undecided literal n b hi x = tt
+stands-writable (TextUnit.Byte value after) m n b hi x = tt
+stands-writable (TextUnit.Point code after) m n b hi x = x .small
+stands-writable (TextUnit.Ends stop from after) m n b hi x = tt
+stands-writable (TextUnit.Fault number place) m n b hi x = tt
+stands-writable TextUnit.Undecided m n b hi x = tt
 
 -- a unit that is none ends it
 ended-taken : (m : Mode) (len : ℕ) (broken : Bool) (u : TextUnit) (later : Reading) → length (bytesOf u) ≡ 0 → ended m len broken u ≡ behind m len broken (taken u later)
@@ -249,16 +249,16 @@ module _ (m : Mode) (label : List ℕ) (end : Bool) (src : List ℕ) (i : ℕ) (
   unit-ends : (len : ℕ) (broken : Bool) → length (bytesOf u) ≡ 0 → ended m len broken u ≡ behind m len broken (collected m label end 0 i (drop i src))
   unit-ends len broken z = rw (drop-one src i h, collected-turn m label end i (getD src i 0) (drop (i + 1) src) u e) (ended-taken m len broken u _ z)
 
-  stands : Stands (isLiteral m) i (getD src i 0) (length src) u
+  stands : Stands m i (getD src i 0) (length src) u
   stands =
       let hi : i + 1 + length (drop (i + 1) src) ≡ length src = rw (length-drop (i + 1) src) (omega arith) in
       rw (hi, ← e) at (unit-stands i (getD src i 0) (drop (i + 1) src) label end m)
 
   pub unit-text : (length (bytesOf u) ≡ 0 → ⊥) → TextInside i (length src) (length (bytesOf u)) (afterOf u)
-  unit-text z = bytes-inside u (isLiteral m) i (getD src i 0) (length src) z stands
+  unit-text z = bytes-inside u m i (getD src i 0) (length src) z stands
 
   pub unit-writable : isWritable u
-  unit-writable = stands-writable u (isLiteral m) i (getD src i 0) (length src) stands
+  unit-writable = stands-writable u m i (getD src i 0) (length src) stands
 
 -- a text that is read: len bytes of text were read up to i, the last of them a break or not
 pub record Scanning (m : Mode) (label : List ℕ) (end : Bool) (src : List ℕ) (at i len : ℕ) (broken : Bool) : Type 0 where

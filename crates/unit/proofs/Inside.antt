@@ -1,6 +1,7 @@
 -- Where a reading lies, be it of a text or of a sheet, and that it ends after its start: cases of text-stands.
---   text-inside   InsideReading n (n + length xs) (textAt m label end n xs)
+--   text-inside   InsideReading (faults m) n (n + length xs) (textAt m label end n xs)
 --   text-moves    MovesReading n (textAt m label end n xs), of a mode that is no literal
+--   text-stops    StopsReading (textAt m label end n xs), of such a mode: it leaves no interpolation to another
 -- Assumes nothing.
 use mathlib.Core.Path.{_≡_}
 use mathlib.Core.Bool.{Bool, false}
@@ -11,7 +12,7 @@ use lib.ListN.{length}
 use Rattle.unit.specs.declared.Mode.{Mode}
 use Rattle.unit.specs.declared.Stop.{Stop}
 use Rattle.unit.specs.Readings.{Reading, Text, Refused, Wait, textAt, gap}
-use Rattle.unit.proofs.Stands.{isLiteral}
+use Rattle.unit.proofs.Stands.{isLiteral, faults, isInterpolation}
 use Rattle.unit.proofs.Readings.{StandsReading, text-stands}
 pub use Rattle.unit.proofs.Stands.{FaultInside, matched-length}
 
@@ -39,21 +40,27 @@ pub record ReadInside (n hi amount : ℕ) (text : List ℕ) (from after : ℕ) :
   pub order : from ≤ after
   pub inside : after ≤ hi
 
-abbrev pub InsideReading : ℕ → ℕ → Reading → Type 0
-InsideReading n hi (Text text stop from after) = ReadInside n hi (amountOf stop) text from after
-InsideReading n hi (Refused number place) = FaultInside n hi number place
-InsideReading n hi Wait = Unit {0}
+-- what is refused is one of these
+abbrev pub InsideReading : List ℕ → ℕ → ℕ → Reading → Type 0
+InsideReading numbers n hi (Text text stop from after) = ReadInside n hi (amountOf stop) text from after
+InsideReading numbers n hi (Refused number place) = FaultInside numbers n hi number place
+InsideReading numbers n hi Wait = Unit {0}
 
 abbrev pub MovesReading : ℕ → Reading → Type 0
 MovesReading n (Text text stop from after) = n < after
 MovesReading n (Refused number place) = Unit {0}
 MovesReading n Wait = Unit {0}
 
+abbrev pub StopsReading : Reading → Type 0
+StopsReading (Text text stop from after) = isInterpolation stop ≡ false
+StopsReading (Refused number place) = Unit {0}
+StopsReading Wait = Unit {0}
+
 module _ (m : Mode) (label : List ℕ) (end : Bool) (n : ℕ) (xs : List ℕ) where
-  pub text-inside : InsideReading n (n + length xs) (textAt m label end n xs)
+  pub text-inside : InsideReading (faults m) n (n + length xs) (textAt m label end n xs)
   text-inside = go (textAt m label end n xs) (text-stands m label end n xs)
     where
-      go : (r : Reading) → StandsReading (isLiteral m) n (n + length xs) xs r → InsideReading n (n + length xs) r
+      go : (r : Reading) → StandsReading m n (n + length xs) xs r → InsideReading (faults m) n (n + length xs) r
       go (Text text stop from after) x =
           record {
             indented = omega (arith, x .fits, amount-gap stop);
@@ -67,7 +74,15 @@ module _ (m : Mode) (label : List ℕ) (end : Bool) (n : ℕ) (xs : List ℕ) wh
   pub text-moves : isLiteral m ≡ false → MovesReading n (textAt m label end n xs)
   text-moves h = go (textAt m label end n xs) (text-stands m label end n xs)
     where
-      go : (r : Reading) → StandsReading (isLiteral m) n (n + length xs) xs r → MovesReading n r
+      go : (r : Reading) → StandsReading m n (n + length xs) xs r → MovesReading n r
       go (Text text stop from after) x = x .on h
+      go (Refused number place) x = tt
+      go Wait x = tt
+
+  pub text-stops : isLiteral m ≡ false → StopsReading (textAt m label end n xs)
+  text-stops h = go (textAt m label end n xs) (text-stands m label end n xs)
+    where
+      go : (r : Reading) → StandsReading m n (n + length xs) xs r → StopsReading r
+      go (Text text stop from after) x = x .own h
       go (Refused number place) x = tt
       go Wait x = tt

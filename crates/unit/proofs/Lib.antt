@@ -8,3 +8,5 @@ pub mod Demand
 pub mod Manual
 pub mod Differences
 pub mod Literals
+pub mod Variables
+pub mod Heredocs

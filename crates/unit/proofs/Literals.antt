@@ -94,6 +94,13 @@ whole-quote n hi =
     let one : suc n - 1 ≡ n = omega arith in
     ap (λ (k : ℕ). Text [] Stop.Quote k (suc n)) (sym one)
 
+-- a mode whose texts lose no break
+pub finished-whole : (m : Mode) (r : Reading) → ((stop : Stop) → losesBreak m stop ≡ false) → finished m r ≡ r
+unfolding finished
+finished-whole m (Text value stop from after) h = rw (h stop)
+finished-whole m (Refused number place) h = refl
+finished-whole m Wait h = refl
+
 -- ---- single quotes
 
 orElse-closed : (s other : Said) → isOpen s ≡ false → isOpen other ≡ false → isOpen (orElse s other) ≡ false
@@ -136,16 +143,10 @@ single-collected zero n (b ∷ xs) =
         (singleQuoted-closed xs)
     go false false ih = whole-byte Mode.Single singleQuoted "'" hi n xs (λ k. []) ih b
 
-single-finished : (r : Reading) → finished Mode.Single r ≡ r
-unfolding finished losesBreak
-single-finished (Text value stop from after) = refl
-single-finished (Refused number place) = refl
-single-finished Wait = refl
-
 pub single-whole : (n : ℕ) (xs : List ℕ)
     → textAt Mode.Single [] true n xs ≡ readingOf (n + length xs) (literal singleQuoted "'" 0 n xs)
-unfolding textAt
-single-whole n xs = single-finished _ ∙ single-collected 0 n xs
+unfolding textAt losesBreak
+single-whole n xs = finished-whole Mode.Single _ (λ stop. refl) ∙ single-collected 0 n xs
 
 -- ---- double quotes
 
@@ -251,16 +252,11 @@ double-collected zero n (b ∷ xs) =
         subst (λ k. EndsAt hi (b ∷ xs) (Text [] Stop.Interpolation k k)) (sym here) (EndsAt.variable f)
     go false false false e f ih = whole-byte Mode.Double doubleQuoted "\"" hi n xs (λ k. firstOther k xs) ih b
 
-double-finished : (r : Reading) → finished Mode.Double r ≡ r
-unfolding finished losesBreak
-double-finished (Text value stop from after) = refl
-double-finished (Refused number place) = refl
-double-finished Wait = refl
-
 double-text : (n : ℕ) (xs : List ℕ)
     → Whole (n + length xs) (literal doubleQuoted "\"" 0 n xs) (firstOther 0 xs) (textAt Mode.Double [] true n xs)
-unfolding textAt
-double-text n xs = rw (double-finished (collected Mode.Double [] true 0 n xs)) (double-collected 0 n xs)
+unfolding textAt losesBreak
+double-text n xs =
+    rw (finished-whole Mode.Double (collected Mode.Double [] true 0 n xs) (λ stop. refl)) (double-collected 0 n xs)
 
 pub double-whole : (n : ℕ) (xs : List ℕ) → isOrdinary xs ≡ true
     → textAt Mode.Double [] true n xs ≡ readingOf (n + length xs) (literal doubleQuoted "\"" 0 n xs)

@@ -17,7 +17,7 @@ use lib.Dec.{ltb}
 use lib.ListN.{length, drop}
 use borrow.Author.Tests.{eqb-true, ltb-true, lt-ltb, le-ltb, not-true}
 use Rattle.byte.specs.Words.{if_then_else_, _is_, every}
-use Rattle.byte.proofs.Tests.{choice, &&-left, &&-right}
+use Rattle.byte.proofs.Tests.{choice, &&-left, &&-right, if-both}
 use Rattle.unit.specs.declared.TextUnit.{TextUnit}
 use Rattle.unit.specs.Digits.{digitValue, isScalar, utf8}
 use Rattle.unit.specs.Escapes.{letters, letterIn, letterValue, fitted, digits, hex, codePoint, braced, escape}
@@ -27,12 +27,6 @@ use Rattle.unit.specs.Manual.{hexOf, hexadecimal, codeOf, unicode, unmat
 use Rattle.unit.specs.Manual.{says}
 use Rattle.unit.proofs.Openings.{other-byte}
 use Rattle.unit.proofs.Stays.{clash}
-
--- two choices by one test
-if-both : {A B : Type 0} (P : A → B → Type 0) (t : Bool) {a a′ : A} {b b′ : B} → (t ≡ true → P a b) → (t ≡ false → P a′ b′)
-    → P (if t then a else a′) (if t then b else b′)
-if-both P true x y = x refl
-if-both P false x y = y refl
 
 -- ---- digits
 

@@ -1,8 +1,8 @@
--- What a reading is, told once for every mode: where it lies, which bytes its text is, that it goes on, and which
--- frames it may enter.
+-- What a reading is, told once for every mode: where it lies, which bytes its text is, that it goes on, which frames
+-- it may enter, and what it may refuse.
 --   collected-skip    a reading that has k bytes to pass is the reading from k bytes on
 --   collected-turn    a reading is its first unit and the reading from after that unit
---   text-stands       StandsReading (isLiteral m) n (n + length xs) xs (textAt m label end n xs)
+--   text-stands       StandsReading m n (n + length xs) xs (textAt m label end n xs)
 --   text-copied       a text is the source's own bytes where it has as many as were passed
 -- Assumes nothing.
 use Prim.Native.Nat.{ℕ, zero, suc, _+_, _-_, _≤_, _<_}
@@ -11,6 +11,7 @@ use mathlib.Core.Bool.{Bool, true, false}
 use mathlib.Core.List.{List, [], _∷_}
 use native.Mathlib.Omega.{arith}
 use lib.ListN.{length, take, drop, length-append}
+use Rattle.byte.specs.Refusals.{unexpectedEndOfFile, isAmong}
 use Rattle.byte.specs.Words.{if_then_else_, _is_}
 use Rattle.byte.proofs.Tests.{choice}
 use Rattle.unit.specs.declared.Mode.{Mode}
@@ -20,7 +21,7 @@ use Rattle.unit.specs.Digits.{utf8}
 use Rattle.unit.specs.Units.{unitAt}
 use Rattle.unit.specs.Readings.{Reading, Text, Refused, Wait, onto, taken, afterOf, collected, trimmed}
 use Rattle.unit.specs.Readings.{losesBreak, finished, textAt, gap, textEnd}
-use Rattle.unit.proofs.Stands.{isLiteral, enters, FaultInside, Stands, unit-stands}
+use Rattle.unit.proofs.Stands.{isLiteral, faults, enters, isInterpolation, FaultInside, Stands, unit-stands}
 
 module _ (m : Mode) (label : List ℕ) (end : Bool) where
   pub collected-skip : (k n : ℕ) (xs : List ℕ) → k ≤ length xs
@@ -48,7 +49,7 @@ module _ (m : Mode) (label : List ℕ) (end : Bool) where
           let q : after - suc n ≡ after - (n + 1) = omega arith in
           collected-skip (after - suc n) (suc n) rest (omega arith) ∙ rw (p, q)
 
-      go : (u : TextUnit) → Stands (isLiteral m) n b (n + 1 + length rest) u
+      go : (u : TextUnit) → Stands m n b (n + 1 + length rest) u
           → taken u (collected m label end (afterOf u - suc n) (suc n) rest)
           ≡ taken u (collected m label end 0 (afterOf u) (drop (afterOf u - (n + 1)) rest))
       go (TextUnit.Byte value after) x = ap (onto (value ∷ [])) (later after (x .on) (x .inside))
@@ -66,16 +67,17 @@ pub record TextStands (literal : Bool) (n hi : ℕ) (xs text : List ℕ) (stop :
   pub inside : after ≤ hi
   pub on : literal ≡ false → n < after
   pub keeps : literal ≡ true → enters stop ≡ false
+  pub own : literal ≡ false → isInterpolation stop ≡ false
 
-abbrev pub StandsReading : Bool → ℕ → ℕ → List ℕ → Reading → Type 0
-StandsReading literal n hi xs (Text text stop from after) = TextStands literal n hi xs text stop from after
-StandsReading literal n hi xs (Refused number place) = FaultInside n hi number place
-StandsReading literal n hi xs Wait = Unit {0}
+abbrev pub StandsReading : Mode → ℕ → ℕ → List ℕ → Reading → Type 0
+StandsReading m n hi xs (Text text stop from after) = TextStands (isLiteral m) n hi xs text stop from after
+StandsReading m n hi xs (Refused number place) = FaultInside (faults m) n hi number place
+StandsReading m n hi xs Wait = Unit {0}
 
-module _ (literal : Bool) (hi : ℕ) where
+module _ (m : Mode) (hi : ℕ) where
   -- a byte before a text that begins k bytes after it
   byte-onto : (n b value k : ℕ) (xs : List ℕ) (r : Reading) → (k ≡ 0 → value ≡ b)
-      → StandsReading literal (suc n + k) hi (drop k xs) r → StandsReading literal n hi (b ∷ xs) (onto (value ∷ []) r)
+      → StandsReading m (suc n + k) hi (drop k xs) r → StandsReading m n hi (b ∷ xs) (onto (value ∷ []) r)
   unfolding onto
   byte-onto n b value k xs (Text text stop from after) own x =
       record {
@@ -85,20 +87,21 @@ module _ (literal : Bool) (hi : ℕ) where
         inside = x .inside;
         on = λ e. omega (arith, x .fits, x .order);
         keeps = x .keeps;
+        own = x .own;
       }
     where
-      same : (k : ℕ) → (k ≡ 0 → value ≡ b) → TextStands literal (suc n + k) hi (drop k xs) text stop from after
+      same : (k : ℕ) → (k ≡ 0 → value ≡ b) → TextStands (isLiteral m) (suc n + k) hi (drop k xs) text stop from after
           → n + suc (length text) + gap stop ≡ from → value ∷ text ≡ b ∷ take (length text) xs
       same zero own x h = rw (own refl, ← x .copied (omega arith))
       same (suc k) own x h = absurd (omega (arith, x .fits))
   byte-onto n b value k xs (Refused number place) own x =
-      record { told = x .told; on = omega (arith, x .on); inside = x .inside }
+      record { among = x .among; on = omega (arith, x .on); inside = x .inside }
   byte-onto n b value k xs Wait own x = tt
 
   -- fewer bytes before a text than are passed
   point-onto : (n after : ℕ) (vs xs ys : List ℕ) (r : Reading) → n + length vs < after
-      → StandsReading literal after hi ys r
-      → StandsReading literal n hi xs (onto vs r)
+      → StandsReading m after hi ys r
+      → StandsReading m n hi xs (onto vs r)
   unfolding onto
   point-onto n after vs xs ys (Text text stop from to) h x =
       record {
@@ -108,18 +111,29 @@ module _ (literal : Bool) (hi : ℕ) where
         inside = x .inside;
         on = λ e. omega (arith, x .fits, x .order);
         keeps = x .keeps;
+        own = x .own;
       }
   point-onto n after vs xs ys (Refused number place) h x =
-      record { told = x .told; on = omega (arith, x .on); inside = x .inside }
+      record { among = x .among; on = omega (arith, x .on); inside = x .inside }
   point-onto n after vs xs ys Wait h x = tt
+
+-- a text of every mode may lack its end
+text-open : (m : Mode) → isAmong unexpectedEndOfFile (faults m) ≡ true
+unfolding isAmong
+text-open Mode.Single = refl
+text-open Mode.Double = refl
+text-open Mode.DoubleQuote = refl
+text-open Mode.ShellExec = refl
+text-open Mode.Heredoc = refl
+text-open Mode.Nowdoc = refl
 
 module _ (m : Mode) (label : List ℕ) (end : Bool) (hi : ℕ) where
   collected-stands : (skip n : ℕ) (xs : List ℕ) → skip ≤ length xs → n + length xs ≤ hi
-      → StandsReading (isLiteral m) (n + skip) hi (drop skip xs) (collected m label end skip n xs)
+      → StandsReading m (n + skip) hi (drop skip xs) (collected m label end skip n xs)
   unfolding collected taken afterOf
   collected-stands skip n [] h y =
-      choice (StandsReading (isLiteral m) (n + skip) hi (drop skip [])) end _ _
-      (λ e. record { told = refl; on = omega arith; inside = omega arith })
+      choice (StandsReading m (n + skip) hi (drop skip [])) end _ _
+      (λ e. record { among = text-open m; on = omega arith; inside = omega arith })
       (λ e. tt)
   collected-stands (suc k) n (b ∷ xs) h y =
       let z : suc n + k ≡ n + suc k = omega arith in
@@ -129,16 +143,16 @@ module _ (m : Mode) (label : List ℕ) (end : Bool) (hi : ℕ) where
       rw z (go (unitAt m label end n b xs) (unit-stands n b xs label end m)
       (λ k l. collected-stands k (suc n) xs l (omega arith)))
     where
-      go : (u : TextUnit) → Stands (isLiteral m) n b (n + 1 + length xs) u
+      go : (u : TextUnit) → Stands m n b (n + 1 + length xs) u
           → ((k : ℕ) → k ≤ length xs
-          → StandsReading (isLiteral m) (suc n + k) hi (drop k xs) (collected m label end k (suc n) xs))
-          → StandsReading (isLiteral m) n hi (b ∷ xs) (taken u (collected m label end (afterOf u - suc n) (suc n) xs))
+          → StandsReading m (suc n + k) hi (drop k xs) (collected m label end k (suc n) xs))
+          → StandsReading m n hi (b ∷ xs) (taken u (collected m label end (afterOf u - suc n) (suc n) xs))
       go (TextUnit.Byte value after) x ih =
-          byte-onto (isLiteral m) hi n b value (after - suc n) xs _ (λ e. x .own (omega (arith, x .on)))
+          byte-onto m hi n b value (after - suc n) xs _ (λ e. x .own (omega (arith, x .on)))
           (ih (after - suc n) (omega (arith, x .inside)))
       go (TextUnit.Point c after) x ih =
           let h : n + length (utf8 c) < suc n + (after - suc n) = omega (arith, x .narrow) in
-          point-onto (isLiteral m) hi n (suc n + (after - suc n)) (utf8 c) (b ∷ xs) (drop (after - suc n) xs) _ h
+          point-onto m hi n (suc n + (after - suc n)) (utf8 c) (b ∷ xs) (drop (after - suc n) xs) _ h
           (ih (after - suc n) (omega (arith, x .inside)))
       go (TextUnit.Ends stop from after) x ih =
           record {
@@ -148,8 +162,9 @@ module _ (m : Mode) (label : List ℕ) (end : Bool) (hi : ℕ) where
             inside = omega (arith, x .inside);
             on = x .on;
             keeps = x .keeps;
+            own = x .own;
           }
-      go (TextUnit.Fault number place) x ih = record { told = x .told; on = x .on; inside = omega (arith, x .inside) }
+      go (TextUnit.Fault number place) x ih = record { among = x .among; on = x .on; inside = omega (arith, x .inside) }
       go TextUnit.Undecided x ih = tt
 
 trimmed-length : (text : List ℕ) → length (trimmed text) ≤ length text
@@ -169,11 +184,11 @@ trimmed-whole (b ∷ []) h = go (b is "\n") h
     go false h = refl
 trimmed-whole (b ∷ c ∷ text) h = ap (λ ys. b ∷ ys) (trimmed-whole (c ∷ text) (omega arith))
 
-finished-stands : (literal : Bool) (m : Mode) (n hi : ℕ) (xs : List ℕ) (r : Reading) → StandsReading literal n hi xs r
-    → StandsReading literal n hi xs (finished m r)
+finished-stands : (m : Mode) (n hi : ℕ) (xs : List ℕ) (r : Reading) → StandsReading m n hi xs r
+    → StandsReading m n hi xs (finished m r)
 unfolding finished
-finished-stands literal m n hi xs (Text text stop from after) x =
-    choice (λ vs. TextStands literal n hi xs vs stop from after) (losesBreak m stop) _ _
+finished-stands m n hi xs (Text text stop from after) x =
+    choice (λ vs. TextStands (isLiteral m) n hi xs vs stop from after) (losesBreak m stop) _ _
     (λ e.
     record {
       fits = omega (arith, trimmed-length text, x .fits);
@@ -182,6 +197,7 @@ finished-stands literal m n hi xs (Text text stop from after) x =
       inside = x .inside;
       on = x .on;
       keeps = x .keeps;
+      own = x .own;
     })
     (λ e. x)
   where
@@ -190,15 +206,15 @@ finished-stands literal m n hi xs (Text text stop from after) x =
         let whole : trimmed text ≡ text = trimmed-whole text (omega (arith, x .fits)) in
         let long : n + length text + gap stop ≡ from = rw whole at e in
         rw whole (x .copied long)
-finished-stands literal m n hi xs (Refused number place) x = x
-finished-stands literal m n hi xs Wait x = tt
+finished-stands m n hi xs (Refused number place) x = x
+finished-stands m n hi xs Wait x = tt
 
 pub text-stands : (m : Mode) (label : List ℕ) (end : Bool) (n : ℕ) (xs : List ℕ)
-    → StandsReading (isLiteral m) n (n + length xs) xs (textAt m label end n xs)
+    → StandsReading m n (n + length xs) xs (textAt m label end n xs)
 unfolding textAt
 text-stands m label end n xs =
     let z : n + 0 ≡ n = omega arith in
-    finished-stands (isLiteral m) m n (n + length xs) xs _
+    finished-stands m n (n + length xs) xs _
     (rw z at (collected-stands m label end (n + length xs) 0 n xs (omega arith) (omega arith)))
 
 -- a text is the source's own bytes where it has as many as stand between its start and its end

@@ -1,6 +1,7 @@
--- What stands at a place of a text, told once for every mode: where a unit goes on, what its value is of, and where it
--- ends a text.
---   unit-stands       Stands (isLiteral m) n b (n + 1 + length rest) (unitAt m label end n b rest)
+-- What stands at a place of a text, told once for every mode: where a unit goes on, what its value is of, where it
+-- ends a text, and what it may refuse.
+--   faults            what a mode may refuse
+--   unit-stands       Stands m n b (n + 1 + length rest) (unitAt m label end n b rest)
 -- Each law is its definition again, with `if-stands` for a choice. Assumes nothing.
 use Prim.Native.Nat.{ℕ, zero, suc, _+_, _*_, _≤_, _<_}
 use Prim.Native.Char.{Char, code}
@@ -11,7 +12,8 @@ use native.Mathlib.Omega.{arith}
 use lib.Dec.{ltb, leb, eqb}
 use lib.ListN.{length}
 use borrow.Author.Tests.{eqb-true, ltb-true}
-use Rattle.byte.specs.Refusals.{wait}
+use Rattle.byte.specs.Refusals.{unexpectedEndOfFile, invalidUnicodeEscape, invalidOctalEscape, invalidDocIndentation}
+use Rattle.byte.specs.Refusals.{isAmong}
 use Rattle.byte.specs.Words.{if_then_else_, _is_}
 use Rattle.byte.specs.Bytes.{isStart, isIdentifier, isBlank}
 use Rattle.byte.proofs.Tests.{choice, &&-left, &&-right}
@@ -39,6 +41,15 @@ isLiteral Mode.ShellExec = false
 isLiteral Mode.Heredoc = false
 isLiteral Mode.Nowdoc = false
 
+-- every text may lack its end; escapes and closing lines may be faulty
+abbrev pub faults : Mode → List ℕ
+faults Mode.Single = unexpectedEndOfFile ∷ []
+faults Mode.Double = unexpectedEndOfFile ∷ invalidUnicodeEscape ∷ invalidOctalEscape ∷ []
+faults Mode.DoubleQuote = unexpectedEndOfFile ∷ invalidUnicodeEscape ∷ invalidOctalEscape ∷ []
+faults Mode.ShellExec = unexpectedEndOfFile ∷ []
+faults Mode.Heredoc = unexpectedEndOfFile ∷ invalidUnicodeEscape ∷ invalidOctalEscape ∷ invalidDocIndentation ∷ []
+faults Mode.Nowdoc = unexpectedEndOfFile ∷ invalidDocIndentation ∷ []
+
 -- whether a frame is entered at a stop
 abbrev pub enters : Stop → Bool
 enters Stop.DollarLeftBrace = true
@@ -49,6 +60,15 @@ enters (Stop.Variable Follow.Other) = false
 enters Stop.Quote = false
 enters Stop.Interpolation = false
 enters (Stop.Label ind amount) = false
+
+-- an interpolation that is left to `double_quote`
+abbrev pub isInterpolation : Stop → Bool
+isInterpolation Stop.Interpolation = true
+isInterpolation Stop.Quote = false
+isInterpolation Stop.DollarLeftBrace = false
+isInterpolation Stop.LeftBrace = false
+isInterpolation (Stop.Variable f) = false
+isInterpolation (Stop.Label ind amount) = false
 
 -- a byte of the value: one that passes no other is b itself
 pub record ByteStands (n b hi value after : ℕ) : Type 0 where
@@ -69,20 +89,21 @@ pub record StopStands (literal : Bool) (n hi : ℕ) (stop : Stop) (from after : 
   pub inside : after ≤ hi
   pub on : literal ≡ false → n < after
   pub keeps : literal ≡ true → enters stop ≡ false
+  pub own : literal ≡ false → isInterpolation stop ≡ false
 
--- a refusal, which is not the wait
-pub record FaultInside (n hi number place : ℕ) : Type 0 where
-  pub told : eqb number wait ≡ false
+-- a refusal, which is one of these
+pub record FaultInside (numbers : List ℕ) (n hi number place : ℕ) : Type 0 where
+  pub among : isAmong number numbers ≡ true
   pub on : n ≤ place
   pub inside : place ≤ hi
 
 -- a unit at n, where b stands
-abbrev pub Stands : Bool → ℕ → ℕ → ℕ → TextUnit → Type 0
-Stands literal n b hi (TextUnit.Byte value after) = ByteStands n b hi value after
-Stands literal n b hi (TextUnit.Point c after) = PointStands n hi c after
-Stands literal n b hi (TextUnit.Ends stop from after) = StopStands literal n hi stop from after
-Stands literal n b hi (TextUnit.Fault number place) = FaultInside n hi number place
-Stands literal n b hi TextUnit.Undecided = Unit {0}
+abbrev pub Stands : Mode → ℕ → ℕ → ℕ → TextUnit → Type 0
+Stands m n b hi (TextUnit.Byte value after) = ByteStands n b hi value after
+Stands m n b hi (TextUnit.Point c after) = PointStands n hi c after
+Stands m n b hi (TextUnit.Ends stop from after) = StopStands (isLiteral m) n hi stop from after
+Stands m n b hi (TextUnit.Fault number place) = FaultInside (faults m) n hi number place
+Stands m n b hi TextUnit.Undecided = Unit {0}
 
 abbrev AtMostFour : List ℕ → Type 0
 AtMostFour vs = length vs ≤ 4
@@ -114,10 +135,10 @@ matched-length (a ∷ label) (y ∷ ys) h = go (eqb a y) (matched-length label y
     go true shorter e = omega (arith, shorter e)
     go false shorter e = clash cc
 
-module _ (literal : Bool) (n b hi : ℕ) where
-  if-stands : (t : Bool) (u v : TextUnit) → Stands literal n b hi u → Stands literal n b hi v
-      → Stands literal n b hi (if t then u else v)
-  if-stands t u v x y = choice (Stands literal n b hi) t u v (λ e. x) (λ e. y)
+module _ (m : Mode) (n b hi : ℕ) where
+  if-stands : (t : Bool) (u v : TextUnit) → Stands m n b hi u → Stands m n b hi v
+      → Stands m n b hi (if t then u else v)
+  if-stands t u v x y = choice (Stands m n b hi) t u v (λ e. x) (λ e. y)
 
   -- a byte that stands for itself, one that passes another, a refusal
   itself : {value : ℕ} → value ≡ b → n < hi → ByteStands n b hi value (suc n)
@@ -126,74 +147,81 @@ module _ (literal : Bool) (n b hi : ℕ) where
   passing : {value after : ℕ} → n + 2 ≤ after → after ≤ hi → ByteStands n b hi value after
   passing x y = record { on = omega arith; inside = y; own = λ z. absurd (omega arith) }
 
-  fault : {number place : ℕ} → eqb number wait ≡ false → n ≤ place → place ≤ hi → FaultInside n hi number place
-  fault k x y = record { told = k; on = x; inside = y }
+  fault : {number place : ℕ} → isAmong number (faults m) ≡ true → n ≤ place → place ≤ hi
+      → FaultInside (faults m) n hi number place
+  fault k x y = record { among = k; on = x; inside = y }
 
   -- ---- escapes
 
-  fitted-stands : (value p : ℕ) → n + 2 ≤ p → p ≤ hi → Stands literal n b hi (fitted value p)
-  unfolding fitted
-  fitted-stands value p x y = if-stands (ltb value 256) _ _ (passing x y) (fault refl (omega arith) y)
+  -- of a mode that has them
+  module _ (unicode : isAmong invalidUnicodeEscape (faults m) ≡ true)
+      (octal : isAmong invalidOctalEscape (faults m) ≡ true) where
+    fitted-stands : (value p : ℕ) → n + 2 ≤ p → p ≤ hi → Stands m n b hi (fitted value p)
+    unfolding fitted
+    fitted-stands value p x y = if-stands (ltb value 256) _ _ (passing x y) (fault octal (omega arith) y)
 
-  digits-stands : (end : Bool) (base left value p : ℕ) (xs : List ℕ) → n + 2 ≤ p → p + length xs ≤ hi
-      → Stands literal n b hi (digits end base left value p xs)
-  unfolding digits
-  digits-stands end base zero value p xs x y = fitted-stands value p x (omega arith)
-  digits-stands end base (suc left) value p [] x y = if-stands end _ _ (fitted-stands value p x (omega arith)) tt
-  digits-stands end base (suc left) value p (c ∷ xs) x y =
-      if-stands (ltb (digitValue c) base) _ _
-      (digits-stands end base left (value * base + digitValue c) (suc p) xs (omega arith) (omega arith))
-      (fitted-stands value p x (omega arith))
+    digits-stands : (end : Bool) (base left value p : ℕ) (xs : List ℕ) → n + 2 ≤ p → p + length xs ≤ hi
+        → Stands m n b hi (digits end base left value p xs)
+    unfolding digits
+    digits-stands end base zero value p xs x y = fitted-stands value p x (omega arith)
+    digits-stands end base (suc left) value p [] x y = if-stands end _ _ (fitted-stands value p x (omega arith)) tt
+    digits-stands end base (suc left) value p (c ∷ xs) x y =
+        if-stands (ltb (digitValue c) base) _ _
+        (digits-stands end base left (value * base + digitValue c) (suc p) xs (omega arith) (omega arith))
+        (fitted-stands value p x (omega arith))
 
-  -- after `\u{` and, where there are some, a digit
-  codePoint-stands : (end some : Bool) (value p : ℕ) (xs : List ℕ) → n + 3 ≤ p → (some ≡ true → n + 4 ≤ p)
-      → p + length xs ≤ hi
-      → Stands literal n b hi (codePoint end some value p xs)
-  unfolding codePoint
-  codePoint-stands end some value p [] x w y = if-stands end _ _ (fault refl (omega arith) (omega arith)) tt
-  codePoint-stands end some value p (c ∷ xs) x w y =
-      if-stands (ltb (digitValue c) 16) _ _
-      (codePoint-stands end true (value * 16 + digitValue c) (suc p) xs (omega arith) (λ e. omega arith) (omega arith))
-      (choice (Stands literal n b hi) (some && c is "}") _ _
-      (λ e. choice (Stands literal n b hi) (isScalar value) _ _
-      (λ f.
-      record {
-        narrow = omega (arith, utf8-length value, w (&&-left some (c is "}") e));
-        inside = omega arith;
-        small = scalar-small value f;
-      })
-      (λ f. fault refl (omega arith) (omega arith)))
-      (λ e. fault refl (omega arith) (omega arith)))
-
-  -- the backslash, where it stands for itself
-  module _ (end : Bool) (same : code "\\" ≡ b) where
-    hex-stands : (xs : List ℕ) → n + 2 + length xs ≤ hi → Stands literal n b hi (hex end (suc n) xs)
-    unfolding hex
-    hex-stands [] y = if-stands end _ _ (itself same (omega arith)) tt
-    hex-stands (c ∷ xs) y =
+    -- after `\u{` and, where there are some, a digit
+    codePoint-stands : (end some : Bool) (value p : ℕ) (xs : List ℕ) → n + 3 ≤ p → (some ≡ true → n + 4 ≤ p)
+        → p + length xs ≤ hi
+        → Stands m n b hi (codePoint end some value p xs)
+    unfolding codePoint
+    codePoint-stands end some value p [] x w y = if-stands end _ _ (fault unicode (omega arith) (omega arith)) tt
+    codePoint-stands end some value p (c ∷ xs) x w y =
         if-stands (ltb (digitValue c) 16) _ _
-        (digits-stands end 16 1 (digitValue c) (suc (suc (suc n))) xs (omega arith) (omega arith))
-        (itself same (omega arith))
+        (codePoint-stands end true (value * 16 + digitValue c) (suc p) xs (omega arith) (λ e. omega arith)
+        (omega arith))
+        (choice (Stands m n b hi) (some && c is "}") _ _
+        (λ e. choice (Stands m n b hi) (isScalar value) _ _
+        (λ f.
+        record {
+          narrow = omega (arith, utf8-length value, w (&&-left some (c is "}") e));
+          inside = omega arith;
+          small = scalar-small value f;
+        })
+        (λ f. fault unicode (omega arith) (omega arith)))
+        (λ e. fault unicode (omega arith) (omega arith)))
 
-    braced-stands : (xs : List ℕ) → n + 2 + length xs ≤ hi → Stands literal n b hi (braced end (suc n) xs)
-    unfolding braced
-    braced-stands [] y = if-stands end _ _ (itself same (omega arith)) tt
-    braced-stands (c ∷ xs) y =
-        if-stands (c is "{") _ _
-        (codePoint-stands end false 0 (suc (suc (suc n))) xs (omega arith) (λ e. absurd (false≢true e)) (omega arith))
-        (itself same (omega arith))
+    -- the backslash, where it stands for itself
+    module _ (end : Bool) (same : code "\\" ≡ b) where
+      hex-stands : (xs : List ℕ) → n + 2 + length xs ≤ hi → Stands m n b hi (hex end (suc n) xs)
+      unfolding hex
+      hex-stands [] y = if-stands end _ _ (itself same (omega arith)) tt
+      hex-stands (c ∷ xs) y =
+          if-stands (ltb (digitValue c) 16) _ _
+          (digits-stands end 16 1 (digitValue c) (suc (suc (suc n))) xs (omega arith) (omega arith))
+          (itself same (omega arith))
 
-    escape-stands : (xs : List ℕ) → suc n + length xs ≤ hi → Stands literal n b hi (escape end (suc n) xs)
-    unfolding escape
-    escape-stands [] y = if-stands end _ _ (itself same (omega arith)) tt
-    escape-stands (c ∷ xs) y =
-        if-stands (ltb (letterValue c) 256) _ _ (passing (omega arith) (omega arith))
-        (if-stands (ltb (digitValue c) 8) _ _
-        (digits-stands end 8 2 (digitValue c) (suc (suc n)) xs (omega arith) (omega arith))
-        (if-stands (c is "x") _ _ (hex-stands xs (omega arith))
-        (if-stands (c is "u") _ _ (braced-stands xs (omega arith)) (itself same (omega arith)))))
+      braced-stands : (xs : List ℕ) → n + 2 + length xs ≤ hi → Stands m n b hi (braced end (suc n) xs)
+      unfolding braced
+      braced-stands [] y = if-stands end _ _ (itself same (omega arith)) tt
+      braced-stands (c ∷ xs) y =
+          if-stands (c is "{") _ _
+          (codePoint-stands end false 0 (suc (suc (suc n))) xs (omega arith) (λ e. absurd (false≢true e)) (omega arith))
+          (itself same (omega arith))
 
-    quoteEscape-stands : (xs : List ℕ) → suc n + length xs ≤ hi → Stands literal n b hi (quoteEscape end (suc n) xs)
+      escape-stands : (xs : List ℕ) → suc n + length xs ≤ hi → Stands m n b hi (escape end (suc n) xs)
+      unfolding escape
+      escape-stands [] y = if-stands end _ _ (itself same (omega arith)) tt
+      escape-stands (c ∷ xs) y =
+          if-stands (ltb (letterValue c) 256) _ _ (passing (omega arith) (omega arith))
+          (if-stands (ltb (digitValue c) 8) _ _
+          (digits-stands end 8 2 (digitValue c) (suc (suc n)) xs (omega arith) (omega arith))
+          (if-stands (c is "x") _ _ (hex-stands xs (omega arith))
+          (if-stands (c is "u") _ _ (braced-stands xs (omega arith)) (itself same (omega arith)))))
+
+  -- a single quote's escapes, none of which is faulty
+  module _ (end : Bool) (same : code "\\" ≡ b) where
+    quoteEscape-stands : (xs : List ℕ) → suc n + length xs ≤ hi → Stands m n b hi (quoteEscape end (suc n) xs)
     unfolding quoteEscape
     quoteEscape-stands [] y = if-stands end _ _ (itself same (omega arith)) tt
     quoteEscape-stands (c ∷ xs) y =
@@ -201,102 +229,109 @@ module _ (literal : Bool) (n b hi : ℕ) where
 
   -- ---- a stop at n: of a mode that enters frames, of a literal, of either
 
-  module _ (end : Bool) (other : literal ≡ false) where
-    entering : {stop : Stop} {after : ℕ} → gap stop ≡ 0 → n < after → after ≤ hi → StopStands literal n hi stop n after
-    entering g x y =
+  module _ (end : Bool) (other : isLiteral m ≡ false) where
+    entering : {stop : Stop} {after : ℕ} → gap stop ≡ 0 → isInterpolation stop ≡ false → n < after → after ≤ hi
+        → StopStands (isLiteral m) n hi stop n after
+    entering g i x y =
         record {
           place = omega arith;
           order = omega arith;
           inside = y;
           on = λ e. x;
           keeps = λ e. absurd (false≢true (sym other ∙ e));
+          own = λ e. i;
         }
 
-    variable-stands : (p : ℕ) (l : Look) → n < p → p ≤ hi → Stands literal n b hi (variable n p l)
+    variable-stands : (p : ℕ) (l : Look) → n < p → p ≤ hi → Stands m n b hi (variable n p l)
     unfolding variable gap
-    variable-stands p (Look.Settled f) x y = entering refl x y
+    variable-stands p (Look.Settled f) x y = entering refl refl x y
     variable-stands p Look.Undecided x y = tt
 
-    name-stands : (p : ℕ) (xs : List ℕ) → n < p → p + length xs ≤ hi → Stands literal n b hi (name end n p xs)
+    name-stands : (p : ℕ) (xs : List ℕ) → n < p → p + length xs ≤ hi → Stands m n b hi (name end n p xs)
     unfolding name
     name-stands p [] x y = variable-stands p (follow end []) x (omega arith)
     name-stands p (c ∷ xs) x y =
         if-stands (isIdentifier c) _ _ (name-stands (suc p) xs (omega arith) (omega arith))
         (variable-stands p (follow end (c ∷ xs)) x (omega arith))
 
-    dollar-stands : (xs : List ℕ) → suc n + length xs ≤ hi → code "$" ≡ b → Stands literal n b hi (dollar end n xs)
+    dollar-stands : (xs : List ℕ) → suc n + length xs ≤ hi → code "$" ≡ b → Stands m n b hi (dollar end n xs)
     unfolding dollar gap
     dollar-stands [] y e = if-stands end _ _ (itself e (omega arith)) tt
     dollar-stands (c ∷ xs) y e =
-        if-stands (c is "{") _ _ (entering refl (omega arith) (omega arith))
+        if-stands (c is "{") _ _ (entering refl refl (omega arith) (omega arith))
         (if-stands (isStart c) _ _ (name-stands (suc (suc n)) xs (omega arith) (omega arith)) (itself e (omega arith)))
 
-    brace-stands : (xs : List ℕ) → suc n + length xs ≤ hi → code "{" ≡ b → Stands literal n b hi (brace end n xs)
+    brace-stands : (xs : List ℕ) → suc n + length xs ≤ hi → code "{" ≡ b → Stands m n b hi (brace end n xs)
     unfolding brace gap
     brace-stands [] y e = if-stands end _ _ (itself e (omega arith)) tt
     brace-stands (c ∷ xs) y e =
-        if-stands (c is "$") _ _ (entering refl (omega arith) (omega arith)) (itself e (omega arith))
+        if-stands (c is "$") _ _ (entering refl refl (omega arith) (omega arith)) (itself e (omega arith))
 
-  module _ (end : Bool) (own : literal ≡ true) where
-    found-stands : n ≤ hi → StopStands literal n hi Stop.Interpolation n n
+  module _ (end : Bool) (left : isLiteral m ≡ true) where
+    found-stands : n ≤ hi → StopStands (isLiteral m) n hi Stop.Interpolation n n
     unfolding gap
     found-stands y =
         record {
           place = omega arith;
           order = omega arith;
           inside = y;
-          on = λ e. absurd (false≢true (sym e ∙ own));
+          on = λ e. absurd (false≢true (sym e ∙ left));
           keeps = λ e. refl;
+          own = λ e. absurd (false≢true (sym e ∙ left));
         }
 
     findDollar-stands : (xs : List ℕ) → suc n + length xs ≤ hi → code "$" ≡ b
-        → Stands literal n b hi (findDollar end n xs)
+        → Stands m n b hi (findDollar end n xs)
     unfolding findDollar
     findDollar-stands [] y e = if-stands end _ _ (itself e (omega arith)) tt
     findDollar-stands (c ∷ xs) y e =
         if-stands (c is "{" || isStart c) _ _ (found-stands (omega arith)) (itself e (omega arith))
 
     findBrace-stands : (xs : List ℕ) → suc n + length xs ≤ hi → code "{" ≡ b
-        → Stands literal n b hi (findBrace end n xs)
+        → Stands m n b hi (findBrace end n xs)
     unfolding findBrace
     findBrace-stands [] y e = if-stands end _ _ (itself e (omega arith)) tt
     findBrace-stands (c ∷ xs) y e = if-stands (c is "$") _ _ (found-stands (omega arith)) (itself e (omega arith))
 
-  quote-stands : suc n ≤ hi → StopStands literal n hi Stop.Quote n (suc n)
+  closing : {stop : Stop} {from after : ℕ} → n + gap stop ≡ from → from ≤ after → n < after → after ≤ hi
+      → enters stop ≡ false → isInterpolation stop ≡ false → StopStands (isLiteral m) n hi stop from after
+  closing p o x y k i = record { place = p; order = o; inside = y; on = λ e. x; keeps = λ e. k; own = λ e. i }
+
+  quote-stands : suc n ≤ hi → StopStands (isLiteral m) n hi Stop.Quote n (suc n)
   unfolding gap
-  quote-stands y =
-      record { place = omega arith; order = omega arith; inside = y; on = λ e. omega arith; keeps = λ e. refl }
+  quote-stands y = closing (omega arith) (omega arith) (omega arith) y refl refl
 
   -- ---- closers
 
   label-stands : (ind : Indentation) (amount after : ℕ) → suc n + amount ≤ after → after ≤ hi
-      → StopStands literal n hi (Stop.Label ind amount) (suc n + amount) after
+      → StopStands (isLiteral m) n hi (Stop.Label ind amount) (suc n + amount) after
   unfolding gap
-  label-stands ind amount after x y =
-      record { place = omega arith; order = x; inside = y; on = λ e. omega arith; keeps = λ e. refl }
+  label-stands ind amount after x y = closing (omega arith) x (omega arith) y refl refl
 
-  closer-stands : (size : ℕ) (ind : Indentation) (amount : ℕ) → suc n + amount + size ≤ hi
-      → Stands literal n b hi (closer size ind amount (suc n + amount))
+  closer-stands : isAmong invalidDocIndentation (faults m) ≡ true → (size : ℕ) (ind : Indentation) (amount : ℕ)
+      → suc n + amount + size ≤ hi
+      → Stands m n b hi (closer size ind amount (suc n + amount))
   unfolding closer
-  closer-stands size Indentation.None amount y = label-stands Indentation.None amount _ (omega arith) y
-  closer-stands size Indentation.Space amount y = label-stands Indentation.Space amount _ (omega arith) y
-  closer-stands size Indentation.Tab amount y = label-stands Indentation.Tab amount _ (omega arith) y
-  closer-stands size Indentation.Mixed amount y = fault refl (omega arith) (omega arith)
+  closer-stands doc size Indentation.None amount y = label-stands Indentation.None amount _ (omega arith) y
+  closer-stands doc size Indentation.Space amount y = label-stands Indentation.Space amount _ (omega arith) y
+  closer-stands doc size Indentation.Tab amount y = label-stands Indentation.Tab amount _ (omega arith) y
+  closer-stands doc size Indentation.Mixed amount y = fault doc (omega arith) (omega arith)
 
-  module _ (label : List ℕ) (end : Bool) (same : code "\n" ≡ b) where
+  module _ (doc : isAmong invalidDocIndentation (faults m) ≡ true) (label : List ℕ) (end : Bool)
+      (same : code "\n" ≡ b) where
     judged-stands : (ind : Indentation) (amount : ℕ) (ys : List ℕ) → suc n + amount + length ys ≤ hi
-        → Stands literal n b hi (judged (matched label ys) end n (closer (length label) ind amount (suc n + amount)))
+        → Stands m n b hi (judged (matched label ys) end n (closer (length label) ind amount (suc n + amount)))
     unfolding judged
     judged-stands ind amount ys y = go (matched label ys) (matched-length label ys)
       where
-        go : (m : Match) → (m ≡ Match.Whole → length label ≤ length ys)
-            → Stands literal n b hi (judged m end n (closer (length label) ind amount (suc n + amount)))
-        go Match.Whole h = closer-stands (length label) ind amount (omega (arith, h refl))
+        go : (found : Match) → (found ≡ Match.Whole → length label ≤ length ys)
+            → Stands m n b hi (judged found end n (closer (length label) ind amount (suc n + amount)))
+        go Match.Whole h = closer-stands doc (length label) ind amount (omega (arith, h refl))
         go Match.Other h = itself same (omega arith)
         go Match.Undecided h = if-stands end _ _ (itself same (omega arith)) tt
 
     line-stands : (ind : Indentation) (amount : ℕ) (xs : List ℕ) → suc n + amount + length xs ≤ hi
-        → Stands literal n b hi (line label end n ind amount xs)
+        → Stands m n b hi (line label end n ind amount xs)
     unfolding line
     line-stands ind amount [] y = judged-stands ind amount [] y
     line-stands ind amount (c ∷ xs) y =
@@ -310,43 +345,46 @@ module _ (n b : ℕ) (rest : List ℕ) (label : List ℕ) (end : Bool) where
   hi = n + 1 + length rest
 
   -- where b is this byte, the first; else the other
-  at-byte : (literal : Bool) (c : Char) (u v : TextUnit) → (code c ≡ b → Stands literal n b hi u)
-      → Stands literal n b hi v
-      → Stands literal n b hi (if b is c then u else v)
-  at-byte literal c u v x y =
-      choice (Stands literal n b hi) (b is c) u v (λ e. x (sym (eqb-true b (code c) e))) (λ e. y)
+  at-byte : (m : Mode) (c : Char) (u v : TextUnit) → (code c ≡ b → Stands m n b hi u) → Stands m n b hi v
+      → Stands m n b hi (if b is c then u else v)
+  at-byte m c u v x y = choice (Stands m n b hi) (b is c) u v (λ e. x (sym (eqb-true b (code c) e))) (λ e. y)
 
   plain-stands : ByteStands n b hi b (suc n)
-  plain-stands = itself true n b hi refl (omega arith)
+  plain-stands = itself Mode.Single n b hi refl (omega arith)
 
-  quoted : (literal : Bool) → StopStands literal n hi Stop.Quote n (suc n)
-  quoted literal = quote-stands literal n b hi (omega arith)
+  quoted : (m : Mode) → StopStands (isLiteral m) n hi Stop.Quote n (suc n)
+  quoted m = quote-stands m n b hi (omega arith)
 
-  escaped : (literal : Bool) → code "\\" ≡ b → Stands literal n b hi (escape end (suc n) rest)
-  escaped literal e = escape-stands literal n b hi end e rest (omega arith)
+  escaped : (m : Mode) → isAmong invalidUnicodeEscape (faults m) ≡ true → isAmong invalidOctalEscape (faults m) ≡ true
+      → code "\\" ≡ b → Stands m n b hi (escape end (suc n) rest)
+  escaped m unicode octal e = escape-stands m n b hi unicode octal end e rest (omega arith)
 
   -- `$` and `{` of a mode that enters frames
-  signs : Stands false n b hi
+  signs : (m : Mode) → isLiteral m ≡ false → Stands m n b hi
       (if b is "$" then dollar end n rest else if b is "{" then brace end n rest else TextUnit.Byte b (suc n))
-  signs =
-      at-byte false "$" _ _ (dollar-stands false n b hi end refl rest (omega arith))
-      (at-byte false "{" _ _ (brace-stands false n b hi end refl rest (omega arith)) plain-stands)
+  signs m other =
+      at-byte m "$" _ _ (dollar-stands m n b hi end other rest (omega arith))
+      (at-byte m "{" _ _ (brace-stands m n b hi end other rest (omega arith)) plain-stands)
 
-  lined : code "\n" ≡ b → Stands false n b hi (line label end n Indentation.None 0 rest)
-  lined e = line-stands false n b hi label end e Indentation.None 0 rest (omega arith)
+  lined : (m : Mode) → isAmong invalidDocIndentation (faults m) ≡ true → code "\n" ≡ b
+      → Stands m n b hi (line label end n Indentation.None 0 rest)
+  lined m doc e = line-stands m n b hi doc label end e Indentation.None 0 rest (omega arith)
 
-  pub unit-stands : (m : Mode) → Stands (isLiteral m) n b hi (unitAt m label end n b rest)
-  unfolding unitAt
+  pub unit-stands : (m : Mode) → Stands m n b hi (unitAt m label end n b rest)
+  unfolding unitAt isAmong
   unit-stands Mode.Single =
-      at-byte true "'" _ _ (λ e. quoted true)
-      (at-byte true "\\" _ _ (λ e. quoteEscape-stands true n b hi end e rest (omega arith)) plain-stands)
+      at-byte Mode.Single "'" _ _ (λ e. quoted Mode.Single)
+      (at-byte Mode.Single "\\" _ _ (λ e. quoteEscape-stands Mode.Single n b hi end e rest (omega arith)) plain-stands)
   unit-stands Mode.Double =
-      at-byte true "\"" _ _ (λ e. quoted true)
-      (at-byte true "\\" _ _ (escaped true)
-      (at-byte true "$" _ _ (findDollar-stands true n b hi end refl rest (omega arith))
-      (at-byte true "{" _ _ (findBrace-stands true n b hi end refl rest (omega arith)) plain-stands)))
+      at-byte Mode.Double "\"" _ _ (λ e. quoted Mode.Double)
+      (at-byte Mode.Double "\\" _ _ (escaped Mode.Double refl refl)
+      (at-byte Mode.Double "$" _ _ (findDollar-stands Mode.Double n b hi end refl rest (omega arith))
+      (at-byte Mode.Double "{" _ _ (findBrace-stands Mode.Double n b hi end refl rest (omega arith)) plain-stands)))
   unit-stands Mode.DoubleQuote =
-      at-byte false "\"" _ _ (λ e. quoted false) (at-byte false "\\" _ _ (escaped false) signs)
-  unit-stands Mode.ShellExec = at-byte false "`" _ _ (λ e. quoted false) signs
-  unit-stands Mode.Heredoc = at-byte false "\n" _ _ lined (at-byte false "\\" _ _ (escaped false) signs)
-  unit-stands Mode.Nowdoc = at-byte false "\n" _ _ lined plain-stands
+      at-byte Mode.DoubleQuote "\"" _ _ (λ e. quoted Mode.DoubleQuote)
+      (at-byte Mode.DoubleQuote "\\" _ _ (escaped Mode.DoubleQuote refl refl) (signs Mode.DoubleQuote refl))
+  unit-stands Mode.ShellExec = at-byte Mode.ShellExec "`" _ _ (λ e. quoted Mode.ShellExec) (signs Mode.ShellExec refl)
+  unit-stands Mode.Heredoc =
+      at-byte Mode.Heredoc "\n" _ _ (lined Mode.Heredoc refl)
+      (at-byte Mode.Heredoc "\\" _ _ (escaped Mode.Heredoc refl refl) (signs Mode.Heredoc refl))
+  unit-stands Mode.Nowdoc = at-byte Mode.Nowdoc "\n" _ _ (lined Mode.Nowdoc refl) plain-stands

@@ -6,3 +6,5 @@ pub mod Units
 pub mod Readings
 pub mod Labels
 pub mod Manual
+pub mod Variables
+pub mod Heredocs

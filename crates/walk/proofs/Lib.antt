@@ -5,3 +5,4 @@ pub mod Walking
 pub mod Passed
 pub mod Held
 pub mod Values
+pub mod Results

@@ -8,10 +8,9 @@ use mathlib.Core.Bool.{Bool, true, false, false≢true}
 use mathlib.Core.List.{List}
 use lib.Dec.{eqb}
 use lib.ListN.{length}
-use borrow.Author.Tests.{le-leb}
-use Rattle.byte.proofs.Tests.{choice, &&-both}
+use Rattle.byte.proofs.Tests.{choice}
 use Rattle.state.specs.declared.Session.{Session}
-use Rattle.state.specs.Gates.{lentRefusal, tablesFit}
+use Rattle.state.specs.Gates.{lentRefusal}
 use Rattle.outcome.specs.declared.Call.{Call}
 use Rattle.outcome.specs.declared.Change.{Change}
 use Rattle.outcome.specs.Outcomes.{Outcome, Piece}
@@ -27,7 +26,7 @@ use Rattle.lexer.specs.Calls.{called}
 use Rattle.lexer.proofs.Calls.{Lent, lent-opened, open-gives}
 use Rattle.demands.specs.Walks.{isDone}
 use Rattle.demands.proofs.Good.{StaysSound, call-sound}
-use Rattle.demands.proofs.Longer.{gate-open}
+use Rattle.demands.proofs.Steps.{call-open}
 
 module _ (src : List ℕ) (m : Mark) (t : Tables) where
   abbrev Kept : Reached → Type 0
@@ -74,9 +73,5 @@ module _ (call : Call) (src : List ℕ) (end : Bool) (s : Session) (l q : List �
   pool-kept = ap length (place-gives .pool) ∙ place-sound .pool
 
   pub place-next : lentRefusal src (length l′) (length q′) (turnOf s x .session) ≡ 0
-  unfolding tablesFit
   place-next =
-      rw (list-kept, pool-kept)
-      (gate-open src (length l) (length q) (turnOf s x .session) (rw (← place-gives .turn) at place-sound .sound)
-      (opened .source)
-      (&&-both _ _ (le-leb _ _ (opened .room)) (le-leb _ _ (opened .places))))
+      rw (place-gives .list, place-gives .pool) (rw (← place-gives .turn) at (call-open call src end s l q gate))

@@ -1,6 +1,6 @@
 -- A walk on its way: what is left of it gives what the whole gives. Assumes nothing.
---   Walking   the walk from the beginning is the walk from here on, of the calls that are left; the gate is open
---             here; whether the first call is behind; and what was written to the numbers
+--   Walking   the walk from the beginning is the walk from here on, of the calls that are left, and each call before it is done;
+--             the gate is open here; whether the first call is made; and what was written to the numbers
 --   walking-..   where it begins, where it goes on, and where it ends
 use Prim.Native.Nat.{ℕ, _+_, _*_, _-_, _≤_, _<_}
 use mathlib.Core.Path.{_≡_, refl, sym, ap, subst, _∙_}
@@ -19,6 +19,7 @@ use Rattle.state.specs.declared.Slot.{Slot}
 use Rattle.state.specs.declared.Session.{Session}
 use Rattle.state.specs.declared.Turn.{Turn}
 use Rattle.state.specs.Bounds.{isFrame, noSlot}
+use Rattle.state.specs.Calls.{done}
 use Rattle.state.specs.Gates.{lentRefusal}
 use Rattle.layout.specs.Sessions.{slotNumbers, framesIn, areChoices, choicesIn, depthIn, sessionIn}
 use Rattle.layout.specs.Answers.{refusalIn}
@@ -37,11 +38,11 @@ use Rattle.lexer.specs.Turns.{After, Gives, depthAfter, framesAfter, markOf, tu
 use Rattle.lexer.specs.Calls.{called}
 use Rattle.lexer.specs.Code.{sessionAt, outcomeAt, Standing}
 use Rattle.lexer.proofs.Calls.{lent-opened, open-depth, open-standing, open-free}
-use Rattle.demands.specs.Walks.{calledOn, isDone}
+use Rattle.demands.specs.Walks.{calledOn, callsDone, isDone}
 use Rattle.walk.specs.Walks.{isWritten, Walks}
 use Rattle.walk.specs.Code.{topIn, frameAfter, numbersAfter, placedAt, endedAt, Deep, Opened, Changes, Changed}
 use Rattle.walk.proofs.Places.{place-still, place-gives, list-kept, pool-kept, place-next}
-use Rattle.walk.proofs.Walks.{calledOn-on, calledOn-over, done-unrefused, isWritten-some}
+use Rattle.walk.proofs.Walks.{calledOn-on, calledOn-over, callsDone-on, callsDone-over, done-unrefused, isWritten-some}
 use Rattle.walk.proofs.Writes.{changed-place}
 
 abbrev place : Mark → ℕ → Place
@@ -54,6 +55,8 @@ standing mark depth n choices = sessionAt (place mark depth) (framesIn 64 (drop 
 pub record Walking (first : Call) (most : ℕ) (src : List ℕ) (end : Bool) (n₀ l₀ q₀ : List ℕ) (left : ℕ) (call : Call)
     (mark : Mark) (depth : ℕ) (f : Frame) (choices : Choices) (n l q : List ℕ) : Type 0 where
   pub same : calledOn first most src end (sessionIn n₀) l₀ q₀ ≡ calledOn call left src end (standing mark depth n choices) l q
+  pub count : callsDone first most src end (sessionIn n₀) l₀ q₀ + left
+      ≡ most + callsDone call left src end (standing mark depth n choices) l q
   pub gate : lentRefusal src (length l) (length q) (standing mark depth n choices) ≡ 0
   pub top : f ≡ topIn n depth
   pub low : 1 ≤ depth
@@ -100,6 +103,7 @@ module _ (first : Call) (most : ℕ) (src : List ℕ) (end : Bool) (n₀ l₀ q�
         rw (m, c, depth-first most src n₀ l₀ q₀ o .1) in
         record {
           same = ap (λ (s : Session). calledOn first most src end s l₀ q₀) (sym begin);
+          count = rw begin (omega arith);
           gate = rw begin (o .gate);
           top = t;
           low = walking-low most src n₀ l₀ q₀ o;
@@ -140,16 +144,18 @@ module _ (first : Call) (most : ℕ) (src : List ℕ) (end : Bool) (n₀ l₀ q�
         (rewritten n₀ n (w .slots) (rw (← w .size) (w .long)) (w .flags) (m .span) depth (m .tokens) (m .bytes) n′ e)
 
     pub walking-end : (n′ : List ℕ) → left ≤ 0 → n′ ≡ placedAt mark depth n
-        → Walks first most src end n₀ l₀ q₀ Answer.Done n′ l q
-    unfolding calledOn
+        → Walks first most src end n₀ l₀ q₀ (record { answer = Answer.Done; done = most }) n′ l q
+    unfolding calledOn callsDone
     walking-end n′ h e =
         let none : left ≡ 0 = omega (arith, h) in
-        let over : all ≡ calledOn call 0 src end here l q = w .same ∙ rw none in
+        let zero : callsDone call left src end here l q ≡ 0 = rw none in
+        let over : all ≡ record { turn = done here; list = l; pool = q } = w .same ∙ rw (none, w .gate) in
         let done-so = w .begun (λ z. omega (arith, z, none, w .some)) in
         let first-so : isWritten most one ≡ true =
         isWritten-some most one (w .some) ∙ rw (done-unrefused (one .turn .answer) done-so) in
         record {
           answer = rw over;
+          done = omega (arith, w .count, none, zero);
           list = rw over;
           pool = rw over;
           stays = λ z. absurd (false≢true (sym z ∙ first-so));
@@ -191,7 +197,7 @@ module _ (first : Call) (most : ℕ) (src : List ℕ) (end : Bool) (n₀ l₀ q�
       module _ (flag : Bool) (d : flag ≡ isDone (x .answer)) where
         -- it is the last: the frame stays
         pub walking-over : (n′ : List ℕ) → not flag ≡ true → n′ ≡ endedAt (ltb left most) (x .answer) (x .mark) depth n
-            → Walks first most src end n₀ l₀ q₀ (x .answer) n′ l′ q′
+            → Walks first most src end n₀ l₀ q₀ (record { answer = x .answer; done = most - left }) n′ l′ q′
         unfolding framesAfter depthAfter
         walking-over n′ t e =
             let over : isDone (x .answer) ≡ false = sym d ∙ not-true flag t in
@@ -201,8 +207,10 @@ module _ (first : Call) (most : ℕ) (src : List ℕ) (end : Bool) (n₀ l₀ q�
             let moved : turnOf here x .session ≡ all .turn .session =
             rw last (ap (λ (t : Turn). t .session) (made .turn)) in
             let ends : standing (x .mark) depth n choices ≡ all .turn .session = rw keep at moved in
+            let none = callsDone-over call src end here l q left (ap isDone answer-same ∙ over) in
             record {
               answer = rw last (sym answer-same);
+              done = omega (arith, w .count, w .least, none);
               list = rw last (made .list);
               pool = rw last (made .pool);
               stays = λ z. untouched (sym written-so ∙ z);
@@ -317,8 +325,10 @@ module _ (first : Call) (most : ℕ) (src : List ℕ) (end : Bool) (n₀ l₀ q�
               ap (λ (j : ℕ). sessionAt (place (x .mark) j) (framesIn 64 (drop 7 n′)) choices) (k .deep)
               ∙ ap (λ (y : List Slot). sessionAt (place (x .mark) (turned .depth)) y choices) frames-next in
               let after = calledOn-on call src end here l q left h (ap isDone answer-same ∙ done-so) in
+              let more = callsDone-on call src end here l q left h (ap isDone answer-same ∙ done-so) in
               record {
                 same = rw (same-so, made .list, made .pool) (w .same ∙ (rw (← made .turn) at after));
+                count = rw (same-so, made .list, made .pool) (omega (arith, w .count, h, rw (← made .turn) at more));
                 gate = rw same-so gate-next;
                 top = e ∙ topped (x .change) refl;
                 low = walking-next .low;

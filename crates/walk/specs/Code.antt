@@ -27,7 +27,7 @@ use Rattle.layout.specs.Answers.{refusalIn}
 use Rattle.layout.specs.Lent.{placeNumbers}
 use Rattle.outcome.specs.declared.Call.{Call}
 use Rattle.outcome.specs.declared.Change.{Change}
-use Rattle.modes.specs.Code.{PassesOn}
+use Rattle.modes.specs.Code.{quickOn}
 use Rattle.commit.specs.declared.Mark.{Mark}
 use Rattle.commit.specs.Code.{isFull}
 use Rattle.lexer.specs.Turns.{depthAfter}
@@ -50,9 +50,9 @@ numbersAfter Change.Leave depth numbers = numbers
 abbrev pub markAt : Mark → Span → Mark
 markAt m p = record { span = p; tokens = m .tokens; bytes = m .bytes }
 
-pub record GoesAlong (call : Call) (src : List ℕ) (f : Frame) (m : Mark) (most : ℕ) (m′ : Mark) (left : ℕ) : Type 0 where
-  pub passes : PassesOn call src f (m .span) most (m′ .span) left
-  pub mark : m′ ≡ markAt m (m′ .span)
+pub record GoesAlong (call : Call) (src : List ℕ) (f : Frame) (m : Mark) (most : ℕ) (m′ : Mark) (left′ : ℕ) : Type 0 where
+  pub mark : m′ ≡ markAt m (quickOn call src f (m .span) most .span)
+  pub left : left′ ≡ quickOn call src f (m .span) most .left
 
 abbrev pub placedAt : Mark → ℕ → List ℕ → List ℕ
 placedAt m depth numbers = laid numbers 0 (placeNumbers (m .span) depth (m .tokens) (m .bytes))

@@ -21,6 +21,12 @@ ghost use Rattle.demands.specs.Walks.{calledOn, isDone};
 ghost use Rattle.walk.specs.Walks.{Walks};
 ghost use Rattle.walk.specs.Code.{topIn, frameAfter, GoesAlong, placedAt, endedAt, Deep, Opened, Changes, Changed};
 
+// How a walk ended: its last answer, and how many of its calls were done.
+pub struct Ended {
+    pub answer: Answer,
+    pub done: u32,
+}
+
 // Done, and not finished.
 fn is_done(a: Answer) -> bool
     ensures { λ r. ⌜ r ≡ isDone a ⌝ }
@@ -136,7 +142,7 @@ fn walk_on(
     session: &mut [u32],
     list: &mut [u32],
     pool: &mut [u8],
-) -> Answer
+) -> Ended
     requires { ⌜ Opened most (now src) (now session) (length (now list)) (length (now pool)) ⌝ }
     ensures { λ r. ⌜ Walks first most (now (src .entry)) end (now (session .entry)) (now (list .entry)) (now (pool .entry)) r (now (session .exit)) (now (list .exit)) (now (pool .exit)) ⌝ }
 {
@@ -152,7 +158,10 @@ fn walk_on(
         left = r.left;
         if left == 0 {
             put_at(session, mark, depth);
-            return Answer::Done;
+            return Ended {
+                answer: Answer::Done,
+                done: most,
+            };
         }
         let at = Place { mark, depth };
         let x = lexer::step_at(call, src, end, f, choices, at, list, pool);
@@ -160,7 +169,10 @@ fn walk_on(
         let answer = x.answer;
         if !is_done(answer) {
             put_end(session, left < most, answer, mark, depth);
-            return answer;
+            return Ended {
+                answer,
+                done: most - left,
+            };
         }
         call = Call::Step;
         left -= 1;
@@ -169,11 +181,14 @@ fn walk_on(
         f = frame_after(session, depth, f, change);
     }
     put_at(session, mark, depth);
-    Answer::Done
+    Ended {
+        answer: Answer::Done,
+        done: most,
+    }
 }
 
-// A call, and at most `most` in all with the steps after it, up to one that is not done: over the host's own numbers. Where none is
-// wanted, or the first is refused, they stay as they were.
+// A call, and at most `most` in all with the steps after it, up to one that is not done: over the host's own numbers. The
+// gate is asked also where none is wanted. Where none is, or the first is refused, they stay as they were.
 pub fn turns(
     call: Call,
     src: &[u8],
@@ -182,13 +197,10 @@ pub fn turns(
     session: &mut [u32],
     list: &mut [u32],
     pool: &mut [u8],
-) -> Answer
+) -> Ended
     requires { ⌜ 199 ≤ length (now session) ⌝ }
     ensures { λ r. ⌜ Walks call most (now (src .entry)) end (now (session .entry)) (now (list .entry)) (now (pool .entry)) r (now (session .exit)) (now (list .exit)) (now (pool .exit)) ⌝ }
 {
-    if most == 0 {
-        return Answer::Done;
-    }
     let shut = layout::gate_in(src, list.len(), pool.len(), session);
     if shut != 0 {
         let origin = Span {
@@ -196,9 +208,16 @@ pub fn turns(
             column: 1,
             position: 0,
         };
-        return Answer::Refused {
+        let answer = Answer::Refused {
             number: shut,
             span: origin,
+        };
+        return Ended { answer, done: 0 };
+    }
+    if most == 0 {
+        return Ended {
+            answer: Answer::Done,
+            done: 0,
         };
     }
     walk_on(call, src, end, most, session, list, pool)
@@ -220,7 +239,8 @@ pub fn calls(
 {
     let mut numbers = [0u32; 199];
     layout::put_session(&mut numbers, s);
-    let answer = turns(call, src, end, most, &mut numbers, list, pool);
+    let r = turns(call, src, end, most, &mut numbers, list, pool);
+    let answer = r.answer;
     let session = layout::session_in(&numbers);
     Turn { answer, session }
 }

@@ -3,7 +3,7 @@
 //! Each call lends slices that Rust holds to be whole and apart, and keeps none; the library asks for nothing else. This is the one
 //! place with unsafe code.
 
-use crate::numbers::layout::{ANSWER, SESSION};
+use crate::numbers::layout::{ANSWER, ANSWER_COUNTED, SESSION};
 
 extern "C" {
     fn puretakoi_fresh(choices: u32, session: *mut u32, session_len: usize) -> u32;
@@ -110,6 +110,9 @@ pub type Numbers = [u32; SESSION];
 /// An answer's numbers.
 pub type Answer = [u32; ANSWER];
 
+/// An answer's numbers, and how many steps were done.
+pub type Counted = [u32; ANSWER_COUNTED];
+
 /// A fresh session; where a bit is no choice's flag, all numbers are 0, which is no session.
 pub fn fresh(choices: u32) -> Numbers {
     let mut session = [0; SESSION];
@@ -118,8 +121,8 @@ pub fn fresh(choices: u32) -> Numbers {
 }
 
 /// At most `most` steps on lent slices.
-pub fn walk(src: &[u8], end: u32, most: u32, session: &mut Numbers, list: &mut [u32], pool: &mut [u8]) -> Answer {
-    let mut answer = [0; ANSWER];
+pub fn walk(src: &[u8], end: u32, most: u32, session: &mut Numbers, list: &mut [u32], pool: &mut [u8]) -> Counted {
+    let mut answer = [0; ANSWER_COUNTED];
     let (numbers, answered) = (session.as_mut_ptr(), answer.as_mut_ptr());
     let (places, values) = (list.as_mut_ptr(), pool.as_mut_ptr());
     unsafe {
@@ -135,7 +138,7 @@ pub fn walk(src: &[u8], end: u32, most: u32, session: &mut Numbers, list: &mut [
             values,
             pool.len(),
             answered,
-            ANSWER,
+            ANSWER_COUNTED,
         )
     };
     answer

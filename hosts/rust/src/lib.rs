@@ -53,7 +53,7 @@ pub use frame::{Frame, Label};
 pub use numbers::{kinds, limits, refusals, Kind, Reason};
 pub use record::{records, Record};
 pub use refusal::{Refusal, Span};
-pub use session::{End, Progress, Session};
+pub use session::{End, Progress, Session, Walk};
 pub use stream::{Event, Stream, Token};
 pub use tokens::{tokens, Tokens};
 

@@ -165,11 +165,13 @@ pub(crate) mod layout {
         SLOTS = 7;
         SLOT = 3;
         ANSWER = 5;
+        ANSWER_COUNTED = 6;
         ANSWER_WAY = 0;
         ANSWER_REFUSAL = 1;
         ANSWER_LINE = 2;
         ANSWER_COLUMN = 3;
         ANSWER_POSITION = 4;
+        ANSWER_STEPS = 5;
         RECORD = 8;
         RECORD_KIND = 0;
         RECORD_DETAIL = 1;

@@ -3,7 +3,7 @@
 use std::fmt;
 
 use crate::choices::{Choices, Reading};
-use crate::foreign::{self, Answer, Call, Numbers};
+use crate::foreign::{self, Call, Numbers};
 use crate::frame::Frame;
 use crate::numbers::choices::{DONE, FINISHED};
 use crate::numbers::layout::*;
@@ -33,6 +33,15 @@ pub enum Progress {
     Done,
     /// Done, and nothing is left to read.
     Finished,
+}
+
+/// How a walk ended.
+#[derive(Clone, Copy, Debug, PartialEq, Eq, Hash)]
+pub struct Walk {
+    /// What its last step came to, or why that was refused.
+    pub end: Result<Progress, Refusal>,
+    /// How many steps were done; a last one that is finished or refused does not count.
+    pub steps: u32,
 }
 
 /// Where a script is being read: cursor, mode stack, the fill marks of list and pool, and its choices.
@@ -143,7 +152,8 @@ impl Session {
 
     /// At most `most` steps from the cursor on, up to one that is not done: faster than a call for each. New records and value
     /// bytes stand behind the fill marks. Where a step is refused, the session stands before it, and what the steps before it wrote
-    /// stays; where that is the first step, all is as it was. So after 7 or 8 take the tokens, empty the tables and walk on.
+    /// stays; where that is the first step, all is as it was. So after 7 or 8 take the tokens, empty the tables and walk on. With
+    /// `most` 0 nothing is read, and the answer is done, or 11 or 12: so a session can be tried on a script.
     pub fn walk(
         &mut self,
         src: &[u8],
@@ -152,7 +162,13 @@ impl Session {
         list: &mut [u32],
         pool: &mut [u8],
     ) -> Result<Progress, Refusal> {
-        progress(foreign::walk(src, end.number(), most, &mut self.numbers, list, pool))
+        self.counted_walk(src, end, most, list, pool).end
+    }
+
+    /// The same, which also tells how many steps were done: session, list and pool stand just as after so many.
+    pub fn counted_walk(&mut self, src: &[u8], end: End, most: u32, list: &mut [u32], pool: &mut [u8]) -> Walk {
+        let answer = foreign::walk(src, end.number(), most, &mut self.numbers, list, pool);
+        Walk { end: progress(&answer), steps: answer[ANSWER_STEPS] }
     }
 
     /// One step from the cursor on, for a host that looks at the session before each. New records and value bytes stand behind the
@@ -196,17 +212,17 @@ impl Session {
 
     /// The cursor goes on by `count` bytes.
     pub fn skip(&mut self, src: &[u8], count: usize) -> Result<(), Refusal> {
-        progress(foreign::skip(src, count, &mut self.numbers)).map(drop)
+        progress(&foreign::skip(src, count, &mut self.numbers)).map(drop)
     }
 
     /// One frame more.
     pub fn push(&mut self, src: &[u8], frame: Frame) -> Result<(), Refusal> {
-        progress(foreign::push(src, frame.slot(), &mut self.numbers)).map(drop)
+        progress(&foreign::push(src, frame.slot(), &mut self.numbers)).map(drop)
     }
 
     /// One frame less.
     pub fn pop(&mut self, src: &[u8]) -> Result<(), Refusal> {
-        progress(foreign::pop(src, &mut self.numbers)).map(drop)
+        progress(&foreign::pop(src, &mut self.numbers)).map(drop)
     }
 
     fn read(
@@ -217,12 +233,12 @@ impl Session {
         list: &mut [u32],
         pool: &mut [u8],
     ) -> Result<Progress, Refusal> {
-        progress(foreign::read(call, src, end.number(), &mut self.numbers, list, pool))
+        progress(&foreign::read(call, src, end.number(), &mut self.numbers, list, pool))
     }
 }
 
 /// What an answer's numbers say.
-fn progress(answer: Answer) -> Result<Progress, Refusal> {
+fn progress(answer: &[u32]) -> Result<Progress, Refusal> {
     match answer[ANSWER_WAY] {
         DONE => Ok(Progress::Done),
         FINISHED => Ok(Progress::Finished),

@@ -5,7 +5,7 @@ mod lent;
 use cases::pieces::script;
 use cases::random::Random;
 use lent::Lent;
-use puretakoi::{kinds, refusals, End, Frame, Label, Progress, Reading, Refusal, Session, Span};
+use puretakoi::{kinds, refusals, End, Frame, Label, Progress, Reading, Refusal, Session, Span, Walk};
 
 const TRIES: usize = 20_000;
 
@@ -39,12 +39,15 @@ impl Lent {
     }
 }
 
-/// A walk must be as many steps; its answer.
+/// A walk must be as many steps, and tell how many of them were done; its answer.
 fn check(lent: &mut Lent, src: &[u8], end: End, most: u32) -> Result<Progress, Refusal> {
-    let mut stepped = lent.clone();
-    let answer = lent.walk(src, end, most);
+    let (mut stepped, mut again) = (lent.clone(), lent.clone());
+    let Walk { end: answer, steps } = lent.session.counted_walk(src, end, most, &mut lent.list, &mut lent.pool);
     let text = String::from_utf8_lossy(src);
     assert_eq!(answer, stepped.steps(src, end, most), "{} steps of {:?}", most, text);
+    assert_eq!(again.steps(src, end, steps), Ok(Progress::Done), "{} steps of {:?}", steps, text);
+    assert!(answer == Ok(Progress::Finished) || again == stepped, "{} steps of {:?}", steps, text);
+    assert!(steps == most || (steps < most && answer != Ok(Progress::Done)), "{} steps of {:?}", steps, text);
     assert_eq!(lent.numbers(), stepped.numbers(), "{} steps of {:?}", most, text);
     assert_eq!((&lent.list, &lent.pool), (&stepped.list, &stepped.pool), "{} steps of {:?}", most, text);
     answer
@@ -143,6 +146,17 @@ fn no_steps_change_nothing() {
         assert_eq!(lent.walk(src, End::Announced, 0), Ok(Progress::Done));
         assert_eq!(lent, before);
     }
+}
+
+/// A session that is none of this script's, and a script that is too long.
+#[test]
+fn no_steps_ask_the_gate() {
+    let mut lent = Lent::new(Reading::Ported, 3, 20);
+    lent.walk(b"<?php 1;", End::Announced, 2).unwrap();
+    let before = lent.clone();
+    assert_eq!(lent.walk(b"<?ph", End::Announced, 0), refused(refusals::BAD_SESSION, 1, 0));
+    assert_eq!(lent.walk(&[b'a'; 65_537], End::More, 0), refused(refusals::TOO_LARGE, 1, 0));
+    assert_eq!(lent, before);
 }
 
 #[test]

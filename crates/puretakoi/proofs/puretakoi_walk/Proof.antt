@@ -1,6 +1,5 @@
 -- `puretakoi::puretakoi_walk` meets its contract: its first call is a step. Assumes nothing.
 use borrow.Author.Needs.{needs}
-use Rattle.puretakoi.proofs.Walks.{turned-walk}
 use Rattle.puretakoi.proofs.puretakoi_walk.Statement.{statement}
 use Rattle.puretakoi.proofs.puretakoi_walk.Tie as tie
 
@@ -8,4 +7,4 @@ pub puretakoi-walk-spec : {M : Type 1} → statement M
 puretakoi-walk-spec =
     tie.close
     (tie.spec (λ c κs. search needs) (λ c. search needs) (λ c. search needs) (λ c. search needs) (λ c. search needs)
-    (λ c. search turned-walk))
+    (λ c. search needs))

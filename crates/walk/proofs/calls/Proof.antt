@@ -8,4 +8,7 @@ pub calls-spec : {M : Type 1} → statement M
 calls-spec =
     tie.close
     (tie.spec (λ c. search needs) (λ c κs. search needs) (λ c. search needs) (λ c κs. search needs)
-    (λ c. search needs) (λ c κs. search needs) (λ c. search needs) (λ c. search needs) (λ c. search walk-value))
+    (λ c. search needs) (λ c κs. search needs) (λ c. search needs) (λ c. search needs)
+    (λ c.
+    let b = c .before .before .before .before .before .before .before .before in
+    search (walk-value, b .before .before .before .before .before .before .before .before .before .good .1 .1 .1 .1 .0)))

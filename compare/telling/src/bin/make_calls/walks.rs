@@ -1,6 +1,7 @@
-//! Walks of many steps in one call: each kind of script, each refusal at the first step and after others, and `most` from 0 on.
+//! Walks of many steps in one call: each kind of script, each refusal at the first step and after others, and `most` from 0 on. Every
+//! second one tells its steps.
 
-use cases::call::{BYTES, CHOICES, DEPTH, POSITION, RECORD, TOKENS};
+use cases::call::{ANSWER, BYTES, CHOICES, DEPTH, POSITION, RECORD, TOKENS};
 use cases::random::Random;
 use cases::{Call, Function, Told};
 use telling::Teller;
@@ -67,6 +68,7 @@ pub fn calls(random: &mut Random, teller: &mut Teller) -> Vec<Call> {
             .map(|index| Call { arguments: vec![MOST[index % MOST.len()]], ..walk(mode.sample(random)) })
             .collect::<Vec<Call>>()
     }));
+    calls.iter_mut().step_by(2).for_each(|call| call.answer = ANSWER + 1);
     calls
 }
 
@@ -121,7 +123,7 @@ fn deep() -> Vec<Call> {
     calls
 }
 
-/// Walks that are refused at the gate or at their first step, where a walk of no steps is not.
+/// Walks that are refused at the gate, where a walk of no steps is refused too, or at their first step, where it is not.
 fn at_first() -> Vec<Call> {
     let call = plain(Function::Walk, b"", b"a;", bare(SCRIPTING));
     let mut all = vec![
