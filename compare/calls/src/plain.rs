@@ -101,10 +101,11 @@ pub fn record_files(held: &mut Held, count: usize, random: &mut Random) -> Resul
     Ok(())
 }
 
-/// A number of records, and a length around so many; a large one lies at the bound.
+/// A number of records, and a length around so many, or within the next; a large one lies at the bound.
 fn length(is_large: bool, record: usize, random: &mut Random) -> usize {
     let records = if is_large { MOST_TOKENS - 1 + random.below(3) } else { random.below(5) };
-    (records * record + [0, 0, 0, 1, record - 1][random.below(5)]).saturating_sub([0, 0, 0, 1][random.below(4)])
+    let more = [0, 0, 0, 1, record - 1, random.below(record)][random.below(6)];
+    (records * record + more).saturating_sub([0, 0, 0, 1][random.below(4)])
 }
 
 fn to_file(held: &mut Held, is_large: bool, random: &mut Random) -> Result<(), String> {

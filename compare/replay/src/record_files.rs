@@ -27,7 +27,7 @@ const TO_FILE: [(usize, usize, u32); 10] = [
 ];
 
 /// How many bytes of a file and numbers of room for its list, and the refusal or 0.
-const TO_LIST: [(usize, usize, u32); 11] = [
+const TO_LIST: [(usize, usize, u32); 12] = [
     (64, 16, 0),
     (64, 23, 0),
     (32, 8, 0),
@@ -35,6 +35,7 @@ const TO_LIST: [(usize, usize, u32); 11] = [
     (64, 15, 7),
     (32, 7, 7),
     (63, 16, 10),
+    (36, 16, 10),
     (1, 0, 10),
     (65_538 * 32, 16, 11),
     (64, 65_538 * 8, 11),
