@@ -139,6 +139,13 @@ extern "C" {
 #define PURETAKOI_KIND_LITERAL_FLOAT 20                /* a number with a point or an exponent */
 #define PURETAKOI_KIND_COMMENT 21                      /* a comment: its bytes as they stand; a line's without its LF, but with the CR of a CRLF */
 
+/* ---- What `puretakoi_find` has found: 3 numbers. A longer slice is as good; what lies after is not touched. */
+
+#define PURETAKOI_FOUND 3        /* how many numbers it has */
+#define PURETAKOI_FOUND_ANY 0    /* 1 where a record is at or before the byte, 0 where none is */
+#define PURETAKOI_FOUND_RECORD 1 /* its number, from 0: it begins at list[PURETAKOI_RECORD * number]; 0 for none */
+#define PURETAKOI_FOUND_LOOKS 2  /* how many records were looked at: at most 17 */
+
 /* ---- Refusals. Each call gives the number, or 0. */
 
 #define PURETAKOI_UNEXPECTED_END_OF_FILE 1  /* something is still open where the source ends */
@@ -152,7 +159,7 @@ extern "C" {
 #define PURETAKOI_STACK_FULL 9              /* a frame would be the 65th */
 #define PURETAKOI_OUT_OF_PLACE 10           /* the call does not fit, or a slice is too short */
 #define PURETAKOI_TOO_LARGE 11              /* source or pool over 65,536 bytes, or list over 65,537 tokens */
-#define PURETAKOI_BAD_SESSION 12            /* the numbers are no session, or one outside its bounds */
+#define PURETAKOI_BAD_SESSION 12            /* no session, or one outside its bounds; a count above a list's places */
 #define PURETAKOI_STRAY_INDENTATION 13      /* a row of a sheet starts with less than the closing line's indentation */
 
 /* ---- Calls with a session.
@@ -221,6 +228,16 @@ uint32_t puretakoi_list_to_file(const uint32_t *list, size_t list_len, uint8_t *
 
 /* All records of a file as a list. Refused: too many (11), no whole number of records (10), too short a list (7). */
 uint32_t puretakoi_file_to_list(const uint8_t *file, size_t file_len, uint32_t *list, size_t list_len);
+
+/* Which token is under the finger: the last of the first `count` records whose position is at or before `byte`, a
+ * position in the script, from 0. `count` is session[PURETAKOI_TOKENS] for all records of a session. At most 17 records
+ * are looked at, by halving. In a list that was filled from a token mark of 0 by steps, walks and readings, each on the
+ * session and the records that the last one left, it is what a look at every record would find: of records at one
+ * position the last. In a list whose positions fall it is what the halving comes to: a record at or before the byte, or
+ * none, and the same each time. A byte past all records gives the last. Refused, with nothing written: a `found` of
+ * fewer than 3 numbers (10), a list of more than 65,537 places (11), a count above its places (12). */
+uint32_t puretakoi_find(const uint32_t *list, size_t list_len, size_t count, size_t byte, uint32_t *found,
+                        size_t found_len);
 
 #ifdef __cplusplus
 }

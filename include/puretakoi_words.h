@@ -64,7 +64,7 @@ static inline const char *puretakoi_refusal_meaning(uint32_t refusal) {
     case PURETAKOI_TOO_LARGE:
         return "there are more than 65,536 bytes of script or pool, or more than 65,537 tokens";
     case PURETAKOI_BAD_SESSION:
-        return "the session was changed by hand, or belongs to another script";
+        return "the session was changed by hand or belongs to another script, or a count is above the list's places";
     case PURETAKOI_STRAY_INDENTATION:
         return "a row starts with less than the closing line's indentation";
     default:
@@ -98,7 +98,7 @@ static inline const char *puretakoi_refusal_advice(uint32_t refusal) {
     case PURETAKOI_TOO_LARGE:
         return "Divide the script into smaller ones.";
     case PURETAKOI_BAD_SESSION:
-        return "Go on with the session of this script, or begin with a fresh one.";
+        return "Go on with the session of this script or a fresh one; count no more records than the list has.";
     case PURETAKOI_STRAY_INDENTATION:
         return "Indent the row as the closing line is, or the closing line less.";
     default:

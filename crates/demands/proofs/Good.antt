@@ -1,5 +1,6 @@
 -- A good session stays good under every step and reading, and list and pool keep their lengths. Assumes nothing.
 --   Sound          the session is good, and its marks are not past their tables
+--   let-sound      so is every session that the gate lets pass
 --   settled-sound  of an outcome that lies within the source and changes the stack well
 --   call-sound     of every call
 use Prim.Native.Nat.{ℕ, zero, suc, _+_, _-_, _/_, _≤_}
@@ -35,12 +36,18 @@ use Rattle.commit.proofs.Putting.{room-facts, put-length}
 use Rattle.lexer.specs.Turns.{After, framesAfter, depthAfter, changed, markOf, refusing, settled}
 use Rattle.lexer.specs.Calls.{called}
 use Rattle.lexer.proofs.Nexts.{room, written, settled-cases}
+use Rattle.lexer.proofs.Calls.{lent-opened}
 
 -- with a list of so many numbers and a pool of so many bytes
 pub record Sound (src : List ℕ) (list pool : ℕ) (s : Session) : Type 0 where
   pub good : isGood src s ≡ true
   pub tokens : s .tokens ≤ list / 8
   pub bytes : s .bytes ≤ pool
+
+pub let-sound : (src : List ℕ) (s : Session) (list pool : ℕ) → lentRefusal src list pool s ≡ 0 → Sound src list pool s
+let-sound src s list pool e =
+    let opened = lent-opened src s list pool e in
+    record { good = opened .good; tokens = opened .tokens; bytes = opened .bytes }
 
 -- the session is sound, and list and pool have kept their lengths
 pub record StaysSound (src : List ℕ) (l q : List ℕ) (a : After) : Type 0 where

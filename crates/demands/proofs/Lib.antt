@@ -2,6 +2,7 @@ pub mod Kept
 pub mod Good
 pub mod Longer
 pub mod Rising
+pub mod Filled
 pub mod Narrow
 pub mod Waiting
 pub mod Cuts

@@ -1,14 +1,18 @@
 -- Positions of records never fall: a step writes its records from the cursor on, and the cursor never goes back. Assumes nothing.
 --   call-rising     where the records before have positions up to the cursor, so have the records after, up to the cursor after
---   walk-rising     so from an empty list on, after any number of steps
-use Prim.Native.Nat.{ℕ, zero, suc, _+_, _-_, _*_, _≤_}
+--   walk-rising     so after any number of steps
+--   empty-ordered   and from an empty list on
+--   lent-ordered    another list with the same records keeps it
+--   stays-rising    so do skip, push and pop
+use Prim.Native.Nat.{ℕ, zero, suc, _+_, _-_, _*_, _/_, _≤_}
 use mathlib.Core.Path.{_≡_, refl, sym, ap, _∙_}
 use mathlib.Core.Bool.{Bool}
 use mathlib.Core.List.{List, [], _∷_, _++_, append-assoc}
 use native.Mathlib.Omega.{arith}
 use native.Mathlib.Nat.{zero-add, suc-add}
 use lib.Dec.{eqb}
-use lib.ListN.{length, getD, take, drop, length-drop}
+use borrow.Author.Tests.{eqb-true}
+use lib.ListN.{length, getD, take, drop, length-take, length-drop}
 use lib.Seq.{drop-drop, drop-nil, take-nil, getD-take, take-at, drop-at, length-take-le}
 use Rattle.byte.specs.Laid.{laid}
 use Rattle.source.specs.declared.Span.{Span}
@@ -16,8 +20,10 @@ use Rattle.byte.proofs.Tests.{choice}
 use Rattle.source.proofs.Cursor.{passed-position}
 use Rattle.state.specs.declared.Answer.{Answer}
 use Rattle.state.specs.declared.Session.{Session}
+use Rattle.state.specs.declared.Turn.{Turn}
 use Rattle.state.specs.Calls.{spanOf}
 use Rattle.state.specs.Gates.{lentRefusal}
+use Rattle.state.proofs.Kept.{Stays}
 use Rattle.outcome.specs.declared.Call.{Call}
 use Rattle.outcome.specs.declared.Change.{Change}
 use Rattle.outcome.specs.Outcomes.{Piece, Outcome, values}
@@ -25,13 +31,13 @@ use Rattle.outcome.specs.Insides.{AllInside, Inside}
 use Rattle.outcome.specs.Steps.{callOutcome}
 use Rattle.outcome.proofs.StepWays.{call-inside}
 use Rattle.commit.specs.Records.{spanAt, records}
-use Rattle.commit.proofs.Putting.{room-facts, put-laid}
+use Rattle.commit.proofs.Putting.{room-facts, put-laid, put-length}
 use Rattle.lexer.specs.Turns.{After, markOf, settled}
 use Rattle.lexer.specs.Calls.{called, stepped}
 use Rattle.lexer.proofs.Nexts.{room, written, settled-cases}
 use Rattle.demands.specs.Walks.{goOn, walked}
 use Rattle.demands.specs.Records.{positions, Rising}
-use Rattle.demands.proofs.Good.{Sound, call-sound, position-inside}
+use Rattle.demands.proofs.Good.{Sound, let-sound, position-inside}
 
 -- ---- positions of a list in two parts
 
@@ -52,7 +58,7 @@ drop-take (suc n) k [] = rw (take-nil {A = ℕ} (suc n + k), drop-nil {A = ℕ} 
 drop-take (suc n) k (x ∷ l) = rw (suc-add n k) (drop-take n k l)
 
 -- lists that begin alike have the same positions
-positions-same : (m : ℕ) (zs ws : List ℕ) → take (m * 8) zs ≡ take (m * 8) ws → positions m zs ≡ positions m ws
+pub positions-same : (m : ℕ) (zs ws : List ℕ) → take (m * 8) zs ≡ take (m * 8) ws → positions m zs ≡ positions m ws
 unfolding positions
 positions-same zero zs ws e = refl
 positions-same (suc m) zs ws e =
@@ -109,10 +115,15 @@ rising-append low mid high [] ys x y = lower ys y
     lower (a ∷ zs) z = (omega (arith, x, z .0), z .1)
 rising-append low mid high (a ∷ xs) ys x y = (x .0, rising-append a mid high xs ys (x .1) y)
 
+rising-higher : (low mid high : ℕ) (xs : List ℕ) → mid ≤ high → Rising low xs mid → Rising low xs high
+rising-higher low mid high [] h x = omega (arith, x)
+rising-higher low mid high (a ∷ xs) h x = (x .0, rising-higher a mid high xs h (x .1))
+
 -- ---- a step, and many
 
--- records up to the mark have positions up to the cursor
+-- records up to the mark stand in the list, and have positions up to the cursor
 pub record Ordered (l : List ℕ) (s : Session) : Type 0 where
+  pub inside : s .tokens ≤ length l / 8
   pub rising : Rising 0 (positions (s .tokens) l) (s .position)
 
 abbrev pub OrderedAfter : After → Type 0
@@ -125,6 +136,7 @@ module _ (src : List ℕ) (s : Session) (l q : List ℕ) (h : Sound src (length 
   written-rising pieces after change finished i e =
       let fits = room-facts (length l) (length q) (s .tokens) (s .bytes) (length pieces) (length (values pieces)) e in
       let put-so = put-laid src pieces (markOf s) (record { list = l; pool = q }) (fits .0) (fits .1) .0 in
+      let size = put-length src pieces (markOf s) (record { list = l; pool = q }) (fits .0) (fits .1) .0 in
       let m = s .tokens * 8 in
       let rs = records src (spanOf s) (s .bytes) pieces in
       let before : positions (s .tokens) (laid l m rs) ≡ positions (s .tokens) l =
@@ -135,6 +147,7 @@ module _ (src : List ℕ) (s : Session) (l q : List ℕ) (h : Sound src (length 
       rw (positions-sum (s .tokens) (length pieces) (laid l m rs), before, behind, new) in
       let there = span-place src (spanOf s) after (i .order) (i .inside) in
       record {
+        inside = rw size (fits .0);
         rising =
             rw (put-so, all, there)
             (rising-append 0 (s .position) after (positions (s .tokens) l) (places pieces) (o .rising)
@@ -147,30 +160,54 @@ module _ (src : List ℕ) (s : Session) (l q : List ℕ) (h : Sound src (length 
       (λ pieces after change finished e i. written-rising pieces after change finished i e)
       (λ pieces after change finished i. o) (λ number place i. o) (λ i. o)
 
-  pub call-rising : (call : Call) (end : Bool) → OrderedAfter (called call src end s l q)
-  unfolding called
-  call-rising call end =
-      choice OrderedAfter (eqb (lentRefusal src (length l) (length q) s) 0) _ _
-      (λ e. settled-rising (callOutcome call src end s) (call-inside call src end s (position-inside src s l q h))) (λ e. o)
+-- also where the gate is shut
+pub call-rising : (src : List ℕ) (s : Session) (l q : List ℕ) (call : Call) (end : Bool) → Ordered l s
+    → OrderedAfter (called call src end s l q)
+unfolding called
+call-rising src s l q call end o =
+    choice OrderedAfter (eqb (lentRefusal src (length l) (length q) s) 0) _ _
+    (λ e.
+    let h = let-sound src s (length l) (length q) (eqb-true _ 0 e) in
+    settled-rising src s l q h o (callOutcome call src end s)
+    (call-inside call src end s (position-inside src s l q h)))
+    (λ e. o)
 
-pub walk-rising : (n : ℕ) (src : List ℕ) (end : Bool) (s : Session) (l q : List ℕ) → Sound src (length l) (length q) s → Ordered l s
+-- what holds after the step and after the walk that goes on holds after both
+pub goOn-either : (P : After → Type 0) (a : Answer) (now later : After) → P now → P later → P (goOn a now later)
+unfolding goOn
+goOn-either P Answer.Done now later x y = y
+goOn-either P Answer.Finished now later x y = x
+goOn-either P (Answer.Refused number span) now later x y = x
+
+pub walk-rising : (n : ℕ) (src : List ℕ) (end : Bool) (s : Session) (l q : List ℕ) → Ordered l s
     → OrderedAfter (walked n src end s l q)
-unfolding walked goOn
-walk-rising zero src end s l q h o = o
-walk-rising (suc n) src end s l q h o =
+unfolding walked
+walk-rising zero src end s l q o = o
+walk-rising (suc n) src end s l q o =
     let now = stepped src end s l q in
-    let sound = call-sound src s l q h Call.Step end in
-    let next = call-rising src s l q h o Call.Step end in
-    go (now .turn .answer) _ _ next
-    (walk-rising n src end (now .turn .session) (now .list) (now .pool) (rw (sound .list, sound .pool) (sound .sound)) next)
-  where
-    go : (a : Answer) (now later : After) → OrderedAfter now → OrderedAfter later
-        → OrderedAfter (goOn a now later)
-    go Answer.Done now later x y = y
-    go Answer.Finished now later x y = x
-    go (Answer.Refused number span) now later x y = x
+    let next = call-rising src s l q Call.Step end o in
+    goOn-either OrderedAfter (now .turn .answer) now _ next
+    (walk-rising n src end (now .turn .session) (now .list) (now .pool) next)
 
 -- an empty list is in order
 pub empty-ordered : (l : List ℕ) (s : Session) → s .tokens ≡ 0 → Ordered l s
 unfolding positions
-empty-ordered l s e = record { rising = rw e (omega arith) }
+empty-ordered l s e = record { inside = rw e (omega arith); rising = rw e (omega arith) }
+
+-- so does another list with the same records up to the mark
+pub lent-ordered : (s : Session) (l l′ : List ℕ) → take (s .tokens * 8) l′ ≡ take (s .tokens * 8) l → Ordered l s
+    → Ordered l′ s
+lent-ordered s l l′ e o = record {
+  inside =
+      omega
+      (arith, o .inside, ap length e, length-take (s .tokens * 8) l, length-take (s .tokens * 8) l′);
+  rising = rw (positions-same (s .tokens) l′ l e) (o .rising);
+}
+
+-- a cursor that goes on keeps the order, as after skip, push and pop
+pub stays-rising : (src : List ℕ) (s : Session) (l : List ℕ) (t : Turn) → Stays src s t → Ordered l s
+    → Ordered l (t .session)
+stays-rising src s l t k o = record {
+  inside = rw (k .tokens) (o .inside);
+  rising = rw (k .tokens) (rising-higher 0 _ _ (positions (s .tokens) l) (k .onward) (o .rising));
+}

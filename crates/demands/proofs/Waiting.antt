@@ -31,7 +31,7 @@ use Rattle.lexer.proofs.Nexts.{settled-cases}
 use Rattle.lexer.proofs.Calls.{lent-opened}
 use Rattle.demands.specs.Walks.{isWait}
 use Rattle.demands.specs.Waits.{WaitsExactly}
-use Rattle.demands.proofs.Good.{Sound, position-inside}
+use Rattle.demands.proofs.Good.{Sound, let-sound, position-inside}
 use Rattle.demands.proofs.Longer.{settled-append, gate-open, sound-append}
 
 room-other : (list pool tokens bytes count len : ℕ) → eqb (roomRefusal list pool tokens bytes count len) wait ≡ false
@@ -120,4 +120,4 @@ called-let call part s l q bytes gate =
     let opened = lent-opened part s (length l) (length q) gate in
     call-waits-exactly call part s l q bytes (opened .source)
     (&&-both _ _ (le-leb _ _ (opened .room)) (le-leb _ _ (opened .places)))
-    (record { good = opened .good; tokens = opened .tokens; bytes = opened .bytes })
+    (let-sound part s (length l) (length q) gate)

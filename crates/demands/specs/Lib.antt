@@ -3,3 +3,4 @@ pub mod Waits
 pub mod Records
 pub mod Refusals
 pub mod Emptied
+pub mod Filled

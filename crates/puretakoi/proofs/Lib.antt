@@ -5,3 +5,5 @@ pub mod Boundary
 pub mod Chain
 pub mod Numbers
 pub mod WalkSteps
+pub mod Finds
+pub mod Filled

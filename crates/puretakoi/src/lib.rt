@@ -1,11 +1,15 @@
 // Functions that a host in C or Rust calls; include/puretakoi.h tells each. A `&[u8]` crosses as a pointer and a length, a session and an
 // answer as lent numbers. Any numbers at all may come in: what can't be taken is refused by its number.
-// In order: the calls without a session; a fresh session; the step, the walk and the three readings; skip, push and pop; the record file.
+// In order: the calls without a session; a fresh session; the step, the walk and the three readings; skip, push and
+// pop; the record file; the record under the finger.
+use lookup::Found;
+use lookup::Lookup;
 use outcome::Call;
 use source::Span;
 ghost use mathlib.Core.Path.{_≡_};
+ghost use mathlib.Core.List.{[], _∷_};
 ghost use lib.ListN.{length};
-ghost use Prim.Native.Nat.{_/_};
+ghost use Prim.Native.Nat.{_/_, _≤_};
 ghost use Rattle.source.specs.Identifiers.{identifierAt};
 ghost use Rattle.state.specs.Calls.{skipped, pushed, popped};
 ghost use Rattle.outcome.specs.declared.Call.{Call};
@@ -13,6 +17,8 @@ ghost use Rattle.token.specs.Files.{fileOf, listOf, toFileRefusal, toListRefusa
 ghost use Rattle.puretakoi.specs.Places.{isSmall, Past};
 ghost use Rattle.layout.specs.Sessions.{frameIn, sessionIn};
 ghost use Rattle.puretakoi.specs.Calls.{areLong, Crossed, Answered, Turns, Walked, Begun, Filed};
+ghost use Rattle.byte.specs.Laid.{laid};
+ghost use Rattle.puretakoi.specs.Finds.{foundNumbers, Finds};
 
 // How long the identifier at a place of the source is; 0 where there is none.
 #[no_mangle]
@@ -247,4 +253,46 @@ pub extern "C" fn puretakoi_file_to_list(file: &[u8], list: &mut [u32]) -> u32
     ensures { λ r. ⌜ Filed (toListRefusal (length (now (file .entry))) (length (now (list .entry)))) (now (list .entry)) (listOf (length (now (file .entry)) / 4) (now (file .entry))) r (now (list .exit)) ⌝ }
 {
     layout::refusal_in(token::file_to_list(file, list))
+}
+
+// Three numbers at the start of a slice.
+fn put_three(slice: &mut [u32], any: u32, number: u32, looks: u32)
+    requires { ⌜ 3 ≤ length (now slice) ⌝ }
+    ensures { λ r. ⌜ now (slice .exit) ≡ laid (now (slice .entry)) 0 (any ∷ number ∷ looks ∷ []) ⌝ }
+{
+    slice[0] = any;
+    slice[1] = number;
+    slice[2] = looks;
+}
+
+// What was found, and the number of looks.
+fn put_found(slice: &mut [u32], found: Found, looks: u32)
+    requires { ⌜ 3 ≤ length (now slice) ⌝ }
+    ensures { λ r. ⌜ now (slice .exit) ≡ laid (now (slice .entry)) 0 (foundNumbers found looks) ⌝ }
+{
+    match found {
+        Found::Nothing => put_three(slice, 0, 0, looks),
+        Found::Record { number } => put_three(slice, 1, number, looks),
+    }
+}
+
+// Which record is under the finger: the last of the first `count` whose position is at or before the byte `at`.
+#[no_mangle]
+pub extern "C" fn puretakoi_find(list: &[u32], count: usize, at: usize, found: &mut [u32]) -> u32
+    ensures { λ r. ⌜ Finds (now (list .entry)) count at (now (found .entry)) r (now (found .exit)) ⌝ }
+{
+    if found.len() < 3 {
+        return byte::OUT_OF_PLACE;
+    }
+    let lookup = lookup::find(list, count, at);
+    match lookup {
+        Lookup::Told {
+            found: record,
+            looks,
+        } => {
+            put_found(found, record, looks);
+            0
+        }
+        Lookup::Refused { number, span: _ } => number,
+    }
 }

@@ -1,0 +1,4 @@
+pub mod Searches
+pub mod FullWalks
+pub mod Lookups
+pub mod Promises

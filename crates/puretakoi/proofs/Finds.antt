@@ -1,0 +1,124 @@
+-- `puretakoi_find` on each way through it, and what a host may rely on. Assumes nothing.
+--   finds           the ways
+--   finds-one       two results that meet one statement are equal
+--   finds-which     the number is 0, 10, 11 or 12
+--   finds-refused   where it is not 0, nothing is written
+--   finds-looks     the third number is 17 at most
+use Prim.Native.Nat.{ℕ, _/_, _≤_, _<_}
+use mathlib.Core.Path.{_≡_, refl, sym, ap, _∙_}
+use mathlib.Core.Bool.{Bool, true, false}
+use mathlib.Core.List.{List, [], _∷_}
+use native.Mathlib.Omega.{arith}
+use lib.Dec.{leb, eqb}
+use lib.ListN.{length, getD, set}
+use lib.Seq.{sets-eq}
+use borrow.Author.Tests.{le-leb, lt-leb, eqb-true}
+use Rattle.byte.specs.Words.{if_then_else_}
+use Rattle.byte.specs.Laid.{laid}
+use Rattle.byte.specs.Refusals.{outOfPlace, tooLarge, badSession, isAmong}
+use Rattle.byte.proofs.Tests.{choice}
+use Rattle.source.specs.declared.Span.{Span}
+use Rattle.lookup.specs.declared.Found.{Found}
+use Rattle.lookup.specs.declared.Lookup.{Lookup}
+use Rattle.lookup.specs.Lookups.{positionIn, searched, findRefusal, lookedUp}
+use Rattle.lookup.proofs.Promises.{find-here, find-looks}
+use Rattle.puretakoi.specs.Finds.{foundNumbers, findsNumber, foundAfter, Finds}
+
+pub three-laid : (l : List ℕ) (u v w : ℕ) → 3 ≤ length l → set (set (set l 0 u) 1 v) 2 w ≡ laid l 0 (u ∷ v ∷ w ∷ [])
+unfolding laid
+three-laid l u v w h = sets-eq (u ∷ v ∷ w ∷ []) l 0 h
+
+pub found-arm : (found arm : Found) (looks : ℕ) (l m : List ℕ) → found ≡ arm → m ≡ laid l 0 (foundNumbers arm looks)
+    → m ≡ laid l 0 (foundNumbers found looks)
+found-arm found arm looks l m e h = rw e h
+
+module _ (list : List ℕ) (count byte : ℕ) (found : List ℕ) where
+  pub finds-short : length found < 3 → Finds list count byte found 10 found
+  finds-short h = record { number = rw (lt-leb 3 (length found) h); holds = rw (lt-leb 3 (length found) h) }
+
+  module _ (lookup : Lookup) (h : 3 ≤ length found) (e : lookup ≡ lookedUp list count byte) where
+    pub finds-told : (f : Found) (looks : ℕ) (found′ : List ℕ) → lookup ≡ Lookup.Told f looks
+        → found′ ≡ laid found 0 (foundNumbers f looks)
+        → Finds list count byte found 0 found′
+    unfolding findsNumber foundAfter
+    finds-told f looks found′ k w =
+        record { number = rw (le-leb 3 (length found) h, ← e, k); holds = rw (le-leb 3 (length found) h, ← e, k) w }
+
+    pub finds-no : (number : ℕ) (span : Span) → lookup ≡ Lookup.Refused number span
+        → Finds list count byte found number found
+    unfolding findsNumber foundAfter
+    finds-no number span k =
+        record { number = rw (le-leb 3 (length found) h, ← e, k); holds = rw (le-leb 3 (length found) h, ← e, k) }
+
+pub ruleset finds = (finds-short, finds-told, finds-no)
+
+-- ---- what a host may rely on
+
+after-refused : (l : Lookup) (slice : List ℕ) → (findsNumber l ≡ 0 → ⊥) → foundAfter l slice ≡ slice
+unfolding findsNumber foundAfter
+after-refused (Lookup.Told found looks) slice h = absurd (h refl)
+after-refused (Lookup.Refused number span) slice h = refl
+
+third-looks : (found : Found) (looks : ℕ) (slice : List ℕ) → getD (laid slice 0 (foundNumbers found looks)) 2 0 ≡ looks
+unfolding laid foundNumbers
+third-looks Found.Nothing looks slice = refl
+third-looks (Found.Record number) looks slice = refl
+
+pub finds-one : (list : List ℕ) (count byte : ℕ) (found : List ℕ) (r r′ : ℕ) (f f′ : List ℕ)
+    → Finds list count byte found r f
+    → Finds list count byte found r′ f′
+    → (r ≡ r′) × (f ≡ f′)
+finds-one list count byte found r r′ f f′ x y = (x .number ∙ sym (y .number), x .holds ∙ sym (y .holds))
+
+module _ (list : List ℕ) (count byte : ℕ) (found : List ℕ) (r : ℕ) (found′ : List ℕ)
+    (c : Finds list count byte found r found′) where
+  -- the number that is given back, in the order in which it is asked
+  pub finds-number : r ≡ (if leb 3 (length found) then findRefusal (length list) count else outOfPlace)
+  unfolding findsNumber lookedUp
+  finds-number =
+      c .number
+      ∙ ap (λ (n : ℕ). if leb 3 (length found) then n else outOfPlace)
+      (choice (λ (l : Lookup). findsNumber l ≡ findRefusal (length list) count)
+      (eqb (findRefusal (length list) count) 0) _ _
+      (λ e. sym (eqb-true _ 0 e)) (λ e. refl))
+
+  pub finds-which : isAmong r (0 ∷ outOfPlace ∷ tooLarge ∷ badSession ∷ []) ≡ true
+  unfolding isAmong findRefusal
+  finds-which =
+      rw finds-number
+      (choice Here (leb 3 (length found)) _ _
+      (λ e. choice Here (leb (length list / 8) 65537) _ _
+      (λ f. choice Here (leb count (length list / 8)) _ _ (λ g. refl) (λ g. refl)) (λ f. refl))
+      (λ e. refl))
+    where
+      Here : ℕ → Type 0
+      Here n = isAmong n (0 ∷ outOfPlace ∷ tooLarge ∷ badSession ∷ []) ≡ true
+
+  -- it is 0 exactly where a slice of three numbers is lent and neither 11 nor 12 is told
+  unrefused : r ≡ 0 → (leb 3 (length found) ≡ true) × (findRefusal (length list) count ≡ 0)
+  unrefused e = go (leb 3 (length found)) (sym finds-number ∙ e)
+    where
+      go : (t : Bool) → (if t then findRefusal (length list) count else outOfPlace) ≡ 0
+          → (t ≡ true) × (findRefusal (length list) count ≡ 0)
+      go true h = (refl, h)
+      go false h = absurd (omega arith)
+
+  -- demand 1: a refusal writes nothing; the list is only read
+  pub finds-refused : (r ≡ 0 → ⊥) → found′ ≡ found
+  finds-refused h = go (leb 3 (length found)) (lookedUp list count byte) (c .number) (c .holds)
+    where
+      go : (t : Bool) (l : Lookup) → r ≡ (if t then findsNumber l else outOfPlace)
+          → found′ ≡ (if t then foundAfter l found else found) → found′ ≡ found
+      go true l e g = g ∙ after-refused l found (λ z. h (e ∙ z))
+      go false l e g = g
+
+  -- the third number
+  pub finds-looks : r ≡ 0 → getD found′ 2 0 ≤ 17
+  unfolding foundAfter
+  finds-looks e =
+      let let-in = unrefused e in
+      let here = find-here list count byte (let-in .1) in
+      let the = searched (positionIn list) byte 0 count in
+      let written : found′ ≡ laid found 0 (foundNumbers (the .found) (length (the .trail))) = c .holds
+      ∙ rw (let-in .0, here) in
+      rw (written, third-looks (the .found) (length (the .trail)) found) (find-looks list count byte (let-in .1))
