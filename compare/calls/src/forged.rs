@@ -10,11 +10,11 @@ use crate::hold::Held;
 use crate::sources::{fragment, script};
 
 /// A number of frames, and a text block's two.
-const FRAMES: usize = 9;
+pub const FRAMES: usize = 9;
 const TEXT_BLOCKS: [usize; 2] = [4, 5];
 
 /// Of five calls two are steps, and one is a walk.
-const FUNCTIONS: [Function; 15] = [
+pub const FUNCTIONS: [Function; 15] = [
     Function::Step,
     Function::Step,
     Function::Step,
@@ -154,7 +154,7 @@ fn label(source: &mut Vec<u8>, random: &mut Random) -> (usize, usize) {
 }
 
 /// What the call's function takes beside slices, mostly good.
-fn arguments(call: &Call, random: &mut Random) -> Vec<usize> {
+pub fn arguments(call: &Call, random: &mut Random) -> Vec<usize> {
     match call.function {
         Function::Walk => vec![most(random)],
         Function::Skip => {

@@ -2,11 +2,14 @@
 
 mod comments;
 mod cuts;
+mod filled;
+mod finds;
 mod forged;
 mod hold;
 mod leaps;
 mod limits;
 mod lines;
+mod lists;
 mod plain;
 mod shorts;
 mod smaller;
@@ -24,7 +27,7 @@ use hold::Held;
 type Tries = fn(held: &mut Held, count: usize, random: &mut Random) -> Result<(), String>;
 
 /// The groups: a name, the tries, and how many of them in few, in short and in full.
-const GROUPS: [(&str, Tries, [usize; 3]); 20] = [
+const GROUPS: [(&str, Tries, [usize; 3]); 24] = [
     ("fresh sessions", forged::fresh_sessions, [200, 2_000, 20_000]),
     ("forged sessions", forged::forged_sessions, [40_000, 400_000, 6_000_000]),
     ("every short text", shorts::short_texts, [1, 2, 3]),
@@ -44,6 +47,10 @@ const GROUPS: [(&str, Tries, [usize; 3]); 20] = [
     ("peek_identifier", plain::peek_identifier, [2_000, 20_000, 400_000]),
     ("past", plain::past, [2_000, 20_000, 400_000]),
     ("record files", plain::record_files, [1_000, 10_000, 200_000]),
+    ("look-ups in the largest lists", lists::largest_lists, [2, 10, 100]),
+    ("look-ups in forged lists", lists::forged_lists, [8_000, 80_000, 1_000_000]),
+    ("look-ups in filled lists", filled::filled_lists, [300, 3_000, 60_000]),
+    ("look-ups in lists that agree on the trail", lists::agreeing_lists, [1_000, 10_000, 200_000]),
     ("call lines", lines::come_back, [200, 2_000, 40_000]),
 ];
 

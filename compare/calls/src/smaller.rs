@@ -1,7 +1,8 @@
 //! A failing call made smaller: fewer bytes, frames and places, and plainer numbers, while it still fails.
 
 use cases::call::{ANSWER, BYTES, COLUMN, DEPTH, LINE, POSITION, RECORD, SESSION, SLOT, SLOTS, TOKENS};
-use cases::Call;
+use cases::lookup::{FOUND, RECORD_POSITION};
+use cases::{Call, Lookup};
 use telling::session::MOST_FRAMES;
 
 /// A source over this many bytes is not tried byte by byte.
@@ -149,5 +150,66 @@ fn clear_above(call: &mut Call) {
     let first = SLOTS + SLOT * call.number(DEPTH);
     if first < call.session.len() {
         call.session[first..].fill(0);
+    }
+}
+
+/// Positions of a list with more places are not made plainer one by one, nor is a larger number made smaller by one.
+const MOST_PLAIN: usize = 64;
+
+/// A failing look-up with fewer records and plainer numbers, which still fails.
+pub fn smaller_lookup(lookup: &Lookup, fails: impl Fn(&Lookup) -> bool) -> Lookup {
+    let mut best = lookup.clone();
+    loop {
+        let before = best.clone();
+        drop_parts(&mut best, Lookup::places, without_records, &fails);
+        let mut attempt = |change: &dyn Fn(&mut Lookup)| {
+            let mut other = best.clone();
+            change(&mut other);
+            if other != best && fails(&other) {
+                best = other;
+            }
+        };
+        LOOKUP_CHANGES.iter().for_each(|change| attempt(change));
+        (0..usize::BITS).rev().for_each(|bit| attempt(&|lookup| lookup.byte &= !(1 << bit)));
+        (0..before.places().min(MOST_PLAIN)).for_each(|record| attempt(&|lookup| plain_position(lookup, record)));
+        if best == before {
+            return best;
+        }
+    }
+}
+
+/// The look-up without some records of its list.
+fn without_records(lookup: &Lookup, start: usize, width: usize) -> Lookup {
+    let mut fewer = lookup.clone();
+    let end = (start + width).min(lookup.places());
+    fewer.list.drain(start * RECORD..end * RECORD);
+    if lookup.count <= lookup.places() + 1 {
+        fewer.count = moved(lookup.count, start, end - start);
+    }
+    fewer
+}
+
+/// What makes a look-up plainer.
+const LOOKUP_CHANGES: [fn(&mut Lookup); 7] = [
+    |lookup| *lookup = lookup.patterned(),
+    |lookup| lookup.list.truncate(lookup.places() * RECORD),
+    |lookup| lookup.found = lookup.found.min(FOUND),
+    |lookup| lookup.count = lookup.count.min(lookup.places() + 1),
+    |lookup| lookup.count /= 2,
+    |lookup| lookup.count = one_less(lookup.count),
+    |lookup| lookup.byte = one_less(lookup.byte),
+];
+
+/// A small number made smaller by one.
+fn one_less(number: usize) -> usize {
+    number - usize::from(number > 0 && number <= MOST_PLAIN)
+}
+
+/// A record at 0, or where that is another thing just past the byte.
+fn plain_position(lookup: &mut Lookup, record: usize) {
+    if record < lookup.places() {
+        let is_reached = lookup.position(record) as usize <= lookup.byte;
+        let past = u32::try_from(lookup.byte).map_or(u32::MAX, |byte| byte.saturating_add(1));
+        lookup.list[record * RECORD + RECORD_POSITION] = if is_reached { 0 } else { past };
     }
 }

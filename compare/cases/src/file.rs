@@ -2,7 +2,7 @@
 
 use std::path::Path;
 
-use crate::Call;
+use crate::{Call, Lookup};
 
 /// Says `ok NAME (N cases)`, or `FAILED NAME` and the first difference; true if all is as written.
 /// `answer_to` appends the answer to a case line.
@@ -11,11 +11,21 @@ pub fn compare(name: &str, path: &Path, answer_to: impl FnMut(&[u8], &mut Vec<u8
 }
 
 /// The same for a file of calls; the number of its calls, or none where something is not as written.
-/// `given_by` appends what a call gives.
-pub fn compare_calls(name: &str, path: &Path, mut given_by: impl FnMut(&Call, &mut Vec<u8>)) -> Option<usize> {
-    said(name, "calls", path, |line, out| match Call::read(line) {
-        Ok(call) => given_by(&call, out),
-        Err(wrong) => out.extend_from_slice(format!("fault {}", wrong).as_bytes()),
+/// `given_by` appends what a call gives, `found_by` what a look-up does.
+pub fn compare_calls(
+    name: &str,
+    path: &Path,
+    mut given_by: impl FnMut(&Call, &mut Vec<u8>),
+    found_by: impl Fn(&Lookup, &mut Vec<u8>),
+) -> Option<usize> {
+    said(name, "calls", path, |line, out| {
+        let is_read = match Lookup::is_line(line) {
+            true => Lookup::read(line).map(|lookup| found_by(&lookup, out)),
+            false => Call::read(line).map(|call| given_by(&call, out)),
+        };
+        if let Err(wrong) = is_read {
+            out.extend_from_slice(format!("fault {}", wrong).as_bytes());
+        }
     })
 }
 

@@ -86,7 +86,7 @@ impl Given {
 }
 
 /// `NAME PLACE=NUMBER,..` for each place that differs, or nothing.
-fn changes<T: PartialEq + ToString>(name: &str, before: &[T], after: &[T]) -> String {
+pub(crate) fn changes<T: PartialEq + ToString>(name: &str, before: &[T], after: &[T]) -> String {
     let changed: Vec<String> = (0..after.len())
         .filter(|place| before[*place] != after[*place])
         .map(|place| format!("{}={}", place, after[place].to_string()))

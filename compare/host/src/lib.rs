@@ -2,10 +2,10 @@
 
 mod library;
 
-pub use library::{file_to_list, fresh, list_to_file, make_on, past, peek_identifier, step, walk, Slices};
+pub use library::{file_to_list, find, fresh, list_to_file, make_on, past, peek_identifier, step, walk, Slices};
 
 use cases::call::{answer_pattern, list_pattern, pool_pattern};
-use cases::{Call, Given};
+use cases::{Call, Given, Lookup, Seen};
 
 /// How many guard items stand before and after each lent slice.
 const GUARDS: usize = 4;
@@ -32,6 +32,17 @@ pub fn make(call: &Call) -> Result<Given, String> {
     }
     let (session, answer, list, pool) = (session.content()?, answer.content()?, list.content()?, pool.content()?);
     Ok(Given { number, session, answer, list, pool })
+}
+
+/// Makes the look-up and gives all that can be seen of it, or names the slice in or beside which something was written.
+pub fn look_up(lookup: &Lookup) -> Result<Seen, String> {
+    let mut list = Lent::new("list", lookup.list.iter().copied(), 0x5a5a_a5a5);
+    let mut found = Lent::new("slice for what is found", Seen::before(lookup).found.into_iter(), 0x5a5a_a5a5);
+    let number = find(list.slice(), lookup.count, lookup.byte, found.slice());
+    if list.content()? != lookup.list {
+        return Err("the list was written to".to_string());
+    }
+    Ok(Seen { number, found: found.content()? })
 }
 
 /// A slice to lend, with guards on both sides.

@@ -88,6 +88,14 @@ extern "C" {
     fn puretakoi_past(part: *const u8, part_len: usize, span: *mut u32, span_len: usize) -> u32;
     fn puretakoi_list_to_file(list: *const u32, list_len: usize, file: *mut u8, file_len: usize) -> u32;
     fn puretakoi_file_to_list(file: *const u8, file_len: usize, list: *mut u32, list_len: usize) -> u32;
+    fn puretakoi_find(
+        list: *const u32,
+        list_len: usize,
+        count: usize,
+        byte: usize,
+        found: *mut u32,
+        found_len: usize,
+    ) -> u32;
 }
 
 /// What is lent to a call.
@@ -208,4 +216,9 @@ pub fn list_to_file(list: &[u32], file: &mut [u8]) -> u32 {
 /// The refusal or 0, with the file's records in the list.
 pub fn file_to_list(file: &[u8], list: &mut [u32]) -> u32 {
     unsafe { puretakoi_file_to_list(file.as_ptr(), file.len(), list.as_mut_ptr(), list.len()) }
+}
+
+/// The refusal or 0, with what was found in the slice, with no guards.
+pub fn find(list: &[u32], count: usize, byte: usize, found: &mut [u32]) -> u32 {
+    unsafe { puretakoi_find(list.as_ptr(), list.len(), count, byte, found.as_mut_ptr(), found.len()) }
 }

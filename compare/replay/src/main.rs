@@ -7,10 +7,10 @@ mod refusals;
 use std::path::{Path, PathBuf};
 use std::process::exit;
 
-use cases::{Call, Case};
+use cases::{Call, Case, Lookup};
 
 /// The list of calls has at least this many.
-const LEAST_CALLS: usize = 9_000;
+const LEAST_CALLS: usize = 9_600;
 
 fn main() {
     let words: Vec<String> = std::env::args().skip(1).collect();
@@ -60,7 +60,7 @@ fn replay_calls(folder: &Path) -> bool {
     let (mut good, mut count) = (true, 0);
     for path in files_of(folder) {
         let group = path.file_stem().unwrap_or_default().to_string_lossy();
-        match cases::file::compare_calls(&format!("replay {}", group), &path, given) {
+        match cases::file::compare_calls(&format!("replay {}", group), &path, given, found) {
             Some(calls) => count += calls,
             None => good = false,
         }
@@ -70,6 +70,14 @@ fn replay_calls(folder: &Path) -> bool {
         return false;
     }
     good
+}
+
+/// Appends all that the library gives to a look-up.
+fn found(lookup: &Lookup, out: &mut Vec<u8>) {
+    match host::look_up(lookup) {
+        Ok(seen) => seen.write(lookup, out),
+        Err(wrong) => out.extend_from_slice(format!("fault {}", wrong).as_bytes()),
+    }
 }
 
 /// Appends all that the library gives.

@@ -3,6 +3,7 @@
 //! A walk is told by its steps.
 
 pub mod bytes;
+pub mod find;
 pub mod outcome;
 pub mod session;
 pub mod sheet;

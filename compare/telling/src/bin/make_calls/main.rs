@@ -4,6 +4,7 @@
 mod closers;
 mod comments;
 mod edges;
+mod finds;
 mod forged;
 mod hosts;
 mod limits;
@@ -17,6 +18,7 @@ use std::path::Path;
 
 use cases::random::Random;
 use cases::{Call, Told};
+use telling::find::found;
 use telling::Teller;
 
 /// The lines after the first of each file.
@@ -25,8 +27,8 @@ const ORIGIN: &str =
      # compare/telling tells of documents 01 and 02. The library had no part in it. compare/oracle/make-answers makes it again.";
 
 /// The list has at least and at most this many calls.
-const LEAST: usize = 9_000;
-const MOST: usize = 10_000;
+const LEAST: usize = 9_600;
+const MOST: usize = 10_600;
 
 /// A group's name, what it holds, and its calls.
 type Group = (&'static str, &'static str, fn(&mut Random, &mut Teller) -> Vec<Call>);
@@ -78,6 +80,7 @@ fn main() -> io::Result<()> {
         let calls = make(&mut Random::new(index as u64 + 101), &mut teller);
         write_group(folder, name, what, &calls, &mut teller, &mut met)?;
     }
+    write_finds(folder, &mut teller, &mut met)?;
     assert!(met.calls >= LEAST && met.calls <= MOST, "the list has {} calls", met.calls);
     assert_eq!(met.refusals, (1..=13).collect(), "each refusal is met");
     assert_eq!(met.kinds, (1..=21).collect(), "each kind is met");
@@ -94,7 +97,7 @@ fn write_group(
     teller: &mut Teller,
     met: &mut Met,
 ) -> io::Result<()> {
-    let mut text = format!("# What the calls of the group `{}` must give: {}.\n{}\n", name, what, ORIGIN).into_bytes();
+    let mut text = head(name, what);
     let mut seen = HashSet::new();
     for call in calls {
         let mut line = Vec::new();
@@ -110,6 +113,32 @@ fn write_group(
         text.push(b'\n');
     }
     std::fs::write(folder.join(name).with_extension("txt"), text)
+}
+
+/// Writes the look-ups, each once, with what each must give and the title of one that was worked by hand.
+fn write_finds(folder: &Path, teller: &mut Teller, met: &mut Met) -> io::Result<()> {
+    let what = "which record of a list is under the finger";
+    let mut text = head("find", what);
+    let mut seen = HashSet::new();
+    for (title, lookup) in finds::lines(&mut Random::new(201), teller) {
+        let mut line = Vec::new();
+        lookup.write(&mut line);
+        if !seen.insert(line.clone()) {
+            continue;
+        }
+        met.calls += 1;
+        text.extend(title.iter().flat_map(|title| format!("# {}\n", title).into_bytes()));
+        text.extend_from_slice(&line);
+        text.extend_from_slice(b" => ");
+        found(&lookup).write(&mut text);
+        text.push(b'\n');
+    }
+    std::fs::write(folder.join("find.txt"), text)
+}
+
+/// The first lines of a group's file.
+fn head(name: &str, what: &str) -> Vec<u8> {
+    format!("# What the calls of the group `{}` must give: {}.\n{}\n", name, what, ORIGIN).into_bytes()
 }
 
 impl Met {

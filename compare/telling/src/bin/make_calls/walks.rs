@@ -19,7 +19,7 @@ const HUGE: usize = u32::MAX as usize;
 const MOST: [usize; 5] = [0, 1, 2, 5, HUGE];
 
 /// Whole scripts, accepted and refused.
-const SCRIPTS: [&[u8]; 30] = [
+pub const SCRIPTS: [&[u8]; 30] = [
     b"",
     b"a street\nof text",
     b"a<?php b;\r\n\n c\x80_9 ?>d\n<?= 7 ?>\ne<? f",
@@ -73,7 +73,7 @@ pub fn calls(random: &mut Random, teller: &mut Teller) -> Vec<Call> {
 }
 
 /// A walk of a whole script from a fresh session on, with ample room.
-fn fresh(script: &[u8], choices: u32) -> Call {
+pub fn fresh(script: &[u8], choices: u32) -> Call {
     let mut call = plain(Function::Walk, b"", script, bare(INITIAL));
     call.session[CHOICES] = choices;
     Call { arguments: vec![HUGE], list: 40 * RECORD, ..call }
