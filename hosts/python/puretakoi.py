@@ -5,6 +5,7 @@
     for block in puretakoi.blocks(script):
         for row in block.rows:
             print(row)
+    print(puretakoi.TokenList(script, sheet=True).at(byte))
 
 What can't be read raises Refusal. The library is the one that PURETAKOI_LIBRARY names, else the one that is installed
 with this module, else the one that the system's loader finds. A Stream is for one thread at a time.
@@ -14,18 +15,20 @@ from __future__ import annotations
 
 import ctypes
 import os
+import sys
 from ctypes import POINTER, c_char_p, c_size_t, c_uint32, c_void_p
 from enum import IntEnum
 from pathlib import Path
-from typing import Any, Dict, Iterator, List, NamedTuple, Sequence, Tuple
+from typing import Any, Dict, Iterator, List, NamedTuple, Optional, Sequence, Tuple
 
 __version__ = "0.1.0"
-__all__ = ["Block", "Kind", "Reason", "Refusal", "Stream", "Token", "blocks", "tokens"]
+__all__ = ["Block", "Found", "Kind", "Reason", "Refusal", "Stream", "Token", "TokenList", "Under"]
+__all__ += ["blocks", "find", "tokens"]
 
 MOST_BYTES = 65536
 _SONAME = "libpuretakoi.so.0"
 _SESSION, _POSITION, _LINE, _DEPTH, _TOKENS, _BYTES, _SLOTS, _SLOT = 199, 0, 1, 3, 4, 5, 7, 3
-_RECORD, _PLACES, _LONG, _NOWDOC, _FINISHED, _MOST_STEPS = 8, 512, 4096, 5, 1, 0xFFFFFFFF
+_RECORD, _PLACES, _LONG, _NOWDOC, _FINISHED, _MOST_NUMBER = 8, 512, 4096, 5, 1, 0xFFFFFFFF
 
 
 class Kind(IntEnum):
@@ -99,11 +102,7 @@ _WORDS: Dict[Reason, Tuple[str, str, str]] = {
         "neither an arrow nor a name stands where a property is looked for",
         "Write an arrow or a name there, or pop the frame.",
     ),
-    Reason.WAIT: (
-        "wait",
-        "what comes next is still needed",
-        "Lend more of the script, or announce its end.",
-    ),
+    Reason.WAIT: ("wait", "what comes next is still needed", "Lend more of the script, or announce its end."),
     Reason.LIST_FULL: (
         "list full",
         "there are more tokens than places left in the list",
@@ -131,8 +130,8 @@ _WORDS: Dict[Reason, Tuple[str, str, str]] = {
     ),
     Reason.BAD_SESSION: (
         "bad session",
-        "the session was changed by hand, or belongs to another script",
-        "Go on with the session of this script, or begin with a fresh one.",
+        "the session was changed by hand or belongs to another script, or a count is above the list's places",
+        "Go on with the session of this script or a fresh one; count no more records than the list has.",
     ),
     Reason.STRAY_INDENTATION: (
         "stray indentation",
@@ -159,6 +158,32 @@ class Block(NamedTuple):
     line: int
     label: bytes
     rows: List[bytes]
+
+
+class Found(NamedTuple):
+    """Which record of a list is under a byte, its number from 0 or None, and how many were looked at: at most 17."""
+
+    record: Optional[int]
+    looks: int
+
+
+class Under(NamedTuple):
+    """The token under a byte: the last one at or before it, of those at one position the last.
+
+    The byte is `inside` what the token's step has passed, or a name, a sign or a blank after it, or `past_end`. In a
+    nowdoc block read as a sheet `row` and `cell` are its place in Block.rows, from 1: no cell on the indentation that
+    comes off and on a line break, no row on the closing line. `cell` counts the row's bytes; `puretakoi at` counts
+    characters.
+    """
+
+    token: Token
+    number: int
+    looks: int
+    passed: range
+    inside: bool
+    past_end: bool
+    row: Optional[int]
+    cell: Optional[int]
 
 
 class Refusal(Exception):
@@ -190,7 +215,8 @@ def _declared(library: ctypes.CDLL) -> ctypes.CDLL:
     library.puretakoi_fresh.argtypes = [c_uint32] + numbers
     library.puretakoi_step.argtypes = [c_char_p, c_size_t, c_uint32] + tables
     library.puretakoi_walk.argtypes = [c_char_p, c_size_t, c_uint32, c_uint32] + tables
-    for call in (library.puretakoi_fresh, library.puretakoi_step, library.puretakoi_walk):
+    library.puretakoi_find.argtypes = numbers + [c_size_t, c_size_t] + numbers
+    for call in (library.puretakoi_fresh, library.puretakoi_step, library.puretakoi_walk, library.puretakoi_find):
         call.restype = c_uint32
     return library
 
@@ -236,7 +262,7 @@ class Stream:
         read: List[Token] = []
         while True:
             source, end = self._source, int(self._is_ended)
-            number = _library.puretakoi_walk(source, len(source), end, _MOST_STEPS, *self._tables())
+            number = _library.puretakoi_walk(source, len(source), end, _MOST_NUMBER, *self._tables())
             taken = self._take()
             read += taken
             self._is_finished = self._answer[0] == _FINISHED
@@ -256,7 +282,7 @@ class Stream:
         """One step over the whole script: whether more is left. Its tokens are in the tables."""
         number = _library.puretakoi_step(self._source, len(self._source), 1, *self._tables())
         if number:
-            raise self._refusal(number)
+            raise self._refusal(number, self._take())
         return self._answer[0] != _FINISHED
 
     def _refusal(self, number: int, read: Sequence[Token] = ()) -> Refusal:
@@ -309,3 +335,65 @@ def _rows(read: List[Token], lines: int) -> List[bytes]:
     text = b"".join(token.value for token in read if token.kind is Kind.STRING_PART)
     *broken, last = text.split(b"\n")
     return [row[:-1] if row.endswith(b"\r") else row for row in broken] + [last]
+
+
+def find(records: Sequence[int], count: int, byte: int) -> Found:
+    """The last of the first `count` records, eight numbers each, at or before a byte. Refused with 11 or 12."""
+    is_lent = isinstance(records, ctypes.Array)
+    if not is_lent and not all(0 <= number <= _MOST_NUMBER for number in records):
+        raise ValueError(f"a list's number is not from 0 to {_MOST_NUMBER}")
+    numbers = records if is_lent else (c_uint32 * len(records))(*records)
+    found = (c_uint32 * 3)()
+    number = _library.puretakoi_find(numbers, len(numbers), _size(count), _size(byte), found, len(found))
+    if number:
+        raise Refusal(number, 1, 1, 0)
+    return Found(found[1] if found[0] else None, found[2])
+
+
+def _size(number: int) -> int:
+    """A number as a call takes it: one that is too large to pass is as good as the largest."""
+    if number < 0:
+        raise ValueError(f"{number} is below 0: bytes and records count from 0")
+    return min(number, sys.maxsize)
+
+
+class TokenList(Sequence[Token]):
+    """All tokens of a script, in one list of the library, which can be asked for the one under a byte."""
+
+    def __init__(self, script: bytes, *, sheet: bool = False) -> None:
+        """Reads a script as `tokens` does, by single steps, and is refused as it is."""
+        stream, more = _whole(script, sheet), True
+        stream._list = (c_uint32 * (_RECORD * (len(stream._source) + 1)))()
+        self._script, self._list = stream._source, stream._list
+        self._steps: List[Tuple[range, bool]] = []  # of each token: what its step passed, and whether that is a sheet
+        while more:
+            frame, start = stream._top()[0], stream._session[_POSITION]
+            more = stream._step()
+            step = range(start, stream._session[_POSITION]), sheet and frame == _NOWDOC
+            self._steps += [step] * (stream._session[_TOKENS] - len(self._steps))
+        self._tokens = stream._take()
+
+    def __len__(self) -> int:
+        return len(self._tokens)
+
+    def __getitem__(self, index: Any) -> Any:
+        return self._tokens[index]
+
+    def at(self, byte: int) -> Optional[Under]:
+        """What is under a byte, counted from 0; None for one before the script."""
+        found = find(self._list, len(self), byte) if byte >= 0 else Found(None, 0)
+        if found.record is None:
+            return None
+        token, (passed, is_sheet) = self._tokens[found.record], self._steps[found.record]
+        inside, past_end, text = byte in passed, byte >= len(self._script), self._script[passed.start : passed.stop]
+        row, cell = _cell(text, token.detail, byte - passed.start) if is_sheet else (None, None)
+        return Under(token, found.record, found.looks, passed, inside, past_end, row, cell)
+
+
+def _cell(text: bytes, indentation: int, at: int) -> Tuple[Optional[int], Optional[int]]:
+    """Row and cell of a byte of a block or after it; the block's last line is the closing one and has no break."""
+    if text.find(b"\n", at) < 0:
+        return None, None
+    column = at - (text.rfind(b"\n", 0, at) + 1) - indentation
+    is_break = text.startswith((b"\n", b"\r\n"), at)
+    return text.count(b"\n", 0, at) + 1, None if is_break or column < 0 else column + 1

@@ -1,7 +1,7 @@
 //! The record file: 32 bytes a record, little-endian, no header.
 
 use crate::foreign;
-use crate::refusal::{Refusal, Span};
+use crate::refusal::{given, Refusal};
 
 /// All records of a list as a file. Refused: too many (11), no whole number of records (10).
 pub fn list_to_file(list: &[u32]) -> Result<Vec<u8>, Refusal> {
@@ -13,12 +13,4 @@ pub fn list_to_file(list: &[u32]) -> Result<Vec<u8>, Refusal> {
 pub fn file_to_list(file: &[u8]) -> Result<Vec<u32>, Refusal> {
     let mut list = vec![0; file.len() / 4];
     given(foreign::file_to_list(file, &mut list), list)
-}
-
-/// What was made, unless a call without a session refused.
-fn given<T>(number: u32, made: T) -> Result<T, Refusal> {
-    match number {
-        0 => Ok(made),
-        number => Err(Refusal { number, span: Span::START }),
-    }
 }

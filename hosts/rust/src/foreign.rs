@@ -3,7 +3,7 @@
 //! Each call lends slices that Rust holds to be whole and apart, and keeps none; the library asks for nothing else. This is the one
 //! place with unsafe code.
 
-use crate::numbers::layout::{ANSWER, ANSWER_COUNTED, SESSION};
+use crate::numbers::layout::{ANSWER, ANSWER_COUNTED, FOUND, SESSION};
 
 extern "C" {
     fn puretakoi_fresh(choices: u32, session: *mut u32, session_len: usize) -> u32;
@@ -53,6 +53,14 @@ extern "C" {
     fn puretakoi_past(part: *const u8, part_len: usize, span: *mut u32, span_len: usize) -> u32;
     fn puretakoi_list_to_file(list: *const u32, list_len: usize, file: *mut u8, file_len: usize) -> u32;
     fn puretakoi_file_to_list(file: *const u8, file_len: usize, list: *mut u32, list_len: usize) -> u32;
+    fn puretakoi_find(
+        list: *const u32,
+        list_len: usize,
+        count: usize,
+        byte: usize,
+        found: *mut u32,
+        found_len: usize,
+    ) -> u32;
 }
 
 /// Declares the step and the readings, which have one form, and which of them is meant.
@@ -187,4 +195,9 @@ pub fn list_to_file(list: &[u32], file: &mut [u8]) -> u32 {
 /// All records of a file as a list; the refusal, or 0.
 pub fn file_to_list(file: &[u8], list: &mut [u32]) -> u32 {
     unsafe { puretakoi_file_to_list(file.as_ptr(), file.len(), list.as_mut_ptr(), list.len()) }
+}
+
+/// Which of the first `count` records of a list is under a byte; the refusal, or 0.
+pub fn find(list: &[u32], count: usize, byte: usize, found: &mut [u32; FOUND]) -> u32 {
+    unsafe { puretakoi_find(list.as_ptr(), list.len(), count, byte, found.as_mut_ptr(), FOUND) }
 }

@@ -141,6 +141,6 @@ fn functions_are_the_headers() {
     let (mut header, mut here) = (declared(), declared_here());
     header.sort();
     here.sort();
-    assert_eq!(header.len(), 13);
+    assert_eq!(header.len(), 14);
     assert_eq!(header, here);
 }

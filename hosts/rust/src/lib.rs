@@ -1,9 +1,9 @@
 //! Puretakoi for hosts in Rust on x86-64 Linux: the proved reader of PHP scripts behind calls that can't be misused.
 //!
-//! `tokens` gives the tokens of a whole script, `Tokens` one after another and by choices; `Stream`
-//! reads a script that comes in parts; `Session` is the library's own walk and step, with lent tables. What can't be
-//! taken is refused by its number, and session and tables are then as they were; what the steps of a walk before it
-//! wrote stays. No call panics.
+//! `tokens` gives the tokens of a whole script, `Tokens` one after another and by choices; `TokenList` keeps them, and
+//! tells which one is under a byte; `Stream` reads a script that comes in parts; `Session` is the library's own walk
+//! and step, with lent tables, and `find` looks up a byte in such a list. What can't be taken is refused by its number,
+//! and session and tables are then as they were; what the steps of a walk before it wrote stays. No call panics.
 //!
 //! ```
 //! use puretakoi::{tokens, Kind, Reading, Reason, Tokens};
@@ -27,11 +27,27 @@
 //! assert_eq!(refusal.to_string(), "refused 1 at 1:12: something is still open where the script ends");
 //! # Ok::<(), puretakoi::Refusal>(())
 //! ```
+//!
+//! Which token is under the finger? Here the finger is on byte 9, in the string; then on byte 13, which no token has.
+//!
+//! ```
+//! use puretakoi::{Reading, TokenList};
+//!
+//! let tokens = TokenList::new(b"<?php 'kerb' . 12;", Reading::Sheet);
+//! let under = tokens.at(9).expect("a script has a token at its start");
+//! assert_eq!((under.listed.number, &under.listed.token.value[..]), (1, &b"kerb"[..]));
+//! assert_eq!(under.listed.passed, 6..12);
+//!
+//! let under = tokens.at(13).expect("the last token before it");
+//! assert_eq!((under.listed.number, under.listed.passed.contains(&13)), (1, false));
+//! assert_eq!(tokens.end(), Ok(18));
+//! ```
 
 #![deny(unsafe_code, missing_docs, missing_debug_implementations)]
 
 mod choices;
 mod file;
+mod find;
 #[allow(unsafe_code)]
 mod foreign;
 mod frame;
@@ -40,6 +56,7 @@ mod record;
 mod refusal;
 mod session;
 mod stream;
+mod token_list;
 mod tokens;
 
 #[cfg(test)]
@@ -49,12 +66,14 @@ mod words;
 
 pub use choices::{Choices, Reading};
 pub use file::{file_to_list, list_to_file};
+pub use find::{find, Found};
 pub use frame::{Frame, Label};
 pub use numbers::{kinds, limits, refusals, Kind, Reason};
 pub use record::{records, Record};
 pub use refusal::{Refusal, Span};
 pub use session::{End, Progress, Session, Walk};
 pub use stream::{Event, Stream, Token};
+pub use token_list::{Listed, TokenList, Under};
 pub use tokens::{tokens, Tokens};
 
 use std::ops::Range;

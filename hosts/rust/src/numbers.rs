@@ -151,7 +151,7 @@ numbered! {
     Comment = COMMENT = 21, "comment";
 }
 
-/// Where the numbers of a session, an answer and a record stand, and how many each has.
+/// Where the numbers of a session, an answer, a record and of what was found stand, and how many each has.
 pub(crate) mod layout {
     constants! { pub usize:
         SESSION = 199;
@@ -180,6 +180,10 @@ pub(crate) mod layout {
         RECORD_POSITION = 4;
         RECORD_START = 5;
         RECORD_LENGTH = 6;
+        FOUND = 3;
+        FOUND_ANY = 0;
+        FOUND_RECORD = 1;
+        FOUND_LOOKS = 2;
     }
 }
 

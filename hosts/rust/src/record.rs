@@ -4,6 +4,7 @@ use crate::frame::part;
 use crate::numbers::layout::*;
 use crate::numbers::Kind;
 use crate::refusal::Span;
+use crate::stream::Token;
 
 /// A token of the list; its value is a part of the pool.
 #[derive(Clone, Copy, Debug, PartialEq, Eq, Hash)]
@@ -45,6 +46,12 @@ impl Record {
     /// Its value, where that lies within the pool.
     pub fn value<'a>(&self, pool: &'a [u8]) -> Option<&'a [u8]> {
         part(pool, self.start, self.len)
+    }
+
+    /// It with its value, which is empty where that lies not within the pool.
+    pub(crate) fn token(&self, pool: &[u8]) -> Token {
+        let value = self.value(pool).unwrap_or_default().to_vec();
+        Token { kind: self.kind, detail: self.detail, span: self.span, value }
     }
 }
 

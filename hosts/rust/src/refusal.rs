@@ -24,10 +24,8 @@ impl Span {
     /// The place behind all bytes of a part that starts here.
     pub fn past(self, part: &[u8]) -> Result<Span, Refusal> {
         let mut numbers = [self.line, self.column, self.position];
-        match foreign::past(part, &mut numbers) {
-            0 => Ok(Span { line: numbers[0], column: numbers[1], position: numbers[2] }),
-            number => Err(Refusal { number, span: Span::START }),
-        }
+        let refusal = foreign::past(part, &mut numbers);
+        given(refusal, Span { line: numbers[0], column: numbers[1], position: numbers[2] })
     }
 }
 
@@ -83,7 +81,9 @@ impl Reason {
             Reason::StackFull => "braces and interpolations are nested more than 64 deep",
             Reason::OutOfPlace => "the call does not fit where the cursor and the frames are, or what it was given",
             Reason::TooLarge => "there are more than 65,536 bytes of script or pool, or more than 65,537 tokens",
-            Reason::BadSession => "the session was changed by hand, or belongs to another script",
+            Reason::BadSession => {
+                "the session was changed by hand or belongs to another script, or a count is above the list's places"
+            }
             Reason::StrayIndentation => "a row starts with less than the closing line's indentation",
         }
     }
@@ -104,7 +104,9 @@ impl Reason {
             Reason::StackFull => "Nest them less deep.",
             Reason::OutOfPlace => "Look at the session and at what was lent before calling again.",
             Reason::TooLarge => "Divide the script into smaller ones.",
-            Reason::BadSession => "Go on with the session of this script, or begin with a fresh one.",
+            Reason::BadSession => {
+                "Go on with the session of this script or a fresh one; count no more records than the list has."
+            }
             Reason::StrayIndentation => "Indent the row as the closing line is, or the closing line less.",
         }
     }
@@ -117,3 +119,11 @@ impl fmt::Display for Refusal {
 }
 
 impl Error for Refusal {}
+
+/// What a call without a session made, unless it was refused.
+pub(crate) fn given<T>(number: u32, made: T) -> Result<T, Refusal> {
+    match number {
+        0 => Ok(made),
+        number => Err(Refusal { number, span: Span::START }),
+    }
+}

@@ -7,7 +7,7 @@ use crate::numbers::layout::RECORD;
 use crate::numbers::limits::MOST_BYTES;
 use crate::numbers::refusals::{LIST_FULL, OUT_OF_PLACE, POOL_FULL, WAIT};
 use crate::numbers::Kind;
-use crate::record::{kind_name, Record};
+use crate::record::kind_name;
 use crate::refusal::{Refusal, Span};
 use crate::session::{End, Progress, Session};
 
@@ -171,14 +171,7 @@ impl Stream {
 
     /// The tokens of the last walk; the tables are empty again.
     fn take_tokens(&mut self) -> Vec<Token> {
-        let pool = &self.pool;
-        let with_value = |record: Record| Token {
-            kind: record.kind,
-            detail: record.detail,
-            span: record.span,
-            value: record.value(pool).unwrap_or_default().to_vec(),
-        };
-        let tokens = self.session.records(&self.list).map(with_value).collect();
+        let tokens = self.session.records(&self.list).map(|record| record.token(&self.pool)).collect();
         self.session.empty_tables();
         tokens
     }

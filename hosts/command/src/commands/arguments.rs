@@ -138,7 +138,7 @@ fn file(given: &str, word: Option<OsString>) -> Result<PathBuf, String> {
 }
 
 /// A number of digits alone; one that is too large to hold is as good as the largest.
-fn number(word: &OsStr) -> Option<usize> {
+pub fn number(word: &OsStr) -> Option<usize> {
     let digits = word.to_str().filter(|word| !word.is_empty() && word.bytes().all(|byte| byte.is_ascii_digit()))?;
     Some(digits.parse().unwrap_or(usize::MAX))
 }

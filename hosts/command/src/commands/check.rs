@@ -1,6 +1,6 @@
 //! `check`: a line for each refusal and each warning, as editors understand them.
 
-use puretakoi::Span;
+use puretakoi::{Refusal, Span};
 
 use crate::commands::arguments::Call;
 use crate::commands::many::Many;
@@ -80,19 +80,24 @@ pub fn findings(sheet: &Sheet, strict: bool) -> Vec<Finding> {
     findings
 }
 
-/// A refusal.
-fn refused(fault: &Fault) -> Finding {
-    let refusal = fault.refusal;
-    let first = format!("refused {}: {}. {}", refusal.number, refusal.meaning(), refusal.advice());
+/// A refusal with all that is told of it.
+pub fn refused(fault: &Fault) -> Finding {
+    let alone = refused_alone(fault.refusal);
     let guess = "It stands behind another refusal, where the reading is a guess.".to_string();
     let guess = Some(guess).filter(|_| fault.is_guess);
-    let sentences: Vec<String> = [Some(first), fault.detail.clone(), guess].into_iter().flatten().collect();
+    let others = fault.detail.iter().chain(&guess).map(|sentence| format!(" {}", in_one_line(sentence)));
+    let message = others.fold(alone.message, |message, sentence| message + &sentence);
+    Finding { place: fault.place, message, ..alone }
+}
+
+/// A refusal of which nothing else is known.
+pub fn refused_alone(refusal: Refusal) -> Finding {
     Finding {
-        place: fault.place,
+        place: refusal.span,
         word: "error",
         number: Some(refusal.number),
         name: refusal.name(),
-        message: in_one_line(&sentences.join(" ")),
+        message: format!("refused {}: {}. {}", refusal.number, refusal.meaning(), refusal.advice()),
     }
 }
 

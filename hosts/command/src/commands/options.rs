@@ -96,6 +96,10 @@ pub const STRICT: Choice = flag(&["--strict"], "a sheet with a warning counts as
 /// Nowdoc blocks are read as sheets.
 pub const SHEET: Choice = flag(&["--sheet"], "reads nowdoc blocks as sheets, without the closing line's indentation");
 
+/// Nowdoc blocks are read as by the lexer that was carried over.
+pub const PORTED: Choice =
+    flag(&["--ported"], "tells the token that tokens prints without --sheet; no row, no cell, no warning");
+
 /// Numbers alone.
 pub const NUMBERS: Choice = flag(&["--numbers"], "numbers alone, as the program rows prints them");
 

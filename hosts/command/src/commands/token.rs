@@ -3,20 +3,29 @@
 use puretakoi::{Record, Span, Token};
 
 use crate::reading::fault::counted;
-use crate::showing::json;
+use crate::showing::json::{self, Field};
 
 /// A token for a person: where it stands, what it is, and its value.
 pub fn line(token: &Token) -> String {
     told(token.span, token.kind_name(), token.detail, &value_text(&token.value))
 }
 
+/// A token for a person in one line: of a value of several lines how long it is.
+pub fn short_line(token: &Token) -> String {
+    let value = match value_lines(&token.value).len() {
+        0 | 1 => value_text(&token.value),
+        _ => length_text(token.value.len()),
+    };
+    told(token.span, token.kind_name(), token.detail, &value)
+}
+
 /// A record for a person; where its value is not there, how long it is.
 pub fn record_line(record: &Record, pool: Option<&[u8]>) -> String {
-    let length = || format!(" {}", counted(record.len as usize, "byte"));
+    let length = length_text(record.len as usize);
     let value = match pool.map(|pool| record.value(pool)) {
         Some(Some(value)) => value_text(value),
-        Some(None) => format!("{}, not in the pool", length()),
-        None => length(),
+        Some(None) => format!("{}, not in the pool", length),
+        None => length,
     };
     told(record.span, record.kind_name(), record.detail, &value)
 }
@@ -29,9 +38,14 @@ pub fn numbers(token: &Token) -> String {
 
 /// A token as an object.
 pub fn object(token: &Token) -> String {
+    json::object(&fields(token))
+}
+
+/// A token as fields of an object.
+pub fn fields(token: &Token) -> Vec<Field> {
     let kind = vec![("kind", token.kind.to_string()), ("name", json::string(token.kind_name()))];
     let value = vec![("detail", token.detail.to_string()), ("value", json::bytes(&token.value))];
-    json::object(&[kind, json::place_fields(token.span), value].concat())
+    [kind, json::place_fields(token.span), value].concat()
 }
 
 fn told(span: Span, kind: &str, detail: u32, value: &str) -> String {
@@ -41,11 +55,21 @@ fn told(span: Span, kind: &str, detail: u32, value: &str) -> String {
 
 /// A value behind the colon, or its lines below.
 fn value_text(value: &[u8]) -> String {
-    let lines: Vec<String> = value.split_inclusive(|byte| *byte == b'\n').map(quoted).collect();
+    let lines = value_lines(value);
     if lines.len() < 2 {
         return format!(" {}", quoted(value));
     }
-    lines.iter().map(|line| format!("\n    {}", line)).collect()
+    lines.into_iter().map(|line| format!("\n    {}", quoted(line))).collect()
+}
+
+/// The lines of a value, each with its break.
+fn value_lines(value: &[u8]) -> Vec<&[u8]> {
+    value.split_inclusive(|byte| *byte == b'\n').collect()
+}
+
+/// How long a value is, after the colon.
+fn length_text(length: usize) -> String {
+    format!(" {}", counted(length, "byte"))
 }
 
 /// A value in quotes: characters as they are, and a backslash before what is none, or would not be seen.

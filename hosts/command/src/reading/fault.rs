@@ -270,6 +270,7 @@ pub fn character_in_words(bytes: &[u8]) -> String {
         Some(b'\t') => "a tab".to_string(),
         Some(b' ') => "a space".to_string(),
         Some(b'\n' | b'\r') => "a line break".to_string(),
+        Some(b'"') => "a double quote".to_string(),
         _ => format!("\"{}\"", pieces(bytes).next().map_or_else(String::new, |piece| piece.text)),
     }
 }

@@ -1,5 +1,7 @@
 //! A script as a sheet: its nowdoc blocks by the sheet reading, its remarks, and how the reading ended.
 
+use std::ops::Range;
+
 use puretakoi::{kinds, Frame, Span};
 
 use crate::reading::fault::Fault;
@@ -62,6 +64,8 @@ pub struct Block {
     pub indentation: Indentation,
     /// Its rows without their breaks.
     pub rows: Vec<Vec<u8>>,
+    /// The bytes of the script from its first row, or its closing line, up to the end of its closing label.
+    pub body: Range<usize>,
     /// Whether it was read where the reading is a guess.
     pub is_guess: bool,
 }
@@ -81,6 +85,16 @@ impl Block {
     /// How many cells the row with the most has.
     pub fn widest(&self) -> usize {
         self.rows.iter().map(|row| cells(row).len()).max().unwrap_or(0)
+    }
+}
+
+impl Indentation {
+    /// How many bytes it has.
+    pub fn width(self) -> usize {
+        match self {
+            Indentation::None => 0,
+            Indentation::Spaces(amount) | Indentation::Tabs(amount) => amount as usize,
+        }
     }
 }
 
@@ -140,7 +154,8 @@ pub(super) fn block(script: &[u8], step: &Step) -> Option<Block> {
         _ => Indentation::None,
     };
     let rows = rows(text, step.after.line().saturating_sub(step.before.line()));
-    Some(Block { span: step.opening, label, indentation, rows, is_guess: false })
+    let body = step.before.position() as usize..step.after.position() as usize;
+    Some(Block { span: step.opening, label, indentation, rows, body, is_guess: false })
 }
 
 /// The rows of a block's text. A text of no bytes is no row or an empty one: the lines tell.

@@ -38,6 +38,11 @@ pub enum Kind {
 }
 
 impl Kind {
+    /// Whether PHP reads something else there; the others say that nothing of use was found.
+    pub fn is_of_php(self) -> bool {
+        !matches!(self, Kind::Utf16 | Kind::NoOpenTag | Kind::Empty | Kind::NoBlock)
+    }
+
     /// Its name, for programs.
     pub fn name(self) -> &'static str {
         match self {

@@ -10,6 +10,8 @@ pub struct Cell {
     pub text: String,
     /// How many columns that takes.
     pub width: usize,
+    /// How many bytes of the row it stands for.
+    pub taken: usize,
     /// Whether it is raised: its character is neither a space nor a tab, or a mark stands over it.
     pub is_raised: bool,
 }
@@ -21,20 +23,33 @@ pub fn cells(row: &[u8]) -> Vec<Cell> {
         match cells.last_mut() {
             Some(cell) if piece.width == 0 => {
                 cell.text.push_str(&piece.text);
+                cell.taken += piece.taken;
                 cell.is_raised = true;
             }
             _ => {
                 let is_raised = piece.text != " " && piece.text != TAB;
-                cells.push(Cell { text: piece.text, width: piece.width, is_raised });
+                cells.push(Cell { text: piece.text, width: piece.width, taken: piece.taken, is_raised });
             }
         }
     }
     cells
 }
 
+/// The cell that has the byte at a place of a row: its number, from 1, and how many bytes stand before it.
+pub fn cell_at(row: &[u8], at: usize) -> Option<(usize, usize)> {
+    let mut start = 0;
+    for (cell, number) in cells(row).iter().zip(1..) {
+        if at < start + cell.taken {
+            return Some((number, start));
+        }
+        start += cell.taken;
+    }
+    None
+}
+
 #[cfg(test)]
 mod tests {
-    use super::cells;
+    use super::{cell_at, cells};
 
     /// A row's cells: what is shown, with `!` behind it where it is raised.
     fn told(row: &[u8]) -> Vec<String> {
@@ -54,6 +69,15 @@ mod tests {
         assert_eq!(told("e\u{301}\u{327}x".as_bytes()), ["e\u{301}\u{327}!", "x!"]);
         assert_eq!(told(" \u{301} ".as_bytes()), [" \u{301}!", " "]);
         assert_eq!(told("\u{301}a".as_bytes()), ["\u{301}!", "a!"]);
+    }
+
+    #[test]
+    fn every_byte_has_a_cell() {
+        let of = |row: &str| (0..=row.len()).map(|at| cell_at(row.as_bytes(), at)).collect::<Vec<_>>();
+        assert_eq!(of("o€."), [Some((1, 0)), Some((2, 1)), Some((2, 1)), Some((2, 1)), Some((3, 4)), None]);
+        assert_eq!(of("e\u{301}x"), [Some((1, 0)), Some((1, 0)), Some((1, 0)), Some((2, 3)), None]);
+        assert_eq!(cell_at(b"\xE2\x82", 1), Some((2, 1)));
+        assert_eq!(of(""), [None]);
     }
 
     #[test]

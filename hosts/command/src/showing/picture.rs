@@ -79,6 +79,7 @@ pub(crate) mod tests {
             label: b"RELIEF".to_vec(),
             indentation: Indentation::None,
             rows: rows.iter().map(|row| row.as_bytes().to_vec()).collect(),
+            body: 0..0,
             is_guess: false,
         }
     }

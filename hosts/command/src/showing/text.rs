@@ -263,7 +263,7 @@ fn refusal(fault: &Fault, columns: Option<usize>) -> Vec<String> {
 }
 
 /// A line of the script behind its number, and the mark below it.
-fn marked_line(mark: &Mark, columns: Option<usize>) -> [String; 2] {
+pub fn marked_line(mark: &Mark, columns: Option<usize>) -> [String; 2] {
     let number = mark.line.to_string();
     let line = marked(&mark.text, mark.at, columns.map(|columns| room(columns, number.len())));
     let gap = " ".repeat(line.before);

@@ -14,7 +14,7 @@ fn span(line: u32, column: u32, position: u32) -> Span {
 fn parts(is_guess: bool) -> (Vec<Block>, Vec<Heredoc>) {
     let rows = vec![b"o o".to_vec(), b"\xFF".to_vec()];
     let indentation = Indentation::Spaces(2);
-    let block = Block { span: span(2, 6, 11), label: b"RELIEF".to_vec(), indentation, rows, is_guess };
+    let block = Block { span: span(2, 6, 11), label: b"RELIEF".to_vec(), indentation, rows, body: 23..42, is_guess };
     (vec![block], vec![Heredoc { span: span(6, 6, 40), label: b"EOD".to_vec(), last: 9, is_guess }])
 }
 
