@@ -4,7 +4,7 @@
 --   finds-which     the number is 0, 10, 11 or 12
 --   finds-refused   where it is not 0, nothing is written
 --   finds-looks     the third number is 17 at most
-use Prim.Native.Nat.{ℕ, _/_, _≤_, _<_}
+use Prim.Native.Nat.{ℕ, _≤_, _<_}
 use mathlib.Core.Path.{_≡_, refl, sym, ap, _∙_}
 use mathlib.Core.Bool.{Bool, true, false}
 use mathlib.Core.List.{List, [], _∷_}
@@ -18,10 +18,11 @@ use Rattle.byte.specs.Laid.{laid}
 use Rattle.byte.specs.Refusals.{outOfPlace, tooLarge, badSession, isAmong}
 use Rattle.byte.proofs.Tests.{choice}
 use Rattle.source.specs.declared.Span.{Span}
+use Rattle.state.proofs.Refusals.{among-more}
 use Rattle.lookup.specs.declared.Found.{Found}
 use Rattle.lookup.specs.declared.Lookup.{Lookup}
 use Rattle.lookup.specs.Lookups.{positionIn, searched, findRefusal, lookedUp}
-use Rattle.lookup.proofs.Promises.{find-here, find-looks}
+use Rattle.lookup.proofs.Promises.{find-here, find-looks, find-which}
 use Rattle.puretakoi.specs.Finds.{foundNumbers, findsNumber, foundAfter, Finds}
 
 pub three-laid : (l : List ℕ) (u v w : ℕ) → 3 ≤ length l → set (set (set l 0 u) 1 v) 2 w ≡ laid l 0 (u ∷ v ∷ w ∷ [])
@@ -82,17 +83,16 @@ module _ (list : List ℕ) (count byte : ℕ) (found : List ℕ) (r : ℕ) (foun
       (eqb (findRefusal (length list) count) 0) _ _
       (λ e. sym (eqb-true _ 0 e)) (λ e. refl))
 
-  pub finds-which : isAmong r (0 ∷ outOfPlace ∷ tooLarge ∷ badSession ∷ []) ≡ true
-  unfolding isAmong findRefusal
+  -- 10, or one of the look-up's own
+  pub finds-which : isAmong r (outOfPlace ∷ 0 ∷ tooLarge ∷ badSession ∷ []) ≡ true
+  unfolding isAmong
   finds-which =
       rw finds-number
-      (choice Here (leb 3 (length found)) _ _
-      (λ e. choice Here (leb (length list / 8) 65537) _ _
-      (λ f. choice Here (leb count (length list / 8)) _ _ (λ g. refl) (λ g. refl)) (λ f. refl))
+      (choice (λ (n : ℕ). isAmong n (outOfPlace ∷ 0 ∷ tooLarge ∷ badSession ∷ []) ≡ true) (leb 3 (length found)) _ _
+      (λ e.
+      among-more (findRefusal (length list) count) outOfPlace (0 ∷ tooLarge ∷ badSession ∷ [])
+      (find-which (length list) count))
       (λ e. refl))
-    where
-      Here : ℕ → Type 0
-      Here n = isAmong n (0 ∷ outOfPlace ∷ tooLarge ∷ badSession ∷ []) ≡ true
 
   -- it is 0 exactly where a slice of three numbers is lent and neither 11 nor 12 is told
   unrefused : r ≡ 0 → (leb 3 (length found) ≡ true) × (findRefusal (length list) count ≡ 0)
