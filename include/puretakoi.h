@@ -96,7 +96,7 @@ extern "C" {
  *   11, 12, 13    the label that closes                                         0, or how many spaces, or tabs, before it
  *   14, 15, 16    its bytes as they stand, as name or ->                        0
  *   17, 18        the text between the quotes, each escape as what it is for    0
- *   19, 20        the number as it stands, without its _                        0
+ *   19, 20        the number as it stands, without its _, and e for E           0
  *   21            the comment as it stands                                      0
  *
  * A StringPart is the text, in double quotes and heredocs with each escape as what it is for, in backticks as it stands,
@@ -106,7 +106,13 @@ extern "C" {
  * there is none.
  *
  * A StringPart and the token that follows it in the same step bear one place, where the step began: so the place of an
- * end of a text block is not its closing line. InlineHtml and the tag after it bear a place each. */
+ * end of a text block is not its closing line. InlineHtml and the tag after it bear a place each.
+ *
+ * All records of one step bear one end, the session's position after it. In a list that was filled from a token mark
+ * of 0, each call on the session and the records that the last one left, ends never fall. For kinds 17 to 21 the source
+ * from the position up to the end is the literal or the comment as it is written, with both quotes; a record that
+ * puretakoi_read_single or puretakoi_read_double wrote begins after the opening quote. In a file that an older writer
+ * made the end is 0: take 0 as not stated. No step or reading that writes a record of non-zero length ends at 0. */
 
 #define PURETAKOI_RECORD 8          /* how many numbers a record has */
 #define PURETAKOI_RECORD_KIND 0     /* which token, below */
@@ -115,7 +121,8 @@ extern "C" {
 #define PURETAKOI_RECORD_COLUMN 3   /* in bytes */
 #define PURETAKOI_RECORD_POSITION 4 /* in bytes from the source's start */
 #define PURETAKOI_RECORD_START 5    /* its value: the first byte in the pool */
-#define PURETAKOI_RECORD_LENGTH 6   /* and how many bytes; the eighth number is 0 */
+#define PURETAKOI_RECORD_LENGTH 6   /* and how many bytes */
+#define PURETAKOI_RECORD_END 7      /* where the step or reading ended that wrote it, from the source's start; or 0 */
 
 #define PURETAKOI_KIND_INLINE_HTML 1                   /* text outside tags */
 #define PURETAKOI_KIND_OPEN_TAG_FULL 2                 /* <?php, its value in the script's letter case */
@@ -139,12 +146,15 @@ extern "C" {
 #define PURETAKOI_KIND_LITERAL_FLOAT 20                /* a number with a point or an exponent */
 #define PURETAKOI_KIND_COMMENT 21                      /* a comment: its bytes as they stand; a line's without its LF, but with the CR of a CRLF */
 
-/* ---- What `puretakoi_find` has found: 3 numbers. A longer slice is as good; what lies after is not touched. */
+/* ---- What `puretakoi_find` has found: 3 numbers, or 4. A longer slice is as good; what lies after is not touched. The
+ * fourth is written where it is lent. */
 
-#define PURETAKOI_FOUND 3        /* how many numbers it has */
+#define PURETAKOI_FOUND 3        /* how many numbers it has at least */
+#define PURETAKOI_FOUND_ENDED 4  /* how many it has with the end */
 #define PURETAKOI_FOUND_ANY 0    /* 1 where a record is at or before the byte, 0 where none is */
 #define PURETAKOI_FOUND_RECORD 1 /* its number, from 0: it begins at list[PURETAKOI_RECORD * number]; 0 for none */
 #define PURETAKOI_FOUND_LOOKS 2  /* how many records were looked at: at most 17 */
+#define PURETAKOI_FOUND_END 3    /* where the step ended that wrote it, as its record says; 0 for none */
 
 /* ---- Refusals. Each call gives the number, or 0. */
 
@@ -234,8 +244,9 @@ uint32_t puretakoi_file_to_list(const uint8_t *file, size_t file_len, uint32_t *
  * are looked at, by halving. In a list that was filled from a token mark of 0 by steps, walks and readings, each on the
  * session and the records that the last one left, it is what a look at every record would find: of records at one
  * position the last. In a list whose positions fall it is what the halving comes to: a record at or before the byte, or
- * none, and the same each time. A byte past all records gives the last. Refused, with nothing written: a `found` of
- * fewer than 3 numbers (10), a list of more than 65,537 places (11), a count above its places (12). */
+ * none, and the same each time. A byte past all records gives the last. A fourth number of `found` is the record's end:
+ * a byte before it lies in the token, or in text that its step passed. Refused, with nothing written: a `found` of fewer
+ * than 3 numbers (10), a list of more than 65,537 places (11), a count above its places (12). */
 uint32_t puretakoi_find(const uint32_t *list, size_t list_len, size_t count, size_t byte, uint32_t *found,
                         size_t found_len);
 

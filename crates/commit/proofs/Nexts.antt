@@ -83,11 +83,12 @@ module _ (src : List ℕ) (end : Bool) (scratch : List ℕ) (m : Mark) (w : Work
         room-open : (m .tokens + w .drafts .count ≤ length l / 8) × (m .bytes + total ≤ length q)
         room-open = room-facts (length l) (length q) (m .tokens) (m .bytes) (w .drafts .count) total (sym e ∙ z)
 
-        pub work-fits : DraftsFit src end scratch m (w .drafts) (length l) (length q)
+        pub work-fits : DraftsFit src end scratch m w (length l) (length q)
         work-fits = record {
           marked = f .marked;
           ready = f .ready;
           all = allInside-wide _ _ (f .inside .inside) (m .span .position) (piecesOf src end (w .drafts)) (f .inside .all);
+          after = f .inside .inside;
           narrow = work-narrow;
           places = room-open .0;
           room = rw (← t) (room-open .1);
@@ -100,7 +101,8 @@ module _ (src : List ℕ) (end : Bool) (scratch : List ℕ) (m : Mark) (w : Work
           room = omega (arith, room-open .1, f .marked .room);
         }
 
-        pub work-written : (r : Next) (l′ q′ : List ℕ) → DraftsPut src m (piecesOf src end (w .drafts)) l q l′ q′
+        pub work-written : (r : Next) (l′ q′ : List ℕ)
+            → DraftsPut src (w .after) m (piecesOf src end (w .drafts)) l q l′ q′
             → r ≡ advanced src m w (w .drafts .count) total → Committed src m l q (outcomeOf src end (Plan.Told w)) r l′ q′
         unfolding outcomeOf reached
         work-written r l′ q′ p h =

@@ -19,6 +19,7 @@ use Rattle.outcome.specs.Outcomes.{values}
 use Rattle.outcome.specs.Insides.{AllInside}
 use Rattle.plan.specs.declared.Draft.{Draft}
 use Rattle.plan.specs.declared.Drafts.{Drafts}
+use Rattle.plan.specs.declared.Work.{Work}
 use Rattle.plan.specs.Code.{made, pieceOf, pieces, draftsOf, AllReady}
 use Rattle.commit.specs.declared.Mark.{Mark}
 use Rattle.commit.specs.Records.{spanAt, Tables, put}
@@ -79,26 +80,27 @@ draftAt-second ds i n = rw (ne-eqb i 0 n)
 
 pub ruleset choosing = (draftAt-first, draftAt-second)
 
-pub draftToken-made : (src : List ℕ) (p : Span) (start : ℕ) (d : Draft) (span : Span)
-    → span ≡ spanAt src p (d .place)
-    → record { kind = d .kind; detail = d .detail; span = span; start = start; len = d .len } ≡ draftToken src p start d
-draftToken-made src p start d span e = rw e
+pub draftToken-made : (src : List ℕ) (after : ℕ) (m : Mark) (d : Draft) (span : Span)
+    → span ≡ spanAt src (m .span) (d .place)
+    → record { kind = d .kind; detail = d .detail; span = span; start = m .bytes; len = d .len; end = after }
+    ≡ draftToken src after m d
+draftToken-made src after m d span e = rw e
 
-pub record-put : (src : List ℕ) (m : Mark) (d : Draft) (l l′ : List ℕ) (t : Token)
-    → t ≡ draftToken src (m .span) (m .bytes) d
+pub record-put : (src : List ℕ) (after : ℕ) (m : Mark) (d : Draft) (l l′ : List ℕ) (t : Token)
+    → t ≡ draftToken src after m d
     → l′ ≡ laid l (m .tokens * 8) (recordOf t)
-    → l′ ≡ laid l (m .tokens * 8) (recordOf (draftToken src (m .span) (m .bytes) d))
-record-put src m d l l′ t e h = h ∙ rw e
+    → l′ ≡ laid l (m .tokens * 8) (recordOf (draftToken src after m d))
+record-put src after m d l l′ t e h = h ∙ rw e
 
 -- a draft's value and record
-module _ (src : List ℕ) (end : Bool) (scratch : List ℕ) (m : Mark) (d : Draft) (l q : List ℕ)
-    (f : DraftFits src end scratch m d (length l) (length q)) where
+module _ (src : List ℕ) (end : Bool) (scratch : List ℕ) (after : ℕ) (m : Mark) (d : Draft) (l q : List ℕ)
+    (f : DraftFits src end scratch after m d (length l) (length q)) where
   pub draft-put : (l′ q′ : List ℕ) → q′ ≡ laid q (m .bytes) (made src end d)
-      → l′ ≡ laid l (m .tokens * 8) (recordOf (draftToken src (m .span) (m .bytes) d)) → (r : Mark) → r ≡ pastDraft m d
-      → DraftPut src m d (pieceOf src end d) l q r l′ q′
+      → l′ ≡ laid l (m .tokens * 8) (recordOf (draftToken src after m d)) → (r : Mark) → r ≡ pastDraft m d
+      → DraftPut src after m d (pieceOf src end d) l q r l′ q′
   draft-put l′ q′ v h r k = record { mark = k; list = h ∙ rw (f .ready .size); pool = v }
 
-  module _ (r : Mark) (l′ q′ : List ℕ) (p : DraftPut src m d (pieceOf src end d) l q r l′ q′) where
+  module _ (r : Mark) (l′ q′ : List ℕ) (p : DraftPut src after m d (pieceOf src end d) l q r l′ q′) where
     put-list : length l′ ≡ length l
     put-list = ap length (p .list) ∙ length-laid l (m .tokens * 8) _ (f .places)
 
@@ -106,14 +108,14 @@ module _ (src : List ℕ) (end : Bool) (scratch : List ℕ) (m : Mark) (d : Draf
     put-pool = ap length (p .pool) ∙ length-laid q (m .bytes) _ (omega (arith, f .room, f .ready .size))
 
 -- the same of the draft with a number
-module _ (src : List ℕ) (end : Bool) (scratch : List ℕ) (m : Mark) (ds : Drafts) (i : ℕ) (d : Draft)
+module _ (src : List ℕ) (end : Bool) (scratch : List ℕ) (after : ℕ) (m : Mark) (ds : Drafts) (i : ℕ) (d : Draft)
     (e : d ≡ draftAt ds i) where
-  pub nth-fits : (list pool : ℕ) → DraftFits src end scratch m (draftAt ds i) list pool
-      → DraftFits src end scratch m d list pool
+  pub nth-fits : (list pool : ℕ) → DraftFits src end scratch after m (draftAt ds i) list pool
+      → DraftFits src end scratch after m d list pool
   nth-fits list pool f = rw e f
 
-  pub nth-put : (l q : List ℕ) (r : Mark) (l′ q′ : List ℕ) → DraftPut src m d (pieceOf src end d) l q r l′ q′
-      → DraftPut src m (draftAt ds i) (pieceOf src end (draftAt ds i)) l q r l′ q′
+  pub nth-put : (l q : List ℕ) (r : Mark) (l′ q′ : List ℕ) → DraftPut src after m d (pieceOf src end d) l q r l′ q′
+      → DraftPut src after m (draftAt ds i) (pieceOf src end (draftAt ds i)) l q r l′ q′
   nth-put l q r l′ q′ p = rw e at p
 
 pub ruleset nths = (nth-fits, nth-put)
@@ -138,29 +140,30 @@ drop-draftAt ds i few h = go (ds .count) refl i h
     go (suc (suc zero)) e (suc (suc k)) less = absurd (omega (arith, less))
     go (suc (suc (suc n))) e k less = absurd (omega (arith, few, e))
 
-pub record Putting (src : List ℕ) (end : Bool) (scratch : List ℕ) (m : Mark) (ds : Drafts) (l₀ q₀ : List ℕ)
+pub record Putting (src : List ℕ) (end : Bool) (scratch : List ℕ) (m : Mark) (w : Work) (l₀ q₀ : List ℕ)
     (at : Mark) (i : ℕ)
     (l q : List ℕ) : Type 0 where
   pub rest : List Draft
-  pub from : drop i (draftsOf ds) ≡ rest
-  pub same : put src m (tables l₀ q₀) (pieces src end (draftsOf ds)) ≡ put src at (tables l q) (pieces src end rest)
-  pub inside : i ≤ ds .count
+  pub from : drop i (draftsOf (w .drafts)) ≡ rest
+  pub same : put src (w .after) m (tables l₀ q₀) (pieces src end (draftsOf (w .drafts)))
+      ≡ put src (w .after) at (tables l q) (pieces src end rest)
+  pub inside : i ≤ w .drafts .count
   pub span : at .span ≡ m .span
   pub ready : AllReady rest src end scratch
   pub low : ℕ
   pub lower : m .span .position ≤ low
   pub all : AllInside low (length src) (pieces src end rest)
   pub narrow : totalOf rest ≤ length src
-  pub places : at .tokens + ds .count ≤ length l / 8 + i
+  pub places : at .tokens + w .drafts .count ≤ length l / 8 + i
   pub room : at .bytes + totalOf rest ≤ length q
   pub list : length l ≡ length l₀
   pub pool : length q ≡ length q₀
 
-module _ (src : List ℕ) (end : Bool) (scratch : List ℕ) (m : Mark) (ds : Drafts) (l₀ q₀ : List ℕ)
-    (f : DraftsFit src end scratch m ds (length l₀) (length q₀)) where
-  pub putting-first : Putting src end scratch m ds l₀ q₀ m 0 l₀ q₀
+module _ (src : List ℕ) (end : Bool) (scratch : List ℕ) (m : Mark) (w : Work) (l₀ q₀ : List ℕ)
+    (f : DraftsFit src end scratch m w (length l₀) (length q₀)) where
+  pub putting-first : Putting src end scratch m w l₀ q₀ m 0 l₀ q₀
   putting-first = record {
-    rest = draftsOf ds;
+    rest = draftsOf (w .drafts);
     from = refl;
     same = refl;
     inside = omega arith;
@@ -176,89 +179,93 @@ module _ (src : List ℕ) (end : Bool) (scratch : List ℕ) (m : Mark) (ds : Dra
     pool = refl;
   }
 
-  module _ (at : Mark) (i : ℕ) (l q : List ℕ) (w : Putting src end scratch m ds l₀ q₀ at i l q) where
-    pub putting-end : ds .count ≤ i → DraftsPut src m (pieces src end (draftsOf ds)) l₀ q₀ l q
+  module _ (at : Mark) (i : ℕ) (l q : List ℕ) (g : Putting src end scratch m w l₀ q₀ at i l q) where
+    pub putting-end : w .drafts .count ≤ i
+        → DraftsPut src (w .after) m (pieces src end (draftsOf (w .drafts))) l₀ q₀ l q
     unfolding put pieces
     putting-end h =
-        let past : length (draftsOf ds) ≤ i = omega (arith, h, length-draftsOf ds (f .ready .few)) in
-        let none : w .rest ≡ [] = sym (w .from) ∙ drop-of-length-le (draftsOf ds) past in
-        let all : put src m (tables l₀ q₀) (pieces src end (draftsOf ds)) ≡ tables l q = w .same ∙ rw none in
+        let over : length (draftsOf (w .drafts)) ≤ i = omega (arith, h, length-draftsOf (w .drafts) (f .ready .few)) in
+        let none : g .rest ≡ [] = sym (g .from) ∙ drop-of-length-le (draftsOf (w .drafts)) over in
+        let all : put src (w .after) m (tables l₀ q₀) (pieces src end (draftsOf (w .drafts))) ≡ tables l q =
+        g .same ∙ rw none in
         record { list = ap (λ (t : Tables). t .list) (sym all); pool = ap (λ (t : Tables). t .pool) (sym all) }
 
-    module _ (h : i < ds .count) where
+    module _ (h : i < w .drafts .count) where
       abbrev d : Draft
-      d = draftAt ds i
+      d = draftAt (w .drafts) i
 
       abbrev more : List Draft
-      more = drop (i + 1) (draftsOf ds)
+      more = drop (i + 1) (draftsOf (w .drafts))
 
-      left : w .rest ≡ d ∷ more
-      left = sym (w .from) ∙ drop-draftAt ds i (f .ready .few) h
+      left : g .rest ≡ d ∷ more
+      left = sym (g .from) ∙ drop-draftAt (w .drafts) i (f .ready .few) h
 
       ready : AllReady (d ∷ more) src end scratch
-      ready = subst (λ (rest : List Draft). AllReady rest src end scratch) left (w .ready)
+      ready = subst (λ (rest : List Draft). AllReady rest src end scratch) left (g .ready)
 
-      inside : AllInside (w .low) (length src) (pieces src end (d ∷ more))
-      inside = subst (λ (rest : List Draft). AllInside (w .low) (length src) (pieces src end rest)) left (w .all)
+      inside : AllInside (g .low) (length src) (pieces src end (d ∷ more))
+      inside = subst (λ (rest : List Draft). AllInside (g .low) (length src) (pieces src end rest)) left (g .all)
 
       narrow : totalOf (d ∷ more) ≤ length src
-      narrow = subst (λ (rest : List Draft). totalOf rest ≤ length src) left (w .narrow)
+      narrow = subst (λ (rest : List Draft). totalOf rest ≤ length src) left (g .narrow)
 
       room : at .bytes + totalOf (d ∷ more) ≤ length q
-      room = subst (λ (rest : List Draft). at .bytes + totalOf rest ≤ length q) left (w .room)
+      room = subst (λ (rest : List Draft). at .bytes + totalOf rest ≤ length q) left (g .room)
 
-      pub putting-fits : DraftFits src end scratch at (draftAt ds i) (length l) (length q)
+      pub putting-fits : DraftFits src end scratch (w .after) at (draftAt (w .drafts) i) (length l) (length q)
       unfolding pieces totalOf
       putting-fits =
           let a = inside .0 in
           record {
             drawn = record {
               ahead = record {
-                cursor = rw (w .span) (f .marked .cursor);
-                low = rw (w .span) (omega (arith, w .lower, a .low));
+                cursor = rw (g .span) (f .marked .cursor);
+                low = rw (g .span) (omega (arith, g .lower, a .low));
                 high = a .high;
               };
               detail = a .detail;
               len = omega (arith, narrow);
+              end = f .after;
             };
             ready = ready .0;
-            places = omega (arith, w .places, h);
+            places = omega (arith, g .places, h);
             room = omega (arith, room);
             past = record {
-              tokens = omega (arith, w .places, h, w .list, f .marked .places);
-              bytes = omega (arith, room, w .pool, f .marked .room);
+              tokens = omega (arith, g .places, h, g .list, f .marked .places);
+              bytes = omega (arith, room, g .pool, f .marked .room);
             };
           }
 
       pub putting-count : Fits w32 (i + 1)
       putting-count = record { fits = omega (arith, h, f .ready .few) }
 
-      pub putting-on : (l′ q′ : List ℕ) (after : Mark)
-          → DraftPut src at (draftAt ds i) (pieceOf src end (draftAt ds i)) l q after l′ q′
-          → Putting src end scratch m ds l₀ q₀ after (i + 1) l′ q′
+      pub putting-on : (l′ q′ : List ℕ) (past : Mark)
+          → DraftPut src (w .after) at (draftAt (w .drafts) i) (pieceOf src end (draftAt (w .drafts) i)) l q past l′ q′
+          → Putting src end scratch m w l₀ q₀ past (i + 1) l′ q′
       unfolding put pieces totalOf
-      putting-on l′ q′ after p =
+      putting-on l′ q′ past p =
           let k : d .len ≡ length (made src end d) = ready .0 .size in
-          let list = put-list src end scratch at d l q putting-fits after l′ q′ p in
-          let pool = put-pool src end scratch at d l q putting-fits after l′ q′ p in
-          let same : put src m (tables l₀ q₀) (pieces src end (draftsOf ds)) ≡ put src at (tables l q) (pieces src end (d ∷ more)) =
-          w .same ∙ ap (λ (rest : List Draft). put src at (tables l q) (pieces src end rest)) left in
+          let list = put-list src end scratch (w .after) at d l q putting-fits past l′ q′ p in
+          let pool = put-pool src end scratch (w .after) at d l q putting-fits past l′ q′ p in
+          let same : put src (w .after) m (tables l₀ q₀) (pieces src end (draftsOf (w .drafts)))
+          ≡ put src (w .after) at (tables l q) (pieces src end (d ∷ more)) =
+          g .same ∙ ap (λ (rest : List Draft). put src (w .after) at (tables l q) (pieces src end rest)) left in
           rw (p .mark)
           (record {
             rest = more;
             from = refl;
             same = same ∙ rw (p .list, p .pool, k);
             inside = omega (arith, h);
-            span = w .span;
+            span = g .span;
             ready = ready .1;
             low = d .place;
-            lower = omega (arith, w .lower, inside .0 .low);
+            lower = omega (arith, g .lower, inside .0 .low);
             all = inside .1;
             narrow = omega (arith, narrow);
-            places = rw list (omega (arith, w .places));
+            places = rw list (omega (arith, g .places));
             room = rw pool (omega (arith, room));
-            list = list ∙ w .list;
-            pool = pool ∙ w .pool;
+            list = list ∙ g .list;
+            pool = pool ∙ g .pool;
           })
 
 pub ruleset putting = (putting-first, putting-end, putting-fits, putting-count, putting-on)

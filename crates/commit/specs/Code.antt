@@ -63,21 +63,23 @@ pub record Marked (src : List ℕ) (m : Mark) (list pool : ℕ) : Type 0 where
   pub places : list / 8 ≤ 65537
   pub room : pool ≤ 65536
 
--- the token of a draft
-abbrev pub draftToken : List ℕ → Span → ℕ → Draft → Token
-draftToken src p start d = record {
+-- the token of a draft of a step that ends at `after`
+abbrev pub draftToken : List ℕ → ℕ → Mark → Draft → Token
+draftToken src after m d = record {
   kind = d .kind;
   detail = d .detail;
-  span = spanAt src p (d .place);
-  start = start;
+  span = spanAt src (m .span) (d .place);
+  start = m .bytes;
   len = d .len;
+  end = after;
 }
 
 -- what a token's numbers need
-pub record Drawn (src : List ℕ) (p : Span) (d : Draft) : Type 0 where
+pub record Drawn (src : List ℕ) (after : ℕ) (p : Span) (d : Draft) : Type 0 where
   pub ahead : Ahead src p (d .place)
   pub detail : d .detail ≤ length src
   pub len : d .len ≤ length src
+  pub end : after ≤ length src
 
 -- the marks after a draft, and that they fit
 abbrev pub pastDraft : Mark → Draft → Mark
@@ -88,34 +90,36 @@ pub record PastFits (m : Mark) (d : Draft) : Type 0 where
   pub bytes : m .bytes + d .len ≤ 65536
 
 -- a draft fits from the marks on
-pub record DraftFits (src : List ℕ) (end : Bool) (scratch : List ℕ) (m : Mark) (d : Draft)
+pub record DraftFits (src : List ℕ) (end : Bool) (scratch : List ℕ) (after : ℕ) (m : Mark) (d : Draft)
     (list pool : ℕ) : Type 0 where
-  pub drawn : Drawn src (m .span) d
+  pub drawn : Drawn src after (m .span) d
   pub ready : Ready src end scratch d
   pub places : m .tokens * 8 + 8 ≤ list
   pub room : m .bytes + d .len ≤ pool
   pub past : PastFits m d
 
 -- the tables with its record and its value from the marks on, and the marks after it
-pub record DraftPut (src : List ℕ) (m : Mark) (d : Draft) (piece : Piece) (l q : List ℕ) (r : Mark) (l′ q′ : List ℕ) : Type 0 where
+pub record DraftPut (src : List ℕ) (after : ℕ) (m : Mark) (d : Draft) (piece : Piece) (l q : List ℕ)
+    (r : Mark) (l′ q′ : List ℕ) : Type 0 where
   pub mark : r ≡ pastDraft m d
-  pub list : l′ ≡ putPiece src m (record { list = l; pool = q }) piece .list
-  pub pool : q′ ≡ putPiece src m (record { list = l; pool = q }) piece .pool
+  pub list : l′ ≡ putPiece src after m (record { list = l; pool = q }) piece .list
+  pub pool : q′ ≡ putPiece src after m (record { list = l; pool = q }) piece .pool
 
--- drafts fit from the marks on
-pub record DraftsFit (src : List ℕ) (end : Bool) (scratch : List ℕ) (m : Mark) (ds : Drafts)
+-- the drafts of a work fit from the marks on
+pub record DraftsFit (src : List ℕ) (end : Bool) (scratch : List ℕ) (m : Mark) (w : Work)
     (list pool : ℕ) : Type 0 where
   pub marked : Marked src m list pool
-  pub ready : DraftsReady ds src end scratch
-  pub all : AllInside (m .span .position) (length src) (piecesOf src end ds)
-  pub narrow : totalOf (draftsOf ds) ≤ length src
-  pub places : m .tokens + ds .count ≤ list / 8
-  pub room : m .bytes + totalOf (draftsOf ds) ≤ pool
+  pub ready : DraftsReady (w .drafts) src end scratch
+  pub all : AllInside (m .span .position) (length src) (piecesOf src end (w .drafts))
+  pub after : w .after ≤ length src
+  pub narrow : totalOf (draftsOf (w .drafts)) ≤ length src
+  pub places : m .tokens + w .drafts .count ≤ list / 8
+  pub room : m .bytes + totalOf (draftsOf (w .drafts)) ≤ pool
 
 -- the tables with their records and values from the marks on
-pub record DraftsPut (src : List ℕ) (m : Mark) (pieces : List Piece) (l q l′ q′ : List ℕ) : Type 0 where
-  pub list : l′ ≡ put src m (record { list = l; pool = q }) pieces .list
-  pub pool : q′ ≡ put src m (record { list = l; pool = q }) pieces .pool
+pub record DraftsPut (src : List ℕ) (after : ℕ) (m : Mark) (pieces : List Piece) (l q l′ q′ : List ℕ) : Type 0 where
+  pub list : l′ ≡ put src after m (record { list = l; pool = q }) pieces .list
+  pub pool : q′ ≡ put src after m (record { list = l; pool = q }) pieces .pool
 
 unfoldable pub isFull : Change → ℕ → Bool
 isFull Change.Keep depth = false

@@ -2,7 +2,7 @@
 -- layout. The session's part stands in crate lexer.
 --   Mark, Next       (source) the cursor and the fill marks; answer, cursor, marks and the change of frame
 --   spanAt           the span of a place from the cursor p on
---   tokenOf          the token of a piece whose value stands in the pool from `start` on
+--   tokenOf          the token of a piece that is put at the marks by a step that ends at `after`
 --   Tables           what list and pool hold
 --   putPiece, pastPiece, put   a piece is put at the marks, the marks go past it, the next piece is put
 --   records          the records of pieces; `put-laid` (proofs/Putting.antt) says that they and the values stand from the marks on
@@ -31,36 +31,38 @@ use Rattle.commit.specs.declared.Next.{Next}
 abbrev pub spanAt : List ℕ → Span → ℕ → Span
 spanAt src p place = passed p (take (place - p .position) (drop (p .position) src))
 
-abbrev pub tokenOf : List ℕ → Span → ℕ → Piece → Token
-tokenOf src p start piece = record {
+abbrev pub tokenOf : List ℕ → ℕ → Mark → Piece → Token
+tokenOf src after m piece = record {
   kind = piece .kind;
   detail = piece .detail;
-  span = spanAt src p (piece .place);
-  start = start;
+  span = spanAt src (m .span) (piece .place);
+  start = m .bytes;
   len = length (piece .value);
+  end = after;
 }
 
 pub record Tables : Type 0 where
   pub list : List ℕ
   pub pool : List ℕ
 
-abbrev pub putPiece : List ℕ → Mark → Tables → Piece → Tables
-putPiece src m t piece = record {
-  list = laid (t .list) (m .tokens * 8) (recordOf (tokenOf src (m .span) (m .bytes) piece));
+abbrev pub putPiece : List ℕ → ℕ → Mark → Tables → Piece → Tables
+putPiece src after m t piece = record {
+  list = laid (t .list) (m .tokens * 8) (recordOf (tokenOf src after m piece));
   pool = laid (t .pool) (m .bytes) (piece .value);
 }
 
 abbrev pub pastPiece : Mark → Piece → Mark
 pastPiece m piece = record { span = m .span; tokens = m .tokens + 1; bytes = m .bytes + length (piece .value) }
 
-unfoldable pub put : List ℕ → Mark → Tables → List Piece → Tables
-put src m t [] = t
-put src m t (piece ∷ more) = put src (pastPiece m piece) (putPiece src m t piece) more
+-- all pieces of a step bear its end
+unfoldable pub put : List ℕ → ℕ → Mark → Tables → List Piece → Tables
+put src after m t [] = t
+put src after m t (piece ∷ more) = put src after (pastPiece m piece) (putPiece src after m t piece) more
 
-unfoldable pub records : List ℕ → Span → ℕ → List Piece → List ℕ
-records src p start [] = []
-records src p start (piece ∷ more) =
-    recordOf (tokenOf src p start piece) ++ records src p (start + length (piece .value)) more
+unfoldable pub records : List ℕ → ℕ → Mark → List Piece → List ℕ
+records src after m [] = []
+records src after m (piece ∷ more) =
+    recordOf (tokenOf src after m piece) ++ records src after (pastPiece m piece) more
 
 abbrev pub roomFor : Mark → Tables → List Piece → ℕ
 roomFor m t pieces =
@@ -95,7 +97,7 @@ advances src m pieces after change finished = record {
 unfoldable pub reached : List ℕ → Mark → Tables → Outcome → Reached
 reached src m t (Outcome.Told pieces after change finished) =
     if eqb (roomFor m t pieces) 0
-    then record { next = advances src m pieces after change finished; tables = put src m t pieces }
+    then record { next = advances src m pieces after change finished; tables = put src after m t pieces }
     else record { next = stays (roomFor m t pieces) (m .span) m; tables = t }
 reached src m t (Outcome.Refused number place) =
     record { next = stays number (spanAt src (m .span) place) m; tables = t }

@@ -97,26 +97,27 @@ fn write_value(src: &[u8], end: bool, d: Draft, scratch: &[u8], pool: &mut [u8],
     }
 }
 
-// The token of a draft whose value stands in the pool from `start` on.
-fn token_of(src: &[u8], p: Span, start: u32, d: Draft) -> Token
-    requires { ⌜ Drawn (now src) p d ⌝ }
-    ensures { λ r. ⌜ r ≡ draftToken (now (src .entry)) p start d ⌝ }
+// The token of a draft whose value stands in the pool from the mark on. The step ends at `after`.
+fn token_of(src: &[u8], after: usize, m: Mark, d: Draft) -> Token
+    requires { ⌜ Drawn (now src) after (m .span) d ⌝ }
+    ensures { λ r. ⌜ r ≡ draftToken (now (src .entry)) after m d ⌝ }
 {
     Token {
         kind: d.kind,
         detail: d.detail as u32,
-        span: span_at(src, p, d.place),
-        start,
+        span: span_at(src, m.span, d.place),
+        start: m.bytes,
         len: d.len as u32,
+        end: after as u32,
     }
 }
 
-// The record of a draft whose value stands in the pool from the mark on.
-fn put_record(src: &[u8], m: Mark, d: Draft, list: &mut [u32])
-    requires { ⌜ Drawn (now src) (m .span) d × (m .tokens * 8 + 8 ≤ length (now list)) ⌝ }
-    ensures { λ r. ⌜ now (list .exit) ≡ laid (now (list .entry)) (m .tokens * 8) (recordOf (draftToken (now (src .entry)) (m .span) (m .bytes) d)) ⌝ }
+// A draft's record, at its place in the list.
+fn put_record(src: &[u8], after: usize, m: Mark, d: Draft, list: &mut [u32])
+    requires { ⌜ Drawn (now src) after (m .span) d × (m .tokens * 8 + 8 ≤ length (now list)) ⌝ }
+    ensures { λ r. ⌜ now (list .exit) ≡ laid (now (list .entry)) (m .tokens * 8) (recordOf (draftToken (now (src .entry)) after m d)) ⌝ }
 {
-    token::put_token(list, m.tokens as usize, token_of(src, m.span, m.bytes, d));
+    token::put_token(list, m.tokens as usize, token_of(src, after, m, d));
 }
 
 // The marks after a draft.
@@ -132,21 +133,22 @@ fn past_draft(m: Mark, d: Draft) -> Mark
     }
 }
 
-// A draft's value and record, from the marks on, and the marks after it.
+// A draft's value and record, from the marks on, and the marks after it. The step ends at `after`.
 fn put_draft(
     src: &[u8],
     end: bool,
+    after: usize,
     m: Mark,
     d: Draft,
     scratch: &[u8],
     list: &mut [u32],
     pool: &mut [u8],
 ) -> Mark
-    requires { ⌜ DraftFits (now src) end (now scratch) m d (length (now list)) (length (now pool)) ⌝ }
-    ensures { λ r. ⌜ DraftPut (now (src .entry)) m d (pieceOf (now (src .entry)) end d) (now (list .entry)) (now (pool .entry)) r (now (list .exit)) (now (pool .exit)) ⌝ }
+    requires { ⌜ DraftFits (now src) end (now scratch) after m d (length (now list)) (length (now pool)) ⌝ }
+    ensures { λ r. ⌜ DraftPut (now (src .entry)) after m d (pieceOf (now (src .entry)) end d) (now (list .entry)) (now (pool .entry)) r (now (list .exit)) (now (pool .exit)) ⌝ }
 {
     write_value(src, end, d, scratch, pool, m.bytes as usize);
-    put_record(src, m, d, list);
+    put_record(src, after, m, d, list);
     past_draft(m, d)
 }
 
@@ -160,21 +162,30 @@ fn draft_at(ds: Drafts, i: u32) -> Draft
     ds.second
 }
 
-// The draft with this number, as `put_draft` puts it.
+// The draft with this number, as `put_draft` puts it: each bears the end of the work, not its own.
 fn put_nth(
     src: &[u8],
     end: bool,
     m: Mark,
-    ds: Drafts,
+    w: Work,
     i: u32,
     scratch: &[u8],
     list: &mut [u32],
     pool: &mut [u8],
 ) -> Mark
-    requires { ⌜ DraftFits (now src) end (now scratch) m (draftAt ds i) (length (now list)) (length (now pool)) ⌝ }
-    ensures { λ r. ⌜ DraftPut (now (src .entry)) m (draftAt ds i) (pieceOf (now (src .entry)) end (draftAt ds i)) (now (list .entry)) (now (pool .entry)) r (now (list .exit)) (now (pool .exit)) ⌝ }
+    requires { ⌜ DraftFits (now src) end (now scratch) (w .after) m (draftAt (w .drafts) i) (length (now list)) (length (now pool)) ⌝ }
+    ensures { λ r. ⌜ DraftPut (now (src .entry)) (w .after) m (draftAt (w .drafts) i) (pieceOf (now (src .entry)) end (draftAt (w .drafts) i)) (now (list .entry)) (now (pool .entry)) r (now (list .exit)) (now (pool .exit)) ⌝ }
 {
-    put_draft(src, end, m, draft_at(ds, i), scratch, list, pool)
+    put_draft(
+        src,
+        end,
+        w.after,
+        m,
+        draft_at(w.drafts, i),
+        scratch,
+        list,
+        pool,
+    )
 }
 
 // How many value bytes drafts have.
@@ -191,23 +202,23 @@ fn total(ds: Drafts) -> usize
     ds.first.len + ds.second.len
 }
 
-// The values and records of drafts, one after another, from the marks on.
+// The values and records of a work's drafts, one after another, from the marks on.
 fn put_drafts(
     src: &[u8],
     end: bool,
     m: Mark,
-    ds: Drafts,
+    w: Work,
     scratch: &[u8],
     list: &mut [u32],
     pool: &mut [u8],
 )
-    requires { ⌜ DraftsFit (now src) end (now scratch) m ds (length (now list)) (length (now pool)) ⌝ }
-    ensures { λ r. ⌜ DraftsPut (now (src .entry)) m (piecesOf (now (src .entry)) end ds) (now (list .entry)) (now (pool .entry)) (now (list .exit)) (now (pool .exit)) ⌝ }
+    requires { ⌜ DraftsFit (now src) end (now scratch) m w (length (now list)) (length (now pool)) ⌝ }
+    ensures { λ r. ⌜ DraftsPut (now (src .entry)) (w .after) m (piecesOf (now (src .entry)) end (w .drafts)) (now (list .entry)) (now (pool .entry)) (now (list .exit)) (now (pool .exit)) ⌝ }
 {
     let mut at = m;
     let mut i = 0;
-    while i < ds.count {
-        at = put_nth(src, end, at, ds, i, scratch, list, pool);
+    while i < w.drafts.count {
+        at = put_nth(src, end, at, w, i, scratch, list, pool);
         i += 1;
     }
 }
@@ -274,7 +285,7 @@ fn write_work(
     if number != 0 {
         return stay(number, m.span, m);
     }
-    put_drafts(src, end, m, drafts, scratch, list, pool);
+    put_drafts(src, end, m, w, scratch, list, pool);
     advance(src, m, w, count, len)
 }
 

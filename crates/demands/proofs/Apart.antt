@@ -60,7 +60,7 @@ tail-same x y xs ys e = ap (λ l. drop 1 l) e
 module _ (src : List ℕ) (p : Span) where
   pieces-apart : (n after n′ after′ : ℕ) (pieces pieces′ : List Piece) → p .position ≤ n → after ≤ length src
       → AllInside n after pieces → p .position ≤ n′ → after′ ≤ length src → AllInside n′ after′ pieces′
-      → takens src p pieces ≡ takens src p pieces′ → pieces ≡ pieces′
+      → takens src after p pieces ≡ takens src after′ p pieces′ → pieces ≡ pieces′
   unfolding takens
   pieces-apart n after n′ after′ [] [] low high i low′ high′ i′ e = refl
   pieces-apart n after n′ after′ [] (x ∷ xs) low high i low′ high′ i′ e = absurd (nil-apart _ _ e)

@@ -115,7 +115,7 @@ module _ (src : List ℕ) (s : Session) (l q : List ℕ) (h : Sound src (length 
       → StaysSound src l q (written src s l q pieces after change finished)
   written-sound pieces after change finished low high c r e =
       let fits = room-facts (length l) (length q) (s .tokens) (s .bytes) (length pieces) (length (values pieces)) e in
-      let size = put-length src pieces (markOf s) (record { list = l; pool = q }) (fits .0) (fits .1) in
+      let size = put-length src after pieces (markOf s) (record { list = l; pool = q }) (fits .0) (fits .1) in
       record {
         sound =
             record {

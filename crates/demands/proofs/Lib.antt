@@ -13,3 +13,5 @@ pub mod Room
 pub mod Taken
 pub mod Emptied
 pub mod Apart
+pub mod Edges
+pub mod EdgeLists

@@ -35,8 +35,8 @@ module _ (part rest : List ℕ) where
 
     put-append : (n after : ℕ) (pieces : List Piece) → p .position ≤ n → after ≤ length part → AllInside n after pieces
         → (tokens bytes : ℕ) (t : Tables)
-        → put (part ++ rest) (record { span = p; tokens = tokens; bytes = bytes }) t pieces
-        ≡ put part (record { span = p; tokens = tokens; bytes = bytes }) t pieces
+        → put (part ++ rest) after (record { span = p; tokens = tokens; bytes = bytes }) t pieces
+        ≡ put part after (record { span = p; tokens = tokens; bytes = bytes }) t pieces
     unfolding put
     put-append n after [] low k i tokens bytes t = refl
     put-append n after (piece ∷ more) low k i tokens bytes t =

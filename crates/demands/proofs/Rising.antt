@@ -30,7 +30,8 @@ use Rattle.outcome.specs.Outcomes.{Piece, Outcome, values}
 use Rattle.outcome.specs.Insides.{AllInside, Inside}
 use Rattle.outcome.specs.Steps.{callOutcome}
 use Rattle.outcome.proofs.StepWays.{call-inside}
-use Rattle.commit.specs.Records.{spanAt, records}
+use Rattle.commit.specs.declared.Mark.{Mark}
+use Rattle.commit.specs.Records.{spanAt, pastPiece, records}
 use Rattle.commit.proofs.Putting.{room-facts, put-laid, put-length}
 use Rattle.lexer.specs.Turns.{After, markOf, settled}
 use Rattle.lexer.specs.Calls.{called, stepped}
@@ -92,15 +93,15 @@ module _ (src : List ℕ) (p : Span) where
       passed-position p (take (place - p .position) (drop (p .position) src))
       ∙ omega (arith, length-drop (p .position) src, length-take-le (place - p .position) (drop (p .position) src) (omega (arith, length-drop (p .position) src)))
 
-  records-positions : (start n after : ℕ) (pieces : List Piece) (more : List ℕ) → p .position ≤ n → after ≤ length src
-      → AllInside n after pieces
-      → positions (length pieces) (records src p start pieces ++ more) ≡ places pieces
-  unfolding positions records places
-  records-positions start n after [] more h k i = refl
-  records-positions start n after (piece ∷ pieces) more h k i =
-      rw (span-place (piece .place) (omega (arith, i .0 .low)) (omega (arith, i .0 .high)))
-      (ap (λ (l : List ℕ). piece .place ∷ l)
-      (records-positions (start + length (piece .value)) (piece .place) after pieces more (omega (arith, i .0 .low)) k (i .1)))
+records-positions : (src : List ℕ) (m : Mark) (n after : ℕ) (pieces : List Piece) (more : List ℕ)
+    → m .span .position ≤ n → after ≤ length src → AllInside n after pieces
+    → positions (length pieces) (records src after m pieces ++ more) ≡ places pieces
+unfolding positions records places
+records-positions src m n after [] more h k i = refl
+records-positions src m n after (piece ∷ pieces) more h k i =
+    rw (span-place src (m .span) (piece .place) (omega (arith, i .0 .low)) (omega (arith, i .0 .high)))
+    (ap (λ (l : List ℕ). piece .place ∷ l)
+    (records-positions src (pastPiece m piece) (piece .place) after pieces more (omega (arith, i .0 .low)) k (i .1)))
 
 places-rising : (n after : ℕ) (pieces : List Piece) → n ≤ after → AllInside n after pieces → Rising n (places pieces) after
 unfolding places
@@ -135,14 +136,15 @@ module _ (src : List ℕ) (s : Session) (l q : List ℕ) (h : Sound src (length 
       → OrderedAfter (written src s l q pieces after change finished)
   written-rising pieces after change finished i e =
       let fits = room-facts (length l) (length q) (s .tokens) (s .bytes) (length pieces) (length (values pieces)) e in
-      let put-so = put-laid src pieces (markOf s) (record { list = l; pool = q }) (fits .0) (fits .1) .0 in
-      let size = put-length src pieces (markOf s) (record { list = l; pool = q }) (fits .0) (fits .1) .0 in
+      let put-so = put-laid src after pieces (markOf s) (record { list = l; pool = q }) (fits .0) (fits .1) .0 in
+      let size = put-length src after pieces (markOf s) (record { list = l; pool = q }) (fits .0) (fits .1) .0 in
       let m = s .tokens * 8 in
-      let rs = records src (spanOf s) (s .bytes) pieces in
+      let rs = records src after (markOf s) pieces in
       let before : positions (s .tokens) (laid l m rs) ≡ positions (s .tokens) l =
       positions-same (s .tokens) (laid l m rs) l (laid-front l m rs (omega (arith, fits .0))) in
       let behind : drop m (laid l m rs) ≡ rs ++ drop (m + length rs) l = laid-back l m rs (omega (arith, fits .0)) in
-      let new = records-positions src (spanOf s) (s .bytes) (s .position) after pieces (drop (m + length rs) l) (omega arith) (i .inside) (i .all) in
+      let new = records-positions src (markOf s) (s .position) after pieces (drop (m + length rs) l) (omega arith)
+      (i .inside) (i .all) in
       let all : positions (s .tokens + length pieces) (laid l m rs) ≡ positions (s .tokens) l ++ places pieces =
       rw (positions-sum (s .tokens) (length pieces) (laid l m rs), before, behind, new) in
       let there = span-place src (spanOf s) after (i .order) (i .inside) in

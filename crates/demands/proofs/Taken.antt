@@ -29,7 +29,8 @@ use Rattle.outcome.specs.declared.Change.{Change}
 use Rattle.outcome.specs.Outcomes.{Piece, Outcome, values}
 use Rattle.outcome.specs.Steps.{callOutcome}
 use Rattle.outcome.proofs.Ways.{among-every}
-use Rattle.commit.specs.Records.{spanAt, records, answerOf, Reached, reached}
+use Rattle.commit.specs.declared.Mark.{Mark}
+use Rattle.commit.specs.Records.{spanAt, pastPiece, records, answerOf, Reached, reached}
 use Rattle.commit.proofs.Putting.{room-facts, records-length, put-laid}
 use Rattle.lexer.specs.Turns.{After, framesAfter, depthAfter, changed, markOf, reaching, settled}
 use Rattle.lexer.specs.Calls.{called}
@@ -49,19 +50,20 @@ takenIn-sum (suc m) k list pool =
     drop-drop (m * 8) 8 list ∙ ap (λ (i : ℕ). drop i list) (eight-on m) in
     rw (suc-add m k, takenIn-sum m k (drop 8 list) pool, there)
 
--- the values stand in the pool from `start` on
-records-taken : (src : List ℕ) (p : Span) (start : ℕ) (pieces : List Piece) (more pool rest : List ℕ)
-    → drop start pool ≡ values pieces ++ rest
-    → takenIn (length pieces) (records src p start pieces ++ more) pool ≡ takens src p pieces
+-- the values stand in the pool from the mark on
+records-taken : (src : List ℕ) (after : ℕ) (m : Mark) (pieces : List Piece) (more pool rest : List ℕ)
+    → drop (m .bytes) pool ≡ values pieces ++ rest
+    → takenIn (length pieces) (records src after m pieces ++ more) pool ≡ takens src after (m .span) pieces
 unfolding takenIn records takens values
-records-taken src p start [] more pool rest e = refl
-records-taken src p start (piece ∷ pieces) more pool rest e =
+records-taken src after m [] more pool rest e = refl
+records-taken src after m (piece ∷ pieces) more pool rest e =
     let v = piece .value in
+    let start = m .bytes in
     let here : drop start pool ≡ v ++ (values pieces ++ rest) = e ∙ append-assoc v (values pieces) rest in
     let value : take (length v) (drop start pool) ≡ v = ap (take (length v)) here ∙ take-append-seam v _ in
     let later : drop (start + length v) pool ≡ values pieces ++ rest =
     sym (drop-drop (length v) start pool) ∙ ap (drop (length v)) here ∙ drop-append-seam v _ in
-    rw (value, records-taken src p (start + length v) pieces more pool rest later)
+    rw (value, records-taken src after (pastPiece m piece) pieces more pool rest later)
 
 -- what was written from i on up to n stands so in every list that is the same up to n
 laid-again : (l l′ : List ℕ) (i n : ℕ) (vs : List ℕ) → i ≤ length l → n ≡ i + length vs
@@ -104,7 +106,7 @@ wrote-none s l q answer =
     }
 
 -- lists that are the same up to n are so up to m
-take-less : (m n : ℕ) (l l′ : List ℕ) → m ≤ n → take n l ≡ take n l′ → take m l ≡ take m l′
+pub take-less : (m n : ℕ) (l l′ : List ℕ) → m ≤ n → take n l ≡ take n l′ → take m l ≡ take m l′
 take-less m n l l′ h e = sym (take-take m n l h) ∙ ap (take m) e ∙ take-take m n l′ h
 
 pub wrote-both : {s : Session} {l q : List ℕ} {a b : After} {ts us : List Taken} → Wrote s l q a ts
@@ -129,14 +131,14 @@ wrote-both {s} {l} {q} {a} {b} {ts} {us} v w =
 
 module _ (src : List ℕ) (s : Session) (l q : List ℕ) where
   wrote-pieces : (pieces : List Piece) (after : ℕ) (change : Change) (finished : Bool) → room src s l q pieces ≡ 0
-      → Wrote s l q (written src s l q pieces after change finished) (takens src (spanOf s) pieces)
+      → Wrote s l q (written src s l q pieces after change finished) (takens src after (spanOf s) pieces)
   wrote-pieces pieces after change finished e =
       let fits = room-facts (length l) (length q) (s .tokens) (s .bytes) (length pieces) (length (values pieces)) e in
-      let put-so = put-laid src pieces (markOf s) (record { list = l; pool = q }) (fits .0) (fits .1) in
+      let put-so = put-laid src after pieces (markOf s) (record { list = l; pool = q }) (fits .0) (fits .1) in
       let m = s .tokens * 8 in
-      let rs = records src (spanOf s) (s .bytes) pieces in
+      let rs = records src after (markOf s) pieces in
       let vs = values pieces in
-      let size = records-length src (spanOf s) (s .bytes) pieces in
+      let size = records-length src after (markOf s) pieces in
       let count : s .tokens + length pieces - s .tokens ≡ length pieces = omega arith in
       record {
         tokens = omega arith;
@@ -148,7 +150,7 @@ module _ (src : List ℕ) (s : Session) (l q : List ℕ) where
             (omega (arith, size)) (rw (put-so .0) at x) in
             let pool = laid-again q q′ (s .bytes) (s .bytes + length vs) vs (omega (arith, fits .1)) refl
             (rw (put-so .1) at y) in
-            rw (count, list) (records-taken src (spanOf s) (s .bytes) pieces _ q′ _ pool);
+            rw (count, list) (records-taken src after (markOf s) pieces _ q′ _ pool);
       }
 
 -- ---- what an outcome gives
@@ -156,7 +158,7 @@ module _ (src : List ℕ) (s : Session) (l q : List ℕ) where
 -- from s, whose marks are 0
 abbrev pub handedOf : List ℕ → Session → Outcome → Handed
 handedOf src s (Outcome.Told pieces after change finished) = record {
-  tokens = takens src (spanOf s) pieces;
+  tokens = takens src after (spanOf s) pieces;
   answer = answerOf finished;
   session = changed s (spanAt src (spanOf s) after) 0 0 change;
 }
@@ -227,6 +229,6 @@ module _ (call : Call) (src : List ℕ) (end : Bool) (s : Session) (l q : List �
   pub call-taken : (pieces : List Piece) (after : ℕ) (change : Change) (finished : Bool)
       → callOutcome call src end s ≡ Outcome.Told pieces after change finished
       → Answered (called call src end s l q .turn .answer)
-      → newIn s (called call src end s l q) ≡ takens src (spanOf s) pieces
+      → newIn s (called call src end s l q) ≡ takens src after (spanOf s) pieces
   call-taken pieces after change finished e r =
       answered-taken r ∙ ap (λ (o : Outcome). handedOf src (emptied s) o .tokens) e

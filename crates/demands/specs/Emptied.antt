@@ -1,7 +1,7 @@
 -- A host takes what a call has written and empties its tables before the next: both marks are 0 again, and what stood in list and pool
 -- may stand there still (README.md, "How a host calls it").
---   Taken        a token as a host takes it: kind, detail, place and value bytes
---   takens       the tokens that an outcome's pieces come to, from a cursor on
+--   Taken        a token as a host takes it: kind, detail, place, value bytes, and the end of its step
+--   takens       the tokens that the pieces of a step come to, from a cursor on; it ends at `after`
 --   takenIn      the tokens of so many records, with their values in a pool
 --   newIn        the tokens that a call, or a walk, has written: from the mark before it up to the mark after it
 --   emptied      a session with both marks 0; two sessions with the same one differ in nothing but their marks
@@ -32,20 +32,28 @@ pub record Taken : Type 0 where
   pub detail : ℕ
   pub span : Span
   pub value : List ℕ
+  pub end : ℕ
 
-unfoldable pub takens : List ℕ → Span → List Piece → List Taken
-takens src p [] = []
-takens src p (piece ∷ more) =
-    record { kind = piece .kind; detail = piece .detail; span = spanAt src p (piece .place); value = piece .value }
-    ∷ takens src p more
+unfoldable pub takens : List ℕ → ℕ → Span → List Piece → List Taken
+takens src after p [] = []
+takens src after p (piece ∷ more) =
+    record {
+      kind = piece .kind;
+      detail = piece .detail;
+      span = spanAt src p (piece .place);
+      value = piece .value;
+      end = after;
+    }
+    ∷ takens src after p more
 
--- the first record of a list: kind, detail, line, column, position, value start and length
+-- the first record of a list: kind, detail, line, column, position, value start and length, end
 abbrev pub firstTaken : List ℕ → List ℕ → Taken
 firstTaken list pool = record {
   kind = getD list 0 0;
   detail = getD list 1 0;
   span = record { line = getD list 2 0; column = getD list 3 0; position = getD list 4 0 };
   value = take (getD list 6 0) (drop (getD list 5 0) pool);
+  end = getD list 7 0;
 }
 
 unfoldable pub takenIn : ℕ → List ℕ → List ℕ → List Taken

@@ -4,3 +4,4 @@ pub mod Records
 pub mod Refusals
 pub mod Emptied
 pub mod Filled
+pub mod Edges

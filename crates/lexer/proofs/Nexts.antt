@@ -28,7 +28,7 @@ module _ (src : List ℕ) (s : Session) (l q : List ℕ) where
       reaching s
       (record {
         next = advances src (markOf s) pieces after change finished;
-        tables = put src (markOf s) (record { list = l; pool = q }) pieces;
+        tables = put src after (markOf s) (record { list = l; pool = q }) pieces;
       })
 
   -- with room, without it, refused, and to be continued

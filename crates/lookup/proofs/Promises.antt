@@ -1,7 +1,7 @@
 -- What document 02 says of a look-up, P3. Assumes nothing.
 --   find-looks       at most 17 looks
---   find-agrees      lists of one count that agree on the records looked at get the same looks and answer, whatever
---                    their lengths
+--   find-agrees      lists of one count that agree on the records looked at get the same looks and record, whatever
+--                    their lengths; where its end agrees too, the same answer
 --   find-seen        the record that is found was looked at and is at or before the byte; only records that count are
 --                    looked at
 --   find-rising      on a list whose positions never fall it is the full walk's answer
@@ -39,7 +39,7 @@ use Rattle.demands.proofs.Filled.{steps-filled, walk-filled, fed-filled, filled
 use Rattle.demands.proofs.Filled.{steps-size, walk-size, fed-size}
 use Rattle.lookup.specs.declared.Found.{Found}
 use Rattle.lookup.specs.declared.Lookup.{Lookup}
-use Rattle.lookup.specs.Lookups.{Search, positionIn, searched, findRefusal, told, lookedUp}
+use Rattle.lookup.specs.Lookups.{Search, positionIn, endIn, searched, findRefusal, told, lookedUp}
 use Rattle.lookup.specs.FullWalks.{isSeen, NeverFalls, AsFullWalk, IsReached}
 use Rattle.lookup.proofs.Searches.{searched-most, searched-inside, searched-seen, searched-reached}
 use Rattle.lookup.proofs.Searches.{searched-agrees}
@@ -52,7 +52,7 @@ module _ (list : List ℕ) (count byte : ℕ) (passes : findRefusal (length list
   abbrev the : Search
   the = searched (positionIn list) byte 0 count
 
-  pub find-here : lookedUp list count byte ≡ told the
+  pub find-here : lookedUp list count byte ≡ told list the
   unfolding lookedUp
   find-here = rw passes
 
@@ -72,7 +72,8 @@ module _ (list : List ℕ) (count byte : ℕ) (passes : findRefusal (length list
   pub find-rising : NeverFalls (positionIn list) count → AsFullWalk list count byte
   find-rising rising =
       find-here
-      ∙ ap (λ (f : Found). Lookup.Told f (length (the .trail))) (rising-found (positionIn list) byte count rising)
+      ∙ ap (λ (f : Found). Lookup.Told f (length (the .trail)) (endIn list f))
+      (rising-found (positionIn list) byte count rising)
 
   module _ (list′ : List ℕ) (passes′ : findRefusal (length list′) count ≡ 0)
       (agree : every (λ i. eqb (positionIn list i) (positionIn list′ i)) (the .trail) ≡ true) where
@@ -80,9 +81,16 @@ module _ (list : List ℕ) (count byte : ℕ) (passes : findRefusal (length list
     same-search = searched-agrees (positionIn list) (positionIn list′) byte 0 count agree
 
     pub find-agrees : (the .trail ≡ searched (positionIn list′) byte 0 count .trail)
-        × (lookedUp list count byte ≡ lookedUp list′ count byte)
+        × (the .found ≡ searched (positionIn list′) byte 0 count .found)
+        × (endIn list (the .found) ≡ endIn list′ (the .found) → lookedUp list count byte ≡ lookedUp list′ count byte)
     unfolding lookedUp
-    find-agrees = (ap (λ (s : Search). s .trail) same-search, rw (passes, passes′) (ap told same-search))
+    find-agrees = (
+      ap (λ (s : Search). s .trail) same-search,
+      ap (λ (s : Search). s .found) same-search,
+      λ e.
+          rw (passes, passes′)
+          (ap (Lookup.Told (the .found) (length (the .trail))) e ∙ ap (told list′) same-search),
+    )
 
 -- ---- the refusals
 

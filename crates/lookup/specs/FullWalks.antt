@@ -17,7 +17,7 @@ use Rattle.byte.specs.Words.{if_then_else_}
 use Rattle.byte.specs.Refusals.{isAmong}
 use Rattle.lookup.specs.declared.Found.{Found}
 use Rattle.lookup.specs.declared.Lookup.{Lookup}
-use Rattle.lookup.specs.Lookups.{positionIn, searched, lookedUp}
+use Rattle.lookup.specs.Lookups.{positionIn, endIn, searched, lookedUp}
 
 unfoldable pub lastBefore : (ℕ → ℕ) → ℕ → ℕ → Found
 lastBefore position byte zero = Found.Nothing
@@ -34,8 +34,9 @@ NeverFalls position count = (i j : ℕ) → i ≤ j → j < count → position i
 
 abbrev pub AsFullWalk : List ℕ → ℕ → ℕ → Type 0
 AsFullWalk list count byte =
+    let last = lastBefore (positionIn list) byte count in
     lookedUp list count byte
-    ≡ Lookup.Told (lastBefore (positionIn list) byte count) (length (searched (positionIn list) byte 0 count .trail))
+    ≡ Lookup.Told last (length (searched (positionIn list) byte 0 count .trail)) (endIn list last)
 
 unfoldable pub isSeen : Found → List ℕ → Bool
 isSeen Found.Nothing trail = true

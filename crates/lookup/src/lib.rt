@@ -1,4 +1,5 @@
-// Which token is under the finger: the last record of a list whose position is at or before a byte (document 02, P3).
+// Which token is under the finger: the last record of a list whose position is at or before a byte (document 02, P3),
+// and where the step ended that wrote it (P4).
 // The list is only read, and at most 17 of its records are looked at. Any list, count and byte may come.
 use source::Span;
 ghost use mathlib.Core.Path.{_≡_};
@@ -6,7 +7,7 @@ ghost use Prim.Native.Nat.{_*_, _≤_};
 ghost use lib.ListN.{length};
 ghost use Rattle.source.specs.Cursor.{origin};
 ghost use Rattle.lookup.specs.declared.Lookup.{Lookup};
-ghost use Rattle.lookup.specs.Lookups.{positionIn, recordBefore, searched, told, findRefusal, lookedUp};
+ghost use Rattle.lookup.specs.Lookups.{positionIn, endIn, recordBefore, searched, told, findRefusal, lookedUp};
 
 // What was found.
 pub enum Found {
@@ -18,8 +19,8 @@ pub enum Found {
 
 // What a look-up comes to.
 pub enum Lookup {
-    // What was found, and how many records were looked at.
-    Told { found: Found, looks: u32 },
+    // What was found, how many records were looked at, and where the step ended that wrote it: 0 for nothing.
+    Told { found: Found, looks: u32, end: u32 },
     // Nothing was looked at.
     Refused { number: u32, span: Span },
 }
@@ -59,6 +60,17 @@ fn record_before(count: u32) -> Found
     Found::Record { number: count - 1 }
 }
 
+// Where the step ended that wrote the last of so many records: its eighth number, or 0 for none.
+fn end_before(list: &[u32], count: u32) -> u32
+    requires { ⌜ (count ≤ 65537) × (count * 8 ≤ length (now list)) ⌝ }
+    ensures { λ r. ⌜ r ≡ endIn (now (list .entry)) (recordBefore count) ⌝ }
+{
+    if 0 < count {
+        return list[count as usize * 8 - 1];
+    }
+    0
+}
+
 // A number as one that a place can be compared with.
 fn wide(n: u32) -> usize
     ensures { λ r. ⌜ r ≡ n ⌝ }
@@ -70,7 +82,7 @@ fn wide(n: u32) -> usize
 // `high` on for after it.
 fn search(list: &[u32], count: u32, at: usize) -> Lookup
     requires { ⌜ (count ≤ 65537) × (count * 8 ≤ length (now list)) ⌝ }
-    ensures { λ r. ⌜ r ≡ told (searched (positionIn (now (list .entry))) at 0 count) ⌝ }
+    ensures { λ r. ⌜ r ≡ told (now (list .entry)) (searched (positionIn (now (list .entry))) at 0 count) ⌝ }
 {
     let mut low = 0;
     let mut high = count;
@@ -87,6 +99,7 @@ fn search(list: &[u32], count: u32, at: usize) -> Lookup
     Lookup::Told {
         found: record_before(low),
         looks,
+        end: end_before(list, low),
     }
 }
 

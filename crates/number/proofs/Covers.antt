@@ -135,7 +135,7 @@ point-longest whole rest w =
     rw (unnamed _ (point-base true whole rest w), after, all) refl
 
 -- an exponent's letter ends digits and names no base
-mark-facts : (e : ℕ) (rest : List ℕ) → isExponent e ≡ true
+pub mark-facts : (e : ℕ) (rest : List ℕ) → isExponent e ≡ true
     → (leadingMore isDigit (e ∷ rest) ≡ []) × (baseOf (48 ∷ e ∷ rest) ≡ Base.Decimal) × (e is "." ≡ false)
 unfolding isExponent leadingMore isDigit baseOf baseNamed
 mark-facts e rest m =

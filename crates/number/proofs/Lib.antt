@@ -9,3 +9,4 @@ pub mod Texts
 pub mod Covers
 pub mod Longest
 pub mod Grammar
+pub mod Cuts

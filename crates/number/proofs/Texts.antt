@@ -167,7 +167,7 @@ prefixedText-begins xs named =
     let two : length (take 2 xs) ≡ 2 = length-take-le 2 xs (named-two 0 xs (baseOf xs) refl named) in
     begins-append xs (take 2 xs) _ (rw two refl) (rw two (leading-begins (isOne (baseOf xs)) (drop 2 xs)))
 
-readText-begins : (xs : List ℕ) → Begins xs (readText xs)
+pub readText-begins : (xs : List ℕ) → Begins xs (readText xs)
 unfolding readText following
 readText-begins xs =
     choice (Begins xs) (isNamed (baseOf xs)) _ _ (λ named. prefixedText-begins xs named)

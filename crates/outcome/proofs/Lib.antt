@@ -6,6 +6,9 @@ pub mod Comments
 pub mod Ways
 pub mod ScriptWays
 pub mod StepWays
+pub mod Others
+pub mod Alone
+pub mod Written
 pub mod Demand
 pub mod TextDemand
 pub mod LookingDemand

@@ -150,7 +150,7 @@ Limited depth (Outcome.Refused number place) = Unit {0}
 Limited depth Outcome.Wait = Unit {0}
 
 -- what holds of the refusal and, where there is room, of the outcome, holds with the limit
-limited-either : (P : Outcome → Type 0) (depth n : ℕ) (o : Outcome) → P (Outcome.Refused stackFull n)
+pub limited-either : (P : Outcome → Type 0) (depth n : ℕ) (o : Outcome) → P (Outcome.Refused stackFull n)
     → (Limited depth o → P o)
     → P (limited depth n o)
 unfolding limited

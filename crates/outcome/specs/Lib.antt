@@ -6,5 +6,6 @@ pub mod Lookings
 pub mod Comments
 pub mod Scripts
 pub mod Steps
+pub mod Written
 pub mod Insides
 pub mod Manual

@@ -20,11 +20,11 @@ use Rattle.lexer.specs.Turns.{After}
 use Rattle.demands.specs.Filled.{Filled, empty, call, lend, skip, push, pop, FilledAfter}
 use Rattle.demands.proofs.Filled.{calledOn-filled}
 use Rattle.layout.specs.Sessions.{numbersOf, frameIn, sessionIn, choicesIn}
-use Rattle.lookup.specs.Lookups.{positionIn, searched}
+use Rattle.lookup.specs.Lookups.{positionIn, endIn, searched}
 use Rattle.lookup.specs.FullWalks.{lastBefore}
 use Rattle.lookup.proofs.Promises.{filled-found}
 use Rattle.puretakoi.specs.Calls.{areLong, Crossed, WalkCalled, Answered, Turns, Walked, Begun}
-use Rattle.puretakoi.specs.Finds.{foundNumbers, findsNumber, foundAfter, Finds}
+use Rattle.puretakoi.specs.Finds.{foundEnded, findsNumber, foundAfter, Finds}
 use Rattle.puretakoi.proofs.Chain.{Stands, turns-stands, reading-stands, skip-crosses, push-crosses, pop-crosses}
 
 -- a host may set the token mark to 0: what the list held is forgotten
@@ -123,14 +123,16 @@ module _ (src session answer : List ℕ) (r : ℕ) (session′ answer′ list po
 
 -- ---- what is found
 
--- the number is 0, and the three numbers tell what a full walk finds among the first so many records, and the looks
+-- the number is 0, and the numbers tell what a full walk finds among the first so many records, the looks, and the end
+-- of what it finds
 pub finds-filled : (session list pool : List ℕ) (count byte : ℕ) (found : List ℕ) (r : ℕ) (found′ : List ℕ)
     → Filled (sessionIn session) list pool → length list / 8 ≤ 65537 → count ≤ getD session 4 0 → 3 ≤ length found
     → Finds list count byte found r found′
     → (r ≡ 0)
     × (found′
     ≡ laid found 0
-    (foundNumbers (lastBefore (positionIn list) byte count) (length (searched (positionIn list) byte 0 count .trail))))
+    (foundEnded (length found) (lastBefore (positionIn list) byte count)
+    (length (searched (positionIn list) byte 0 count .trail)) (endIn list (lastBefore (positionIn list) byte count))))
 unfolding findsNumber foundAfter
 finds-filled session list pool count byte found r found′ f fit few room c =
     let walk = filled-found (sessionIn session) list pool count byte f fit few in

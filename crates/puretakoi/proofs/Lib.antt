@@ -7,3 +7,4 @@ pub mod Numbers
 pub mod WalkSteps
 pub mod Finds
 pub mod Filled
+pub mod Edges

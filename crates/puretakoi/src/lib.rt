@@ -277,6 +277,7 @@ fn put_found(slice: &mut [u32], found: Found, looks: u32)
 }
 
 // Which record is under the finger: the last of the first `count` whose position is at or before the byte `at`.
+// A fourth number of `found`, where there is one, tells where the step ended that wrote it.
 #[no_mangle]
 pub extern "C" fn puretakoi_find(list: &[u32], count: usize, at: usize, found: &mut [u32]) -> u32
     ensures { λ r. ⌜ Finds (now (list .entry)) count at (now (found .entry)) r (now (found .exit)) ⌝ }
@@ -289,8 +290,12 @@ pub extern "C" fn puretakoi_find(list: &[u32], count: usize, at: usize, found: &
         Lookup::Told {
             found: record,
             looks,
+            end,
         } => {
             put_found(found, record, looks);
+            if 4 <= found.len() {
+                found[3] = end;
+            }
             0
         }
         Lookup::Refused { number, span: _ } => number,

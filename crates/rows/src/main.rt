@@ -1,4 +1,5 @@
-// Reads a script from standard input and prints its tokens, a row each: kind, line, column, position, detail, value length.
+// Reads a script from standard input and prints its tokens, a row each: kind, line, column, position, detail, value
+// length, and where the step ended that wrote it.
 // Then `end` and the position, or `refused`, the number and its line, column and position.
 use libc::STDERR_FILENO;
 use libc::STDIN_FILENO;
@@ -27,7 +28,8 @@ fn print_row(list: &[u32], place: u32) {
     print_number(list[at + 3], b' ');
     print_number(list[at + 4], b' ');
     print_number(list[at + 1], b' ');
-    print_number(list[at + 6], b'\n');
+    print_number(list[at + 6], b' ');
+    print_number(list[at + 7], b'\n');
 }
 
 // The rows of the first `count` tokens.

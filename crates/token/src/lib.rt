@@ -54,7 +54,7 @@ pub const LITERAL_FLOAT: u32 = 20;
 // Of document 02, P2.
 pub const COMMENT: u32 = 21;
 
-// A token whose value stands in the pool: `len` bytes from `start` on.
+// A token whose value stands in the pool: `len` bytes from `start` on. The step that wrote it ended at `end`.
 pub struct Token {
     pub kind: u32,
     // The indentation amount of an EndDocString, else 0.
@@ -62,6 +62,7 @@ pub struct Token {
     pub span: Span,
     pub start: u32,
     pub len: u32,
+    pub end: u32,
 }
 
 // Whether `count` records and `len` value bytes fit from the marks on: 7, 8, or 0 where they do. To be asked before any write.
@@ -90,7 +91,7 @@ pub fn put_token(list: &mut [u32], place: usize, t: Token)
     list[at + 4] = t.span.position;
     list[at + 5] = t.start;
     list[at + 6] = t.len;
-    list[at + 7] = 0;
+    list[at + 7] = t.end;
 }
 
 // Eight bytes: all are read before any is written, so that both are one move.

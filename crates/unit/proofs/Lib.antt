@@ -8,5 +8,6 @@ pub mod Demand
 pub mod Manual
 pub mod Differences
 pub mod Literals
+pub mod Cuts
 pub mod Variables
 pub mod Heredocs

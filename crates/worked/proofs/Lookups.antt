@@ -8,22 +8,67 @@ use mathlib.Core.List.{List, [], _∷_}
 use mathlib.Core.Bool.{true}
 use native.Mathlib.Omega.{arith}
 use lib.Dec.{eqb}
-use lib.ListN.{length}
+use lib.ListN.{length, getD}
 use lib.Pow.{pow-pos}
 use borrow.Author.Tests.{lt-leb}
 use Rattle.byte.specs.Words.{every}
 use Rattle.lookup.specs.declared.Found.{Found}
 use Rattle.lookup.specs.declared.Lookup.{Lookup}
-use Rattle.lookup.specs.Lookups.{recordBefore, look, searchIn, searched, positionIn, findRefusal, told, lookedUp}
+use Rattle.lookup.specs.Lookups.{recordBefore, look, searchIn, searched, positionIn, endIn, findRefusal, told}
+use Rattle.lookup.specs.Lookups.{lookedUp}
 use Rattle.lookup.specs.FullWalks.{lastBefore}
 use Rattle.lookup.proofs.Searches.{searched-on, searched-agrees}
 use Rattle.lookup.proofs.Promises.{find-here}
 use Rattle.worked.specs.Lookups.{recordsAt, lookups, AllLook, long}
 
 pub lookups-hold : AllLook lookups
-unfolding recordsAt lookups recordBefore searchIn findRefusal lookedUp
-lookups-hold =
-    ((refl, refl), ((refl, refl), ((refl, refl), ((refl, refl), ((refl, refl), ((refl, refl), ((refl, refl), ((refl, refl), ((refl, refl), ((refl, refl), ((refl, refl), ((refl, refl), ((refl, refl), ((refl, refl), ((refl, refl), tt)))))))))))))))
+unfolding recordsAt lookups recordBefore endIn searchIn findRefusal lookedUp
+lookups-hold = (
+  (refl, refl),
+  (
+    (refl, refl),
+    (
+      (refl, refl),
+      (
+        (refl, refl),
+        (
+          (refl, refl),
+          (
+            (refl, refl),
+            (
+              (refl, refl),
+              (
+                (refl, refl),
+                (
+                  (refl, refl),
+                  (
+                    (refl, refl),
+                    (
+                      (refl, refl),
+                      (
+                        (refl, refl),
+                        (
+                          (refl, refl),
+                          (
+                            (refl, refl),
+                            (
+                              (refl, refl),
+                              tt,
+                            ),
+                          ),
+                        ),
+                      ),
+                    ),
+                  ),
+                ),
+              ),
+            ),
+          ),
+        ),
+      ),
+    ),
+  ),
+)
 
 -- each record at the position of its own number
 abbrev own : ℕ → ℕ
@@ -51,11 +96,11 @@ long-holds = down 65537 (omega arith) ∙ ap (look 32768) (halving 15)
 -- so in every such list
 pub long-list : (list : List ℕ) → findRefusal (length list) 65537 ≡ 0
     → every (λ i. eqb i (positionIn list i)) (long .trail) ≡ true
-    → lookedUp list 65537 0 ≡ Lookup.Told (Found.Record 0) 17
-unfolding long
+    → lookedUp list 65537 0 ≡ Lookup.Told (Found.Record 0) 17 (getD list 7 0)
+unfolding long endIn
 long-list list passes agree =
     let same = searched-agrees own (positionIn list) 0 0 65537 (rw long-holds agree) in
-    find-here list 65537 0 passes ∙ ap told (sym same ∙ long-holds)
+    find-here list 65537 0 passes ∙ ap (told list) (sym same ∙ long-holds)
 
 pub falling : lastBefore (positionIn (recordsAt (1 ∷ 9 ∷ 3 ∷ []))) 3 3 ≡ Found.Record 2
 unfolding recordsAt lastBefore

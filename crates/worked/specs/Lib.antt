@@ -1,2 +1,3 @@
 pub mod Sheets
 pub mod Lookups
+pub mod Ends

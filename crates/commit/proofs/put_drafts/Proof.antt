@@ -6,10 +6,10 @@ use Rattle.commit.proofs.put_drafts.Statement.{statement}
 use Rattle.commit.proofs.put_drafts.Tie as tie
 
 abbrev Inv : tie.InvT-loop
-Inv src end ds scratch list₀ pool₀ at₀ i₀ list pool at i = Putting src end scratch at₀ ds list₀ pool₀ at i list pool
+Inv src end w scratch list₀ pool₀ at₀ i₀ list pool at i = Putting src end scratch at₀ w list₀ pool₀ at i list pool
 
 abbrev left : tie.MeasureT-loop
-left src end ds scratch list₀ pool₀ at₀ i₀ list pool at i = ds .count - i
+left src end w scratch list₀ pool₀ at₀ i₀ list pool at i = w .drafts .count - i
 
 pub put-drafts-spec : {M : Type 1} → statement M
 put-drafts-spec =

@@ -7,4 +7,5 @@ use Rattle.commit.proofs.token_of.Tie as tie
 pub token-of-spec : {M : Type 1} → statement M
 token-of-spec =
     tie.close
-    (tie.spec (λ c. search needs) (λ c κs. search needs) (λ c. search needs) (λ c. search draftToken-made))
+    (tie.spec (λ c. search needs) (λ c κs. search needs) (λ c. search needs) (λ c. search needs)
+    (λ c. search draftToken-made))

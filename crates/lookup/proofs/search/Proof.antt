@@ -18,4 +18,4 @@ search-spec =
     (tie.spec Inv left (λ c. search searching) (λ c. search needs) (λ c. search needs) (λ c. search needs)
     (λ c. search needs) (λ c. search needs) (λ c. search needs) (λ c. search needs) (λ c κs. search needs)
     (λ c. search needs) (λ c. search searching) (λ c. search needs) (λ c. search needs) (λ c. search searching)
-    (λ c κs. search needs) (λ c. search searching))
+    (λ c κs. search needs) (λ c κs. search (searching, needs)) (λ c. search searching))

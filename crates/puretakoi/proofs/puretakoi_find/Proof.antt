@@ -8,4 +8,5 @@ pub puretakoi-find-spec : {M : Type 1} → statement M
 puretakoi-find-spec =
     tie.close
     (tie.spec (λ c. search finds) (λ c κs. search needs) (λ c. search needs) (λ c κs. search needs) (λ c. search needs)
-    (λ c. search needs) (λ c. search finds) (λ c. search finds))
+    (λ c. search needs) (λ c. search needs) (λ c. search finds) (λ c. search needs) (λ c. search finds)
+    (λ c. search finds))
