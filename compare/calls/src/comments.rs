@@ -102,6 +102,6 @@ fn passes_one_byte(told: &Told) -> bool {
 fn is_comment(told: &Told, value: &[u8]) -> bool {
     let len = value.len() as u32;
     told.written().map_or(false, |(session, records, values)| {
-        session[POSITION] == len && records == [[COMMENT, 0, 1, 1, 0, 0, len, 0]] && values == value
+        session[POSITION] == len && records == [[COMMENT, 0, 1, 1, 0, 0, len, len]] && values == value
     })
 }

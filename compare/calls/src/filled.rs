@@ -4,17 +4,20 @@
 use std::cmp::Ordering;
 
 use cases::call::{list_pattern, pool_pattern, ANSWER, BYTES, POSITION, RECORD, SESSION, SLOTS, TOKENS};
+use cases::call::{RECORD_END, RECORD_POSITION};
 use cases::hex::shown;
-use cases::lookup::FOUND;
+use cases::lookup::{FOUND, FOUND_ENDED};
 use cases::random::Random;
 use cases::{Call, Function, Lookup};
 use host::Slices;
-use telling::find::never_falls;
+use telling::find::{ends_never_fall, never_falls};
 use telling::session::{MOST_BYTES, MOST_TOKENS};
 
-use crate::finds::Finds;
+use crate::ends::bear;
+use crate::finds::{Finds, ENDS};
 use crate::forged::{self, forged, new_call, wild, FRAMES, FUNCTIONS};
 use crate::hold::Held;
+use crate::lists::any_found;
 use crate::sources::{self, script};
 
 /// A list has at most so many places, and a pool so many bytes.
@@ -59,6 +62,7 @@ const FILLERS: [&[u8]; 2] = [b"7 ", b"\"$a\""];
 const LONG_BYTES: usize = 50;
 
 /// A session and its tables, which calls fill, and the source of the next.
+#[derive(Clone)]
 struct Filling {
     call: Call,
     session: Vec<u32>,
@@ -69,18 +73,20 @@ struct Filling {
 pub fn filled_lists(held: &mut Held, count: usize, random: &mut Random) -> Result<(), String> {
     let mut finds = Finds::new(held);
     for _ in 0..count {
-        let filling = filled(&mut finds, random);
+        let filling = filled(&mut finds, random)?;
         look_everywhere(&mut finds, &filling, random)?;
     }
     FILLERS.iter().try_for_each(|filler| long_list(&mut finds, filler, random))?;
     finds.must_meet(&BETWEEN)?;
     finds.must_meet(&[LISTS, POOLS].concat())?;
     (0..FRAMES).try_for_each(|frame| finds.must_meet(&[&format!("push of frame {} done", frame)]))?;
-    finds.must_meet(&["refusal 10", "refusal 12", "none", "a record", "equal positions", "a session that is not fresh"])
+    finds.must_meet(&["refusal 10", "refusal 12", "none", "a record", "a session that is not fresh"])?;
+    finds.must_meet(&["equal positions", "equal ends", "a walk of more ends than one"])?;
+    finds.must_meet(&ENDS)
 }
 
 /// A list filled from a token mark of 0, with refusals, skip, push and pop between.
-fn filled(finds: &mut Finds, random: &mut Random) -> Filling {
+fn filled(finds: &mut Finds, random: &mut Random) -> Result<Filling, String> {
     let mut filling = begun(finds, random);
     let mut script = [filling.call.source.clone(), script(random)].concat();
     for _ in 0..1 + random.below(MOST_CALLS) {
@@ -88,13 +94,15 @@ fn filled(finds: &mut Finds, random: &mut Random) -> Filling {
         filling.call.function = FUNCTIONS[random.below(FUNCTIONS.len())];
         filling.call.arguments = arguments(&filling.call, random);
         let lent = filling.lend_tables(random);
+        let was = filling.clone();
         let number = filling.go_on(lent, finds);
+        filling.hold_ends(&was, finds)?;
         finds.meet(&came_to(&filling.call, number));
         if !GOES_ON.contains(&number) {
             script = other_from(&script, filling.session[POSITION] as usize, random);
         }
     }
-    filling
+    Ok(filling)
 }
 
 /// What the call's function takes beside slices; a skip's count is small, and may pass the end.
@@ -172,21 +180,80 @@ impl Filling {
     /// Makes the call; its refusal or 0. Tables that held something and now hold more are met.
     fn go_on(&mut self, lent: [&str; 2], finds: &mut Finds) -> u32 {
         let before = self.marks();
-        let slices = Slices {
-            source: &self.call.source,
-            session: &mut self.session,
-            list: &mut self.list,
-            pool: &mut self.pool,
-            answer: &mut [0; ANSWER],
-        };
-        let number = host::make_on(&self.call, slices);
-        finds.made();
+        let number = self.make(finds)[1];
         for (table, mark) in self.marks().into_iter().enumerate() {
             if before[table] > 0 && mark > before[table] {
                 finds.meet(lent[table]);
             }
         }
         number
+    }
+
+    /// Makes the call; the first numbers of its answer: done or not, and the refusal or 0.
+    fn make(&mut self, finds: &mut Finds) -> [u32; 2] {
+        let mut answer = [0; ANSWER];
+        let slices = Slices {
+            source: &self.call.source,
+            session: &mut self.session,
+            list: &mut self.list,
+            pool: &mut self.pool,
+            answer: &mut answer,
+        };
+        let number = host::make_on(&self.call, slices);
+        finds.made();
+        [answer[0], number]
+    }
+
+    /// Holds the records before the mark to what they were, and each one after it to where its step or reading ended.
+    /// The steps of a walk are made one by one on the tables as they were, and must fill them alike.
+    fn hold_ends(&self, was: &Filling, finds: &mut Finds) -> Result<(), String> {
+        let filled = was.marks()[0] * RECORD;
+        let new = &self.list[filled..self.marks()[0] * RECORD];
+        let is_kept = self.list[..filled] == was.list[..filled];
+        let is_right = match self.call.function {
+            Function::Walk => was.clone().steps_to(self, finds),
+            _ => bear(new, self.session[POSITION]),
+        };
+        let ends: Vec<u32> = new.chunks_exact(RECORD).map(|record| record[RECORD_END]).collect();
+        if ends.windows(2).any(|pair| pair[0] != pair[1]) {
+            finds.meet("a walk of more ends than one");
+        }
+        if is_kept && is_right {
+            return Ok(());
+        }
+        let wrong = if is_kept { "does not end where its steps do" } else { "changes an earlier record" };
+        let (call, position) = (was.as_line(), self.session[POSITION]);
+        Err(format!(
+            "  call  {}\n  on a filled list {}: ends {:?}, and the session is at {}",
+            call, wrong, ends, position
+        ))
+    }
+
+    /// The call that is made next, as a line.
+    fn as_line(&self) -> String {
+        let (list, pool) = (self.list.len(), self.pool.len());
+        let call = Call { session: self.session.clone(), list, pool, answer: ANSWER, ..self.call.clone() };
+        let mut line = Vec::new();
+        call.write(&mut line);
+        String::from_utf8_lossy(&line).into_owned()
+    }
+
+    /// Makes the steps of a walk one by one; whether each record bears the session's position after its step, and all
+    /// comes to what the walk came to.
+    fn steps_to(&mut self, walked: &Filling, finds: &mut Finds) -> bool {
+        let most = std::mem::take(&mut self.call.arguments)[0];
+        self.call.function = Function::Step;
+        for _ in 0..most {
+            let filled = self.marks()[0] * RECORD;
+            let answer = self.make(finds);
+            if !bear(&self.list[filled..self.marks()[0] * RECORD], self.session[POSITION]) {
+                return false;
+            }
+            if answer != [0, 0] {
+                break;
+            }
+        }
+        (&self.session, &self.list, &self.pool) == (&walked.session, &walked.list, &walked.pool)
     }
 
     /// How many records and value bytes are in the tables.
@@ -209,14 +276,17 @@ fn look_everywhere(finds: &mut Finds, filling: &Filling, random: &mut Random) ->
     let [mark, _] = filling.marks();
     let length = (mark + random.below(3)) * RECORD + random.below(RECORD);
     let list = filling.list[..length.min(filling.list.len())].to_vec();
-    let mut lookup = Lookup { list, count: mark, byte: 0, found: FOUND };
-    if !never_falls(&lookup) {
-        let session = &filling.session[..SLOTS];
-        let (positions, source) = (lookup.positions(), shown(&filling.call.source));
-        return Err(format!("  a filled list falls: {:?}\n  session {:?}, source {}", positions, session, source));
+    let mut lookup = Lookup { list, count: mark, byte: 0, found: any_found(random) };
+    if !never_falls(&lookup) || !ends_never_fall(&lookup) {
+        let (session, source) = (&filling.session[..SLOTS], shown(&filling.call.source));
+        let places = (lookup.given(RECORD_POSITION), lookup.given(RECORD_END));
+        return Err(format!("  a filled list falls: {:?}\n  session {:?}, source {}", places, session, source));
     }
     if (1..mark).any(|record| lookup.position(record - 1) == lookup.position(record)) {
         finds.meet("equal positions");
+    }
+    if (1..mark).any(|record| lookup.end(record - 1) == lookup.end(record)) {
+        finds.meet("equal ends");
     }
     let end = filling.call.source.len().max(filling.session[POSITION] as usize);
     for byte in (0..=end + 2).chain([usize::MAX]) {
@@ -243,7 +313,7 @@ fn long_list(finds: &mut Finds, filler: &[u8], random: &mut Random) -> Result<()
     if count < MOST_BYTES / 3 {
         return Err(format!("  a script of {} has {} records, which are too few", shown(filler), count));
     }
-    let mut lookup = Lookup { list, count, byte: 0, found: FOUND };
+    let mut lookup = Lookup { list, count, byte: 0, found: FOUND_ENDED };
     for _ in 0..LONG_BYTES {
         lookup.byte = random.below(MOST_BYTES + 2);
         finds.hold(&lookup)?;

@@ -11,6 +11,9 @@ use crate::smaller::smaller_lookup;
 /// Document 02's bound on the looks.
 pub const MOST_LOOKS: u32 = 17;
 
+/// What must be met beside records and none, where a fourth number is lent.
+pub const ENDS: [&str; 2] = ["the end of a record", "the end of none"];
+
 /// Makes look-ups and counts what they came to.
 pub struct Finds<'a> {
     held: &'a mut Held,
@@ -49,6 +52,9 @@ impl<'a> Finds<'a> {
             Found::Nothing { .. } => self.meet("none"),
             Found::Record { .. } => self.meet("a record"),
         }
+        if found.end().is_some() {
+            self.meet(ENDS[usize::from(found.record().is_none())]);
+        }
         found
     }
 
@@ -75,13 +81,20 @@ impl<'a> Finds<'a> {
 }
 
 /// Whether the library gives another thing than is told, or what is told is not what it must be: too many looks, or on
-/// a list whose positions never fall another record than a look at every one finds.
+/// a list whose positions never fall another record or end than a look at every one finds.
 fn is_wrong(lookup: &Lookup) -> bool {
     let told = found(lookup);
     let is_told_wrong = told
         .looks()
-        .map_or(false, |looks| looks > MOST_LOOKS || (never_falls(lookup) && told.record() != by_every_record(lookup)));
+        .map_or(false, |looks| looks > MOST_LOOKS || (never_falls(lookup) && !is_by_every_record(lookup, told)));
     is_told_wrong || host::look_up(lookup).as_ref() != Ok(&told.seen(lookup))
+}
+
+/// Whether a look at every record finds the same, with its end where that is told.
+fn is_by_every_record(lookup: &Lookup, told: Found) -> bool {
+    let record = by_every_record(lookup);
+    let end = record.map_or(0, |record| lookup.end(record));
+    told.record() == record && told.end().map_or(true, |told| told == end)
 }
 
 /// The look-up as a line, with all numbers of its list where the line does not say them, and both answers.

@@ -4,6 +4,7 @@ use cases::call::{DEPTH, SLOT, SLOTS};
 use cases::{Call, Function, Told};
 use telling::Teller;
 
+use crate::ends;
 use crate::smaller::smaller;
 
 /// Frames that a step may find on top, and the three readings.
@@ -37,6 +38,10 @@ impl Held {
         if host::make(call).as_ref() != Ok(&told.given(call)) {
             let small = smaller(call, |call| self.fails(call));
             return Err(self.report(&small));
+        }
+        if !ends::are_right(call, &told) {
+            let report = self.report(call);
+            return Err(format!("{}\n  is told and given alike, but an end is not where its step ended", report));
         }
         self.count_told(call, &told);
         Ok(told)

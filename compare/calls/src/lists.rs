@@ -1,14 +1,14 @@
 //! Look-ups in lists that no steps filled: every short list, random ones, two that agree on the trail, and the largest.
 
-use cases::call::RECORD;
-use cases::lookup::{FOUND, RECORD_POSITION};
+use cases::call::{RECORD, RECORD_END, RECORD_POSITION};
+use cases::lookup::{FOUND, FOUND_ENDED};
 use cases::pieces::every_text;
 use cases::random::Random;
 use cases::{Found, Lookup};
-use telling::find::trail;
+use telling::find::{found, trail};
 use telling::session::MOST_TOKENS;
 
-use crate::finds::{report, Finds, MOST_LOOKS};
+use crate::finds::{report, Finds, ENDS, MOST_LOOKS};
 use crate::forged::wild;
 use crate::hold::Held;
 
@@ -24,13 +24,15 @@ pub fn forged_lists(held: &mut Held, count: usize, random: &mut Random) -> Resul
     let mut finds = Finds::new(held);
     every_text(&SHORT_POSITIONS, MOST_SHORT, |positions| short_list(&mut finds, positions, random))?;
     (0..count).try_for_each(|_| finds.hold(&any_lookup(random)).map(drop))?;
-    finds.must_meet(&["refusal 10", "refusal 12", "none", "a record"])
+    finds.must_meet(&["refusal 10", "refusal 12", "none", "a record"])?;
+    finds.must_meet(&ENDS)
 }
 
 /// A list with each byte up to one past its positions, and each count up to one above its places.
 fn short_list(finds: &mut Finds, positions: &[u8], random: &mut Random) -> Result<(), String> {
     let positions: Vec<u32> = positions.iter().copied().map(u32::from).collect();
     let mut lookup = Lookup::new(positions.len() * RECORD + random.below(RECORD), &positions, 0, 0);
+    lookup.found = any_found(random);
     for byte in 0..=SHORT_POSITIONS.len() {
         lookup.byte = byte;
         for count in 0..=positions.len() + 1 {
@@ -50,8 +52,13 @@ pub fn any_lookup(random: &mut Random) -> Lookup {
         0 => PAST_32_BITS + random.below(places + 1),
         pick => counts[pick % counts.len()],
     };
-    lookup.found = if random.below(8) == 0 { random.below(7) } else { FOUND };
+    lookup.found = if random.below(8) == 0 { random.below(7) } else { any_found(random) };
     lookup
+}
+
+/// The length of a slice for what is found: without the end, with it, or longer.
+pub fn any_found(random: &mut Random) -> usize {
+    [FOUND, FOUND, FOUND_ENDED, FOUND_ENDED, FOUND_ENDED + random.below(4)][random.below(5)]
 }
 
 /// A look-up of all records of a random list: rising, falling, of one position, or of any.
@@ -74,7 +81,19 @@ fn any_list(random: &mut Random) -> Lookup {
         })
         .collect();
     let byte = any_byte(&positions, random);
-    Lookup::new(places * RECORD + random.below(RECORD), &positions, places, byte)
+    let ends = if random.below(2) == 0 { Vec::new() } else { any_ends(&positions, random) };
+    Lookup::new(places * RECORD + random.below(RECORD), &positions, places, byte).with(RECORD_END, &ends)
+}
+
+/// Eighth numbers: none stated, any, or beside the positions.
+fn any_ends(positions: &[u32], random: &mut Random) -> Vec<u32> {
+    let way = random.below(3);
+    let end = |position: &u32| match way {
+        0 => 0,
+        1 => wild(random),
+        _ => position.saturating_add(random.below(4) as u32),
+    };
+    positions.iter().map(end).collect()
 }
 
 /// A byte beside a position, or at a bound of its numbers.
@@ -88,13 +107,14 @@ fn any_byte(positions: &[u32], random: &mut Random) -> usize {
     }
 }
 
-/// Two lists of one count, of any lengths, that agree in the positions on the trail and in nothing else: the same
-/// answer and looks.
+/// Two lists of one count, of any lengths, that agree in the positions on the trail and in nothing else, but for the
+/// end of the record that is found where it is told: the same answer and looks.
 pub fn agreeing_lists(held: &mut Held, count: usize, random: &mut Random) -> Result<(), String> {
     let mut finds = Finds::new(held);
     for _ in 0..count {
         let mut one = any_list(random);
         one.count = random.below(one.places() + 1);
+        one.found = any_found(random);
         let mut other = Lookup { list: Vec::new(), ..one.clone() };
         let length = one.count * RECORD + random.below(4 * RECORD);
         let numbers = (0..length).map(|place| one.list.get(place).copied().unwrap_or(0) ^ (1 | random.number() as u32));
@@ -103,11 +123,15 @@ pub fn agreeing_lists(held: &mut Held, count: usize, random: &mut Random) -> Res
             let place = record * RECORD + RECORD_POSITION;
             other.list[place] = one.list[place];
         }
+        if let (Some(record), Some(end)) = (found(&one).record(), found(&one).end()) {
+            other.list[record * RECORD + RECORD_END] = end;
+        }
         if finds.hold(&one)? != finds.hold(&other)? {
             return Err(format!("  {:?} and\n  {:?} agree on the trail and get different answers", one, other));
         }
     }
-    finds.must_meet(&["none", "a record"])
+    finds.must_meet(&["none", "a record"])?;
+    finds.must_meet(&ENDS)
 }
 
 /// Lists of 65,535 to 65,538 places.
@@ -122,7 +146,8 @@ pub fn largest_lists(held: &mut Held, count: usize, random: &mut Random) -> Resu
     for (places, most) in [(MOST_TOKENS - 2, 16), (MOST_TOKENS - 1, MOST_LOOKS), (MOST_TOKENS, MOST_LOOKS)] {
         every_byte(&mut finds, places, most)?;
     }
-    finds.must_meet(&["refusal 10", "refusal 11", "refusal 12", "none", "a record"])
+    finds.must_meet(&["refusal 10", "refusal 11", "refusal 12", "none", "a record"])?;
+    finds.must_meet(&ENDS)
 }
 
 /// Look-ups that up to three refusals fit, those with the most refusals first.
@@ -149,7 +174,8 @@ fn none_found(places: usize, count: usize, found: usize) -> Found {
     } else if count > places {
         Found::Refused(12)
     } else {
-        Found::Nothing { looks: usize::BITS - count.leading_zeros() }
+        let end = (found >= FOUND_ENDED).then(|| 0);
+        Found::Nothing { looks: usize::BITS - count.leading_zeros(), end }
     }
 }
 
@@ -162,6 +188,7 @@ fn large_list(finds: &mut Finds, places: usize, random: &mut Random) -> Result<(
     }
     let length = places * RECORD + random.below(RECORD);
     let mut lookup = Lookup::new(length, &positions, 0, any_byte(&positions, random));
+    lookup.found = any_found(random);
     for count in [places - 1, places, places + 1, random.below(places)] {
         lookup.count = count;
         finds.hold(&lookup)?;
@@ -170,16 +197,17 @@ fn large_list(finds: &mut Finds, places: usize, random: &mut Random) -> Result<(
 }
 
 /// All records of a list with the positions 1, 2, 3 and so on, at every byte up to one past them: the byte's own
-/// record, and the most looks are so many.
+/// record and its end, and the most looks are so many.
 fn every_byte(finds: &mut Finds, places: usize, most: u32) -> Result<(), String> {
     let positions: Vec<u32> = (1..=places as u32).collect();
-    let mut lookup = Lookup::new(places * RECORD, &positions, places, 0);
+    let mut lookup = Lookup { found: FOUND_ENDED, ..Lookup::new(places * RECORD, &positions, places, 0) };
     let mut seen = 0;
     for byte in 0..=places + 1 {
-        let mut found = [9; FOUND];
+        let mut found = [9; FOUND_ENDED];
         let number = host::find(&lookup.list, places, byte, &mut found);
         let record = byte.min(places) as u32;
-        let is_right = number == 0 && found[..2] == [record.min(1), record.saturating_sub(1)];
+        let end = if byte == 0 { 0 } else { lookup.end(record as usize - 1) };
+        let is_right = number == 0 && found[..2] == [record.min(1), record.saturating_sub(1)] && found[3] == end;
         lookup.byte = byte;
         finds.made();
         seen = seen.max(found[2]);

@@ -2,6 +2,7 @@
 
 mod comments;
 mod cuts;
+mod ends;
 mod filled;
 mod finds;
 mod forged;
@@ -27,7 +28,7 @@ use hold::Held;
 type Tries = fn(held: &mut Held, count: usize, random: &mut Random) -> Result<(), String>;
 
 /// The groups: a name, the tries, and how many of them in few, in short and in full.
-const GROUPS: [(&str, Tries, [usize; 3]); 24] = [
+const GROUPS: [(&str, Tries, [usize; 3]); 26] = [
     ("fresh sessions", forged::fresh_sessions, [200, 2_000, 20_000]),
     ("forged sessions", forged::forged_sessions, [40_000, 400_000, 6_000_000]),
     ("every short text", shorts::short_texts, [1, 2, 3]),
@@ -44,9 +45,11 @@ const GROUPS: [(&str, Tries, [usize; 3]); 24] = [
     ("scripts at the limits", limits::scripts, [1, 3, 30]),
     ("labels of 0 to 66 bytes", limits::labels, [1, 1, 1]),
     ("long walks in one call", leaps::long_walks, [1, 2, 20]),
+    ("literals read alone", ends::literals_alone, [2_000, 20_000, 400_000]),
     ("peek_identifier", plain::peek_identifier, [2_000, 20_000, 400_000]),
     ("past", plain::past, [2_000, 20_000, 400_000]),
     ("record files", plain::record_files, [1_000, 10_000, 200_000]),
+    ("record files there and back", plain::there_and_back, [200, 2_000, 40_000]),
     ("look-ups in the largest lists", lists::largest_lists, [2, 10, 100]),
     ("look-ups in forged lists", lists::forged_lists, [8_000, 80_000, 1_000_000]),
     ("look-ups in filled lists", filled::filled_lists, [300, 3_000, 60_000]),

@@ -1,6 +1,6 @@
 //! Calls without a session, at random: `peek_identifier`, `past`, and the record file both ways.
 
-use cases::call::{list_pattern, pool_pattern, RECORD};
+use cases::call::{list_pattern, pool_pattern, RECORD, RECORD_END};
 use cases::hex::shown;
 use cases::random::Random;
 use cases::Span;
@@ -155,6 +155,51 @@ fn to_list(held: &mut Held, is_large: bool, random: &mut Random) -> Result<(), S
     held.made();
     let given = host::file_to_list(&file, &mut got);
     same("file_to_list", (file.len(), room), (number, told), (given, got))
+}
+
+/// Lists to a file and back, as a new writer leaves them and as an old one did, whose ends are 0: the file is the same
+/// bytes both times, and the list the same numbers.
+pub fn there_and_back(held: &mut Held, count: usize, random: &mut Random) -> Result<(), String> {
+    for index in 0..count {
+        let records = if index % 500 == 0 { MOST_TOKENS } else { random.below(6) };
+        let mut list: Vec<u32> = (0..records * RECORD).map(|_| random.number() as u32).collect();
+        let way = random.below(3);
+        for record in list.chunks_exact_mut(RECORD) {
+            record[RECORD_END] = [0, wild(random), record[RECORD_END]][way];
+        }
+        let written = written(held, &list)?;
+        let read = read(held, &written)?;
+        if read != list || self::written(held, &read)? != written {
+            let place = (0..list.len()).find(|place| read[*place] != list[*place]);
+            return Err(format!("  a list of {} records comes back as another, from {:?} on", records, place));
+        }
+        let is_old =
+            |file: &[u8]| file.chunks_exact(FILE_RECORD).all(|record| record[RECORD_END * NUMBER..] == [0; NUMBER]);
+        if way == 0 && !is_old(&written) {
+            return Err(format!("  a list of {} records without ends gets some in the file", records));
+        }
+    }
+    Ok(())
+}
+
+/// The file of a list, in just enough room.
+fn written(held: &mut Held, list: &[u32]) -> Result<Vec<u8>, String> {
+    let mut file: Vec<u8> = (0..list.len() * NUMBER).map(pool_pattern).collect();
+    held.made();
+    match host::list_to_file(list, &mut file) {
+        0 => Ok(file),
+        number => Err(format!("  a list of {} numbers is refused with {}", list.len(), number)),
+    }
+}
+
+/// The list of a file, in just enough room.
+fn read(held: &mut Held, file: &[u8]) -> Result<Vec<u32>, String> {
+    let mut list: Vec<u32> = (0..file.len() / NUMBER).map(list_pattern).collect();
+    held.made();
+    match host::file_to_list(file, &mut list) {
+        0 => Ok(list),
+        number => Err(format!("  a file of {} bytes is refused with {}", file.len(), number)),
+    }
 }
 
 /// Tells lengths, both refusals and the first place that differs.

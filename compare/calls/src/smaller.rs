@@ -1,7 +1,8 @@
 //! A failing call made smaller: fewer bytes, frames and places, and plainer numbers, while it still fails.
 
-use cases::call::{ANSWER, BYTES, COLUMN, DEPTH, LINE, POSITION, RECORD, SESSION, SLOT, SLOTS, TOKENS};
-use cases::lookup::{FOUND, RECORD_POSITION};
+use cases::call::{list_pattern, ANSWER, BYTES, COLUMN, DEPTH, LINE, POSITION, SESSION, SLOT, SLOTS, TOKENS};
+use cases::call::{RECORD, RECORD_END, RECORD_POSITION};
+use cases::lookup::{FOUND, FOUND_ENDED};
 use cases::{Call, Lookup};
 use telling::session::MOST_FRAMES;
 
@@ -190,15 +191,24 @@ fn without_records(lookup: &Lookup, start: usize, width: usize) -> Lookup {
 }
 
 /// What makes a look-up plainer.
-const LOOKUP_CHANGES: [fn(&mut Lookup); 7] = [
+const LOOKUP_CHANGES: [fn(&mut Lookup); 9] = [
     |lookup| *lookup = lookup.patterned(),
+    drop_ends,
     |lookup| lookup.list.truncate(lookup.places() * RECORD),
+    |lookup| lookup.found = lookup.found.min(FOUND_ENDED),
     |lookup| lookup.found = lookup.found.min(FOUND),
     |lookup| lookup.count = lookup.count.min(lookup.places() + 1),
     |lookup| lookup.count /= 2,
     |lookup| lookup.count = one_less(lookup.count),
     |lookup| lookup.byte = one_less(lookup.byte),
 ];
+
+/// The pattern at each end.
+fn drop_ends(lookup: &mut Lookup) {
+    for place in (RECORD_END..lookup.list.len()).step_by(RECORD) {
+        lookup.list[place] = list_pattern(place);
+    }
+}
 
 /// A small number made smaller by one.
 fn one_less(number: usize) -> usize {

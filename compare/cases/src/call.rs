@@ -12,6 +12,11 @@ pub const RECORD: usize = 8;
 pub const SLOT: usize = 3;
 pub const SLOTS: usize = 7;
 
+/// Where a record has its position, how many bytes its value has, and where the step or reading ended that wrote it.
+pub const RECORD_POSITION: usize = 4;
+pub const RECORD_LENGTH: usize = 6;
+pub const RECORD_END: usize = 7;
+
 /// Where a session has its first numbers.
 pub const POSITION: usize = 0;
 pub const LINE: usize = 1;

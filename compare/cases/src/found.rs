@@ -1,5 +1,6 @@
 //! What a look-up gives: the number that comes back, and what the slice for what is found holds then. As text one of
-//! `record NUMBER LOOKS`, `none LOOKS`, `refused NUMBER`.
+//! `record NUMBER LOOKS`, `none LOOKS`, `refused NUMBER`; the first two with one word more, the end, where the slice
+//! has a place for it.
 
 use crate::call::answer_pattern;
 use crate::given::changes;
@@ -12,18 +13,21 @@ pub struct Seen {
     pub found: Vec<u32>,
 }
 
-/// What a look-up comes to, told; with the look-up it says all of what is seen.
+/// What a look-up comes to, told; with the look-up it says all of what is seen. The end is there where the slice has a
+/// place for it.
 #[derive(Clone, Copy, Debug, PartialEq, Eq)]
 pub enum Found {
     /// Nothing is written.
     Refused(u32),
     Nothing {
         looks: u32,
+        end: Option<u32>,
     },
     /// A record's number, from 0.
     Record {
         number: u32,
         looks: u32,
+        end: Option<u32>,
     },
 }
 
@@ -49,19 +53,24 @@ impl Found {
     /// All that is seen of a look-up that comes to this.
     pub fn seen(self, lookup: &Lookup) -> Seen {
         let mut seen = Seen::before(lookup);
-        match self {
-            Found::Refused(number) => seen.number = number,
-            Found::Nothing { looks } => seen.found[..FOUND].copy_from_slice(&[0, 0, looks]),
-            Found::Record { number, looks } => seen.found[..FOUND].copy_from_slice(&[1, number, looks]),
+        let (numbers, end) = match self {
+            Found::Refused(number) => return Seen { number, ..seen },
+            Found::Nothing { looks, end } => ([0, 0, looks], end),
+            Found::Record { number, looks, end } => ([1, number, looks], end),
+        };
+        seen.found[..FOUND].copy_from_slice(&numbers);
+        if let Some(end) = end {
+            seen.found[FOUND] = end;
         }
         seen
     }
 
     /// What a look-up came to, if what is seen has one of the forms.
     pub fn of(lookup: &Lookup, seen: &Seen) -> Option<Found> {
+        let end = seen.found.get(FOUND).copied();
         let found = match (seen.number, &seen.found[..]) {
-            (0, [0, _, looks, ..]) => Found::Nothing { looks: *looks },
-            (0, [1, number, looks, ..]) => Found::Record { number: *number, looks: *looks },
+            (0, [0, _, looks, ..]) => Found::Nothing { looks: *looks, end },
+            (0, [1, number, looks, ..]) => Found::Record { number: *number, looks: *looks, end },
             (0, _) => return None,
             (number, _) => Found::Refused(number),
         };
@@ -80,7 +89,15 @@ impl Found {
     pub fn looks(self) -> Option<u32> {
         match self {
             Found::Refused(_) => None,
-            Found::Nothing { looks } | Found::Record { looks, .. } => Some(looks),
+            Found::Nothing { looks, .. } | Found::Record { looks, .. } => Some(looks),
+        }
+    }
+
+    /// The end, where it was written.
+    pub fn end(self) -> Option<u32> {
+        match self {
+            Found::Refused(_) => None,
+            Found::Nothing { end, .. } | Found::Record { end, .. } => end,
         }
     }
 
@@ -88,9 +105,12 @@ impl Found {
     pub fn write(self, out: &mut Vec<u8>) {
         let text = match self {
             Found::Refused(number) => format!("refused {}", number),
-            Found::Nothing { looks } => format!("none {}", looks),
-            Found::Record { number, looks } => format!("record {} {}", number, looks),
+            Found::Nothing { looks, .. } => format!("none {}", looks),
+            Found::Record { number, looks, .. } => format!("record {} {}", number, looks),
         };
         out.extend_from_slice(text.as_bytes());
+        if let Some(end) = self.end() {
+            out.extend_from_slice(format!(" {}", end).as_bytes());
+        }
     }
 }

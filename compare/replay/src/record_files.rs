@@ -2,11 +2,12 @@
 
 use host::{file_to_list, list_to_file};
 
-/// Two records, and the file that they are: 32 bytes a record, little-endian.
-const LIST: [u32; 16] = [5, 0, 1, 2, 3, 0, 258, 0, 12, 2, 65_537, 16_909_060, u32::MAX, 258, 1, 0];
+/// Two records, and the file that they are: 32 bytes a record, little-endian. The first is an older writer's, which
+/// states no end.
+const LIST: [u32; 16] = [5, 0, 1, 2, 3, 0, 258, 0, 12, 2, 65_537, 16_909_060, u32::MAX, 258, 1, 65_536];
 const FILE: [u8; 64] = [
     5, 0, 0, 0, 0, 0, 0, 0, 1, 0, 0, 0, 2, 0, 0, 0, 3, 0, 0, 0, 0, 0, 0, 0, 2, 1, 0, 0, 0, 0, 0, 0, //
-    12, 0, 0, 0, 2, 0, 0, 0, 1, 0, 1, 0, 4, 3, 2, 1, 255, 255, 255, 255, 2, 1, 0, 0, 1, 0, 0, 0, 0, 0, 0, 0,
+    12, 0, 0, 0, 2, 0, 0, 0, 1, 0, 1, 0, 4, 3, 2, 1, 255, 255, 255, 255, 2, 1, 0, 0, 1, 0, 0, 0, 0, 0, 1, 0,
 ];
 
 /// What stands in the room before a call.

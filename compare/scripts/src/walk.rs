@@ -29,12 +29,13 @@ impl Walk {
                 false
             }
             Outcome::Done { tokens, cursor, change, label: (start, len), finished } => {
-                for token in tokens {
-                    let place = row(counted_on(from, token.span));
-                    self.rows.push(format!("{} {} {} {}", token.kind, place, token.detail, token.value.len()));
-                }
                 self.session.change(change, (from.position + start, len));
                 self.session.span = counted_on(from, cursor);
+                let end = self.session.span.position;
+                for token in tokens {
+                    let place = row(counted_on(from, token.span));
+                    self.rows.push(format!("{} {} {} {} {}", token.kind, place, token.detail, token.value.len(), end));
+                }
                 if finished {
                     self.rows.push(format!("end {}", self.session.span.position));
                 }

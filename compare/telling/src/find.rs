@@ -1,8 +1,9 @@
 //! Which record is under the finger (document 02, P3), told twice: by the trail of the fixed search, which holds on any
-//! list, and by a look at every record, which must come to the same on a list whose positions never fall.
+//! list, and by a look at every record, which must come to the same on a list whose positions never fall. Where four
+//! numbers are lent, the end of the record comes with it (P4).
 
-use cases::call::RECORD;
-use cases::lookup::{FOUND, RECORD_POSITION};
+use cases::call::{RECORD, RECORD_POSITION};
+use cases::lookup::{FOUND, FOUND_ENDED};
 use cases::{Found, Lookup};
 
 use crate::session::MOST_TOKENS;
@@ -21,9 +22,10 @@ pub fn found(lookup: &Lookup) -> Found {
     }
     let trail = trail(lookup);
     let looks = trail.len() as u32;
+    let told = |end: u32| (lookup.found >= FOUND_ENDED).then(|| end);
     match trail.iter().rfind(|record| is_reached(lookup.position(**record), lookup.byte)) {
-        None => Found::Nothing { looks },
-        Some(record) => Found::Record { number: *record as u32, looks },
+        None => Found::Nothing { looks, end: told(0) },
+        Some(record) => Found::Record { number: *record as u32, looks, end: told(lookup.end(*record)) },
     }
 }
 
@@ -62,4 +64,9 @@ pub fn by_every_record(lookup: &Lookup) -> Option<usize> {
 /// Whether no position of the first `count` records is below the one before it; the count is within the places.
 pub fn never_falls(lookup: &Lookup) -> bool {
     (1..lookup.count).all(|record| lookup.position(record - 1) <= lookup.position(record))
+}
+
+/// Whether no end of the first `count` records is below the one before it; the count is within the places.
+pub fn ends_never_fall(lookup: &Lookup) -> bool {
+    (1..lookup.count).all(|record| lookup.end(record - 1) <= lookup.end(record))
 }

@@ -92,10 +92,11 @@ impl Teller {
                 if session.bytes + size > call.pool {
                     return refused(8, session.span);
                 }
-                let (records, values) = laid_out(&tokens, &session);
+                let cursor = counted_on(session.span, cursor);
+                let (records, values) = laid_out(&tokens, &session, cursor.position);
                 let mut after = session;
                 after.change(change, (start + after.span.position, len));
-                after.span = counted_on(after.span, cursor);
+                after.span = cursor;
                 after.tokens += tokens.len();
                 after.bytes += size;
                 let mut numbers = call.session.clone();
@@ -183,14 +184,14 @@ fn popped(call: &Call, mut session: Session) -> Told {
     done(call, session)
 }
 
-/// Tokens as records and value bytes, from the marks on.
-fn laid_out(tokens: &[Token], session: &Session) -> (Vec<[u32; RECORD]>, Vec<u8>) {
+/// Tokens as records and value bytes, from the marks on; each bears the session's position after the call.
+fn laid_out(tokens: &[Token], session: &Session, end: usize) -> (Vec<[u32; RECORD]>, Vec<u8>) {
     let (mut records, mut values) = (Vec::new(), Vec::new());
     for token in tokens {
         let span = counted_on(session.span, token.span);
         let start = session.bytes + values.len();
         let numbers =
-            [token.kind as usize, token.detail, span.line, span.column, span.position, start, token.value.len(), 0];
+            [token.kind as usize, token.detail, span.line, span.column, span.position, start, token.value.len(), end];
         records.push(numbers.map(|number| number as u32));
         values.extend_from_slice(&token.value);
     }

@@ -4,6 +4,7 @@
 mod closers;
 mod comments;
 mod edges;
+mod ends;
 mod finds;
 mod forged;
 mod hosts;
@@ -32,6 +33,13 @@ const MOST: usize = 10_600;
 
 /// A group's name, what it holds, and its calls.
 type Group = (&'static str, &'static str, fn(&mut Random, &mut Teller) -> Vec<Call>);
+
+/// A call, with a title where it was worked by hand.
+type Line = (Option<&'static str>, Call);
+
+/// The name of the group of `ends`, and what it holds.
+const ENDS: (&str, &str) =
+    ("ends", "where the step or reading ended that wrote a record; literals and comments, each among others and alone");
 
 const EDGES: [Group; 9] = [
     ("parts", "parts with more announced, which wait or are settled, in each mode and reading", edges::parts),
@@ -74,12 +82,14 @@ fn main() -> io::Result<()> {
     let mut teller = Teller::default();
     for (index, mode) in routines::MODES.iter().enumerate() {
         let calls = mode.calls(&mut Random::new(index as u64 + 1));
-        write_group(folder, mode.name, mode.what, &calls, &mut teller, &mut met)?;
+        write_group(folder, (mode.name, mode.what), &untitled(calls), &mut teller, &mut met)?;
     }
     for (index, (name, what, make)) in EDGES.iter().enumerate() {
         let calls = make(&mut Random::new(index as u64 + 101), &mut teller);
-        write_group(folder, name, what, &calls, &mut teller, &mut met)?;
+        write_group(folder, (name, what), &untitled(calls), &mut teller, &mut met)?;
     }
+    let lines = ends::lines(&mut teller);
+    write_group(folder, ENDS, &lines, &mut teller, &mut met)?;
     write_finds(folder, &mut teller, &mut met)?;
     assert!(met.calls >= LEAST && met.calls <= MOST, "the list has {} calls", met.calls);
     assert_eq!(met.refusals, (1..=13).collect(), "each refusal is met");
@@ -88,18 +98,22 @@ fn main() -> io::Result<()> {
     Ok(())
 }
 
-/// Writes the calls of a group, each once, with what each must give.
+/// Calls without titles.
+fn untitled(calls: Vec<Call>) -> Vec<Line> {
+    calls.into_iter().map(|call| (None, call)).collect()
+}
+
+/// Writes the calls of a group, each once, with what each must give and the title of one that was worked by hand.
 fn write_group(
     folder: &Path,
-    name: &str,
-    what: &str,
-    calls: &[Call],
+    (name, what): (&str, &str),
+    lines: &[Line],
     teller: &mut Teller,
     met: &mut Met,
 ) -> io::Result<()> {
     let mut text = head(name, what);
     let mut seen = HashSet::new();
-    for call in calls {
+    for (title, call) in lines {
         let mut line = Vec::new();
         call.write(&mut line);
         if !seen.insert(line.clone()) {
@@ -107,6 +121,7 @@ fn write_group(
         }
         let told = teller.told(call);
         met.add(&told);
+        text.extend(title.iter().flat_map(|title| format!("# {}\n", title).into_bytes()));
         text.extend_from_slice(&line);
         text.extend_from_slice(b" => ");
         told.write(&mut text);
