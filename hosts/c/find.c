@@ -1,7 +1,8 @@
 /* Prints which token is under a byte of a script: find [FILE] BYTE, where bytes count from 0 and a script without FILE
  * comes from standard input. The token is the last one at or before the byte, nowdoc blocks read as sheets. A line has
- * its place, its number from 0, its kind and how many records were looked at, or `none`; its value follows. Of a script
- * that is refused the refusal comes first, and the answer is for what was read before.
+ * its place, its number from 0, its kind, how many records were looked at and at which byte its step ended, or `none`
+ * and the looks; its value follows. Of a script that is refused the refusal comes first, and the answer is for what
+ * was read before.
  * Status: 0 for a script read to its end, 1 for one refused, 2 for a wrong call or file. */
 #include <errno.h>
 #include <stdio.h>
@@ -13,7 +14,8 @@
 /* Room for any script: it has at most one token more than bytes, and no more value bytes than bytes. */
 enum { NUMBERS = PURETAKOI_RECORD * PURETAKOI_MOST_TOKENS };
 static uint8_t script[PURETAKOI_MOST_BYTES + 1], pool[PURETAKOI_MOST_BYTES];
-static uint32_t session[PURETAKOI_SESSION], list[NUMBERS], answer[PURETAKOI_ANSWER], found[PURETAKOI_FOUND];
+static uint32_t session[PURETAKOI_SESSION], list[NUMBERS], answer[PURETAKOI_ANSWER];
+static uint32_t found[PURETAKOI_FOUND_ENDED];
 
 static int wrong_usage(void) {
     fputs("find: call it as find [FILE] BYTE, where BYTE is a whole number, 0 for the script's first byte\n", stderr);
@@ -38,8 +40,8 @@ static void print_found(void) {
         printf("none (looks: %u)\n", looks);
         return;
     }
-    printf("%u:%u token %u: %s (looks: %u)\n", record[PURETAKOI_RECORD_LINE], record[PURETAKOI_RECORD_COLUMN], number,
-           puretakoi_kind_name(record[PURETAKOI_RECORD_KIND]), looks);
+    printf("%u:%u token %u: %s (looks: %u, end: %u)\n", record[PURETAKOI_RECORD_LINE], record[PURETAKOI_RECORD_COLUMN],
+           number, puretakoi_kind_name(record[PURETAKOI_RECORD_KIND]), looks, found[PURETAKOI_FOUND_END]);
     fwrite(pool + record[PURETAKOI_RECORD_START], 1, record[PURETAKOI_RECORD_LENGTH], stdout);
     putchar('\n');
 }
@@ -53,7 +55,7 @@ static int answer_for(size_t len, size_t byte) {
         print_refusal(refusal);
     }
     /* Never refused: the list has as many places as a list may have, and the mark is within it. */
-    puretakoi_find(list, NUMBERS, session[PURETAKOI_TOKENS], byte, found, PURETAKOI_FOUND);
+    puretakoi_find(list, NUMBERS, session[PURETAKOI_TOKENS], byte, found, PURETAKOI_FOUND_ENDED);
     print_found();
     return refusal == 0 ? 0 : 1;
 }

@@ -78,8 +78,9 @@ static bool take_words(int count, char **words, struct request *request) {
 static void print_rows(struct host *host) {
     for (uint32_t place = 0; place < host->session[PURETAKOI_TOKENS]; place++) {
         const uint32_t *record = host->list + place * PURETAKOI_RECORD;
-        printf("%u %u %u %u %u %u\n", record[PURETAKOI_RECORD_KIND], record[PURETAKOI_RECORD_LINE], record[PURETAKOI_RECORD_COLUMN],
-               record[PURETAKOI_RECORD_POSITION], record[PURETAKOI_RECORD_DETAIL], record[PURETAKOI_RECORD_LENGTH]);
+        printf("%u %u %u %u %u %u %u\n", record[PURETAKOI_RECORD_KIND], record[PURETAKOI_RECORD_LINE],
+               record[PURETAKOI_RECORD_COLUMN], record[PURETAKOI_RECORD_POSITION], record[PURETAKOI_RECORD_DETAIL],
+               record[PURETAKOI_RECORD_LENGTH], record[PURETAKOI_RECORD_END]);
     }
     host->session[PURETAKOI_TOKENS] = 0;
     host->session[PURETAKOI_BYTES] = 0;

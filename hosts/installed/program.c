@@ -10,7 +10,8 @@ static uint8_t script[PURETAKOI_MOST_BYTES + 1], pool[PURETAKOI_MOST_BYTES];
 static uint32_t session[PURETAKOI_SESSION], list[64 * PURETAKOI_RECORD], answer[PURETAKOI_ANSWER];
 
 static void print_token(const uint32_t *record) {
-    printf("%u:%u %u ", record[PURETAKOI_RECORD_LINE], record[PURETAKOI_RECORD_COLUMN], record[PURETAKOI_RECORD_KIND]);
+    printf("%u:%u %u %u ", record[PURETAKOI_RECORD_LINE], record[PURETAKOI_RECORD_COLUMN],
+           record[PURETAKOI_RECORD_KIND], record[PURETAKOI_RECORD_END]);
     fwrite(pool + record[PURETAKOI_RECORD_START], 1, record[PURETAKOI_RECORD_LENGTH], stdout);
     putchar('\n');
 }

@@ -12,7 +12,7 @@ def main() -> None:
     except puretakoi.Refusal as refusal:
         read, refused = refusal.tokens, refusal
     for token in read:
-        print(f"{token.line}:{token.column} {int(token.kind)} {token.value.decode()}")
+        print(f"{token.line}:{token.column} {int(token.kind)} {token.end or 0} {token.value.decode()}")
     print(f"{int(puretakoi.Kind.COMMENT)} is {puretakoi.Kind.COMMENT.name.lower()}")
     if refused is not None:
         print(f"{refused.line}:{refused.column} {refused.name}: {refused.meaning}. {refused.advice}")

@@ -9,7 +9,10 @@ fn main() -> io::Result<()> {
     let mut refused = None;
     for token in Tokens::new(&script, Reading::Sheet) {
         match token {
-            Ok(token) => println!("{} {} {}", token.span, token.kind, String::from_utf8_lossy(&token.value)),
+            Ok(token) => {
+                let (end, value) = (token.end.unwrap_or(0), String::from_utf8_lossy(&token.value));
+                println!("{} {} {} {}", token.span, token.kind, end, value);
+            }
             Err(refusal) => refused = Some(refusal),
         }
     }

@@ -6,6 +6,7 @@
         for row in block.rows:
             print(row)
     print(puretakoi.TokenList(script, sheet=True).at(byte))
+    print(puretakoi.TokenList(script, sheet=True).cut(byte))
 
 What can't be read raises Refusal. The library is the one that PURETAKOI_LIBRARY names, else the one that is installed
 with this module, else the one that the system's loader finds. A Stream is for one thread at a time.
@@ -17,132 +18,28 @@ import ctypes
 import os
 import sys
 from ctypes import POINTER, c_char_p, c_size_t, c_uint32, c_void_p
-from enum import IntEnum
 from pathlib import Path
-from typing import Any, Dict, Iterator, List, NamedTuple, Optional, Sequence, Tuple
+from typing import Any, Iterator, List, NamedTuple, Optional, Sequence, Tuple
+
+from puretakoi_words import WORDS as _WORDS
+from puretakoi_words import Kind, Reason
 
 __version__ = "0.1.0"
 __all__ = ["Block", "Found", "Kind", "Reason", "Refusal", "Stream", "Token", "TokenList", "Under"]
-__all__ += ["blocks", "find", "tokens"]
+__all__ += ["blocks", "file_to_list", "find", "list_to_file", "records", "tokens"]
 
 MOST_BYTES = 65536
 _SONAME = "libpuretakoi.so.0"
 _SESSION, _POSITION, _LINE, _DEPTH, _TOKENS, _BYTES, _SLOTS, _SLOT = 199, 0, 1, 3, 4, 5, 7, 3
-_RECORD, _PLACES, _LONG, _NOWDOC, _FINISHED, _MOST_NUMBER = 8, 512, 4096, 5, 1, 0xFFFFFFFF
-
-
-class Kind(IntEnum):
-    """Which token it is."""
-
-    INLINE_HTML = 1
-    OPEN_TAG_FULL = 2
-    OPEN_TAG_ECHO = 3
-    OPEN_TAG_SHORT = 4
-    STRING_PART = 5
-    DOLLAR_LEFT_BRACE = 6
-    LEFT_BRACE = 7
-    DOUBLE_QUOTE = 8
-    BACKTICK = 9
-    VARIABLE = 10
-    END_DOC_STRING_NONE = 11
-    END_DOC_STRING_SPACE = 12
-    END_DOC_STRING_TAB = 13
-    IDENTIFIER = 14
-    QUESTION_ARROW = 15
-    ARROW = 16
-    LITERAL_SINGLE_QUOTED_STRING = 17
-    LITERAL_DOUBLE_QUOTED_STRING = 18
-    LITERAL_INTEGER = 19
-    LITERAL_FLOAT = 20
-    COMMENT = 21
-
-
-class Reason(IntEnum):
-    """Why a script is refused."""
-
-    UNEXPECTED_END_OF_FILE = 1
-    INVALID_UNICODE_ESCAPE = 2
-    INVALID_OCTAL_ESCAPE = 3
-    INVALID_DOC_INDENTATION = 4
-    NO_PROPERTY = 5
-    WAIT = 6
-    LIST_FULL = 7
-    POOL_FULL = 8
-    STACK_FULL = 9
-    OUT_OF_PLACE = 10
-    TOO_LARGE = 11
-    BAD_SESSION = 12
-    STRAY_INDENTATION = 13
-
-
-# Of each reason: its name, what it is, what to do.
-_WORDS: Dict[Reason, Tuple[str, str, str]] = {
-    Reason.UNEXPECTED_END_OF_FILE: (
-        "unexpected end of file",
-        "something is still open where the script ends",
-        "Close the string, the text block, the command or the comment.",
-    ),
-    Reason.INVALID_UNICODE_ESCAPE: (
-        "invalid unicode escape",
-        "a \\u{..} escape names no code point",
-        "Write hex digits between the braces, up to 10FFFF and not from D800 to DFFF.",
-    ),
-    Reason.INVALID_OCTAL_ESCAPE: (
-        "invalid octal escape",
-        "an octal escape is over 377",
-        "Write no more than 377 behind the backslash.",
-    ),
-    Reason.INVALID_DOC_INDENTATION: (
-        "invalid indentation of a closer",
-        "the closing line is indented by spaces and tabs mixed",
-        "Use spaces alone or tabs alone before the label.",
-    ),
-    Reason.NO_PROPERTY: (
-        "no property",
-        "neither an arrow nor a name stands where a property is looked for",
-        "Write an arrow or a name there, or pop the frame.",
-    ),
-    Reason.WAIT: ("wait", "what comes next is still needed", "Lend more of the script, or announce its end."),
-    Reason.LIST_FULL: (
-        "list full",
-        "there are more tokens than places left in the list",
-        "Take the tokens out and empty the tables, or lend a longer list.",
-    ),
-    Reason.POOL_FULL: (
-        "pool full",
-        "there are more value bytes than bytes left in the pool",
-        "Take the values out and empty the tables, or lend a longer pool.",
-    ),
-    Reason.STACK_FULL: (
-        "stack full",
-        "braces and interpolations are nested more than 64 deep",
-        "Nest them less deep.",
-    ),
-    Reason.OUT_OF_PLACE: (
-        "out of place",
-        "the call does not fit where the cursor and the frames are, or what it was given",
-        "Look at the session and at what was lent before calling again.",
-    ),
-    Reason.TOO_LARGE: (
-        "too large",
-        "there are more than 65,536 bytes of script or pool, or more than 65,537 tokens",
-        "Divide the script into smaller ones.",
-    ),
-    Reason.BAD_SESSION: (
-        "bad session",
-        "the session was changed by hand or belongs to another script, or a count is above the list's places",
-        "Go on with the session of this script or a fresh one; count no more records than the list has.",
-    ),
-    Reason.STRAY_INDENTATION: (
-        "stray indentation",
-        "a row starts with less than the closing line's indentation",
-        "Indent the row as the closing line is, or the closing line less.",
-    ),
-}
+_RECORD, _FOUND, _PLACES, _LONG, _NOWDOC, _FINISHED, _MOST_NUMBER = 8, 4, 512, 4096, 5, 1, 0xFFFFFFFF
 
 
 class Token(NamedTuple):
-    """A token, the place where it stands (lines and columns from 1, in bytes) and its value."""
+    """A token, the place where it stands (lines and columns from 1, in bytes), its value, and where its step ended.
+
+    All tokens of one step have one `end`, a position in the script. It is None where it is not stated: where the
+    record has 0, as in files that older writers made.
+    """
 
     kind: Kind
     detail: int
@@ -150,6 +47,17 @@ class Token(NamedTuple):
     column: int
     position: int
     value: bytes
+    end: Optional[int] = None
+
+    def written(self, script: bytes) -> Optional[bytes]:
+        """A literal or a comment as it stands in its script, with its quotes.
+
+        None for other kinds, and where the end is not stated or not in the script.
+        """
+        is_whole = Kind.LITERAL_SINGLE_QUOTED_STRING <= self.kind <= Kind.COMMENT
+        if not is_whole or self.end is None or not self.position <= self.end <= len(script):
+            return None
+        return bytes(script[self.position : self.end])
 
 
 class Block(NamedTuple):
@@ -161,19 +69,23 @@ class Block(NamedTuple):
 
 
 class Found(NamedTuple):
-    """Which record of a list is under a byte, its number from 0 or None, and how many were looked at: at most 17."""
+    """Which record of a list is under a byte, its number from 0 or None, and how many were looked at: at most 17.
+
+    The `end` is the record's, as that of a Token; None without a record.
+    """
 
     record: Optional[int]
     looks: int
+    end: Optional[int] = None
 
 
 class Under(NamedTuple):
     """The token under a byte: the last one at or before it, of those at one position the last.
 
-    The byte is `inside` what the token's step has passed, or a name, a sign or a blank after it, or `past_end`. In a
-    nowdoc block read as a sheet `row` and `cell` are its place in Block.rows, from 1: no cell on the indentation that
-    comes off and on a line break, no row on the closing line. `cell` counts the row's bytes; `puretakoi at` counts
-    characters.
+    The byte is `inside` what the token's step has `passed`, which goes up to the token's end, or a name, a sign or a
+    blank after it, or `past_end`. In a nowdoc block read as a sheet `row` and `cell` are its place in Block.rows, from
+    1: no cell on the indentation that comes off and on a line break, no row on the closing line. `cell` counts the
+    row's bytes; `puretakoi at` counts characters.
     """
 
     token: Token
@@ -216,8 +128,10 @@ def _declared(library: ctypes.CDLL) -> ctypes.CDLL:
     library.puretakoi_step.argtypes = [c_char_p, c_size_t, c_uint32] + tables
     library.puretakoi_walk.argtypes = [c_char_p, c_size_t, c_uint32, c_uint32] + tables
     library.puretakoi_find.argtypes = numbers + [c_size_t, c_size_t] + numbers
-    for call in (library.puretakoi_fresh, library.puretakoi_step, library.puretakoi_walk, library.puretakoi_find):
-        call.restype = c_uint32
+    library.puretakoi_list_to_file.argtypes = numbers + [c_void_p, c_size_t]
+    library.puretakoi_file_to_list.argtypes = [c_char_p, c_size_t] + numbers
+    for name in ("fresh", "step", "walk", "find", "list_to_file", "file_to_list"):
+        getattr(library, "puretakoi_" + name).restype = c_uint32
     return library
 
 
@@ -294,8 +208,7 @@ class Stream:
         """The tokens of the tables, which are empty again."""
         count, pool = self._session[_TOKENS], bytes(memoryview(self._pool)[: self._session[_BYTES]])
         self._session[_TOKENS] = self._session[_BYTES] = 0
-        records = (self._list[at : at + _RECORD] for at in range(0, _RECORD * count, _RECORD))
-        return [Token(Kind(r[0]), r[1], r[2], r[3], r[4], pool[r[5] : r[5] + r[6]]) for r in records]
+        return records(self._list[: _RECORD * count], pool)
 
     def _top(self) -> List[int]:
         """The frame on top: its number, and its label's start and length."""
@@ -337,17 +250,59 @@ def _rows(read: List[Token], lines: int) -> List[bytes]:
     return [row[:-1] if row.endswith(b"\r") else row for row in broken] + [last]
 
 
+def records(numbers: Sequence[int], pool: bytes) -> List[Token]:
+    """The tokens of a list, eight numbers each, with their values from its pool; a shorter rest is none."""
+    return [_token(numbers[at : at + _RECORD], pool) for at in range(0, len(numbers) - _RECORD + 1, _RECORD)]
+
+
+def _token(record: Sequence[int], pool: bytes) -> Token:
+    """A record with its value."""
+    kind, detail, line, column, position, start, length, end = record
+    if not 1 <= kind <= len(Kind):
+        raise ValueError(f"a record's kind is {kind}, and no token's: give a list that the library wrote")
+    if start + length > len(pool):
+        said = f"a value ends at byte {start + length} of the pool, which has {len(pool)}"
+        raise ValueError(f"{said}: give the pool that belongs to the list")
+    value = bytes(pool[start : start + length])
+    return Token(Kind(kind), detail, line, column, position, value, end or None)
+
+
+def list_to_file(numbers: Sequence[int]) -> bytes:
+    """All records of a list as a file, 32 bytes each. Refused: too many (11), no whole number of records (10)."""
+    lent, size = _lent(numbers), 4 * len(numbers)
+    file = ctypes.create_string_buffer(size)
+    _check(_library.puretakoi_list_to_file(lent, len(lent), file, size))
+    return file.raw
+
+
+def file_to_list(file: bytes) -> List[int]:
+    """All records of a file as a list. Refused: too many (11), no whole number of records (10)."""
+    numbers = (c_uint32 * (len(file) // 4))()
+    _check(_library.puretakoi_file_to_list(bytes(file), len(file), numbers, len(numbers)))
+    return numbers[:]
+
+
 def find(records: Sequence[int], count: int, byte: int) -> Found:
     """The last of the first `count` records, eight numbers each, at or before a byte. Refused with 11 or 12."""
-    is_lent = isinstance(records, ctypes.Array)
-    if not is_lent and not all(0 <= number <= _MOST_NUMBER for number in records):
+    lent, found = _lent(records), (c_uint32 * _FOUND)()
+    _check(_library.puretakoi_find(lent, len(lent), _size(count), _size(byte), found, len(found)))
+    any_found, record, looks, end = found
+    return Found(record if any_found else None, looks, end or None)
+
+
+def _lent(numbers: Sequence[int]) -> Any:
+    """A list's numbers as a call takes them."""
+    if isinstance(numbers, ctypes.Array):
+        return numbers
+    if not all(0 <= number <= _MOST_NUMBER for number in numbers):
         raise ValueError(f"a list's number is not from 0 to {_MOST_NUMBER}")
-    numbers = records if is_lent else (c_uint32 * len(records))(*records)
-    found = (c_uint32 * 3)()
-    number = _library.puretakoi_find(numbers, len(numbers), _size(count), _size(byte), found, len(found))
+    return (c_uint32 * len(numbers))(*numbers)
+
+
+def _check(number: int) -> None:
+    """Raises the refusal of a call without a session, if there is one."""
     if number:
         raise Refusal(number, 1, 1, 0)
-    return Found(found[1] if found[0] else None, found[2])
 
 
 def _size(number: int) -> int:
@@ -371,6 +326,7 @@ class TokenList(Sequence[Token]):
             more = stream._step()
             step = range(start, stream._session[_POSITION]), sheet and frame == _NOWDOC
             self._steps += [step] * (stream._session[_TOKENS] - len(self._steps))
+        self._pool = bytes(memoryview(stream._pool)[: stream._session[_BYTES]])
         self._tokens = stream._take()
 
     def __len__(self) -> int:
@@ -388,6 +344,21 @@ class TokenList(Sequence[Token]):
         inside, past_end, text = byte in passed, byte >= len(self._script), self._script[passed.start : passed.stop]
         row, cell = _cell(text, token.detail, byte - passed.start) if is_sheet else (None, None)
         return Under(token, found.record, found.looks, passed, inside, past_end, row, cell)
+
+    def cut(self, byte: int) -> Optional[bytes]:
+        """The literal or the comment that has a byte, as it stands in the script; None where none has it."""
+        under = self.at(byte)
+        return under.token.written(self._script) if under is not None and under.inside else None
+
+    @property
+    def list(self) -> List[int]:
+        """The records of all tokens, eight numbers each: what `find`, `records` and `list_to_file` take."""
+        return self._list[: _RECORD * len(self)]
+
+    @property
+    def pool(self) -> bytes:
+        """The values of all tokens."""
+        return self._pool
 
 
 def _cell(text: bytes, indentation: int, at: int) -> Tuple[Optional[int], Optional[int]]:

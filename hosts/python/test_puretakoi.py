@@ -1,4 +1,4 @@
-"""Tests of the Python module, on the library that it finds: python3 -m unittest test_puretakoi."""
+"""Tests of the Python module, on the library that it finds: python3 -m unittest, with those of test_ends.py."""
 
 import ctypes
 import re
@@ -24,9 +24,9 @@ BREAKS = b"<?php <<<'A'\r\n\ta\r\r\n\r\n\tA;"
 def sheet_tokens(rows):
     """The tokens of SHEET, whose reading gives these rows."""
     return [
-        Token(Kind.OPEN_TAG_FULL, 0, 1, 1, 0, b"<?php"),
-        Token(Kind.STRING_PART, 0, 2, 1, 15, rows),
-        Token(Kind.END_DOC_STRING_SPACE, 2, 2, 1, 15, b"EOT"),
+        Token(Kind.OPEN_TAG_FULL, 0, 1, 1, 0, b"<?php", 5),
+        Token(Kind.STRING_PART, 0, 2, 1, 15, rows, 31),
+        Token(Kind.END_DOC_STRING_SPACE, 2, 2, 1, 15, b"EOT", 31),
     ]
 
 
@@ -45,7 +45,7 @@ def stored_rows(script):
     except Refusal as refusal:
         place = f"{refusal.line} {refusal.column} {refusal.position}"
         read, last = refusal.tokens, f"refused {int(refusal.number)} {place}"
-    lines = [f"{int(t.kind)} {t.line} {t.column} {t.position} {t.detail} {len(t.value)}" for t in read]
+    lines = [f"{int(t.kind)} {t.line} {t.column} {t.position} {t.detail} {len(t.value)} {t.end or 0}" for t in read]
     return "\n".join(lines + [last]) + "\n"
 
 
@@ -289,7 +289,7 @@ class Finds(unittest.TestCase):
 
         numbers = (ctypes.c_uint32 * 24)(*record_list([5, 1, 9]))
         large = (ctypes.c_uint32 * (8 * 65538))()
-        self.assertEqual(call(numbers, 3, [7] * 5), (0, [1, 1, 2, 7, 7]))
+        self.assertEqual(call(numbers, 3, [7] * 5), (0, [1, 1, 2, 0, 7]))
         self.assertEqual(call(numbers, 1, [7] * 3), (0, [0, 0, 1]))
         self.assertEqual(call(numbers, 4, [7] * 3), (12, [7] * 3))
         self.assertEqual(call(large, 0, [7] * 3), (11, [7] * 3))

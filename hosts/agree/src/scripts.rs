@@ -92,11 +92,11 @@ fn number_last(size: usize) -> Vec<u8> {
 
 /// Scripts that are longer than rows reads, at which piece sizes, and what must be printed of them, worked by hand.
 pub fn long() -> Vec<(Vec<u8>, Vec<usize>, Vec<u8>)> {
-    const TAG: &str = "2 1 1 0 0 5\n";
+    const TAG: &str = "2 1 1 0 0 5 5\n";
     const REFUSED: &str = "refused 11 1 1 0\n";
-    let row = |place: usize| format!("19 1 {} {} 0 1\n", 7 + 2 * place, 6 + 2 * place);
+    let row = |place: usize| format!("19 1 {} {} 0 1 {}\n", 7 + 2 * place, 6 + 2 * place, 7 + 2 * place);
     let rows: String = (0..32_765).map(row).collect();
-    let below = |place: usize| format!("21 {} 1 {} 0 1\n", 1 + place, 6 + 2 * place);
+    let below = |place: usize| format!("21 {} 1 {} 0 1 {}\n", 1 + place, 6 + 2 * place, 7 + 2 * place);
     let remarks: String = (1..32_765).map(below).collect();
     let more = |mut script: Vec<u8>, bytes: &[u8]| {
         script.extend_from_slice(bytes);
@@ -105,17 +105,17 @@ pub fn long() -> Vec<(Vec<u8>, Vec<usize>, Vec<u8>)> {
     // A string or a comment is read anew at each piece, so it comes in large ones.
     let (any, large) = (vec![1, 7, 64, 100_000], vec![4_096, 65_536, 65_537, 100_000]);
     let scripts = [
-        (quote(65_536), &large, format!("{}17 1 7 6 0 65528\nend 65536\n", TAG)),
+        (quote(65_536), &large, format!("{}17 1 7 6 0 65528 65536\nend 65536\n", TAG)),
         (quote(65_537), &large, format!("{}{}", TAG, REFUSED)),
-        (comment(65_536), &large, format!("{}21 1 7 6 0 65530\nend 65536\n", TAG)),
+        (comment(65_536), &large, format!("{}21 1 7 6 0 65530 65536\nend 65536\n", TAG)),
         (comment(65_537), &large, format!("{}{}", TAG, REFUSED)),
-        (line_comment(65_536), &large, format!("{}21 1 7 6 0 65530\nend 65536\n", TAG)),
+        (line_comment(65_536), &large, format!("{}21 1 7 6 0 65530 65536\nend 65536\n", TAG)),
         (line_comment(65_537), &large, format!("{}{}", TAG, REFUSED)),
-        (comments(65_536), &any, format!("{}21 1 7 6 0 1\n{}end 65536\n", TAG, remarks)),
+        (comments(65_536), &any, format!("{}21 1 7 6 0 1 7\n{}end 65536\n", TAG, remarks)),
         (numbers(65_536), &any, format!("{}{}end 65536\n", TAG, rows)),
         (more(numbers(65_536), b";"), &any, format!("{}{}{}", TAG, rows, REFUSED)),
         (more(numbers(65_536), &[b'\''; 200_000]), &any, format!("{}{}{}", TAG, rows, REFUSED)),
-        (number_last(65_536), &any, format!("{}19 1 65535 65534 0 2\nend 65536\n", TAG)),
+        (number_last(65_536), &any, format!("{}19 1 65535 65534 0 2 65536\nend 65536\n", TAG)),
         (more(number_last(65_536), b"3"), &any, format!("{}{}", TAG, REFUSED)),
     ];
     scripts.into_iter().map(|(script, pieces, printed)| (script, pieces.clone(), printed.into_bytes())).collect()

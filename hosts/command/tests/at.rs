@@ -45,19 +45,21 @@ fn check_past(script: &[u8], place: &str, want: &str) {
 #[test]
 fn a_token() {
     let want = "1:9, byte 8: \"e\"\n1 |<?php 'kerb' . 12;\n  |        ^\n\
-                In token 2 of 3, at byte 6: 1:7 single-quoted string: \"kerb\"\n2 records were looked at.\n";
+                In token 2 of 3, at byte 6: 1:7 single-quoted string: \"kerb\"\nIt ends before 1:13, byte 12.\n\
+                2 records were looked at.\n";
     check(STRING, "1:9", want, 0);
     check(STRING, "8", want, 0);
-    for (place, token) in [
-        ("0", "1 of 3, at byte 0: 1:1 full open tag: \"<?php\""),
-        ("4", "1 of 3, at byte 0: 1:1 full open tag: \"<?php\""),
-        ("1:7", "2 of 3, at byte 6: 1:7 single-quoted string: \"kerb\""),
-        ("1:12", "2 of 3, at byte 6: 1:7 single-quoted string: \"kerb\""),
-        ("1:16", "3 of 3, at byte 15: 1:16 integer: \"12\""),
-        ("16", "3 of 3, at byte 15: 1:16 integer: \"12\""),
+    for (place, token, end) in [
+        ("0", "1 of 3, at byte 0: 1:1 full open tag: \"<?php\"", "1:6, byte 5"),
+        ("4", "1 of 3, at byte 0: 1:1 full open tag: \"<?php\"", "1:6, byte 5"),
+        ("1:7", "2 of 3, at byte 6: 1:7 single-quoted string: \"kerb\"", "1:13, byte 12"),
+        ("1:12", "2 of 3, at byte 6: 1:7 single-quoted string: \"kerb\"", "1:13, byte 12"),
+        ("1:16", "3 of 3, at byte 15: 1:16 integer: \"12\"", "1:18, byte 17"),
+        ("16", "3 of 3, at byte 15: 1:16 integer: \"12\"", "1:18, byte 17"),
     ] {
         let got = call_on(&["at", "-", place], STRING).out;
-        assert!(got.contains(&format!("\nIn token {}\n2 records were looked at.\n", token)), "{}: {}", place, got);
+        let want = format!("\nIn token {}\nIt ends before {}.\n2 records were looked at.\n", token, end);
+        assert!(got.contains(&want), "{}: {}", place, got);
     }
 }
 
@@ -113,11 +115,13 @@ fn places_that_the_script_has_not() {
     check_past(b"<?php 1;\r\n2", "1:11", line);
 }
 
-/// Both tokens of the block stand at byte 21: the second one is found, after two looks.
+/// Both tokens of the block stand at byte 21: the second one is found, after two looks. The rows end before the break
+/// that is left out, and their step after the label.
 #[test]
 fn cells_of_a_block() {
     let rows = "    \"o .\\n\"\n    \"\\n\"\n    \" #\"\n";
-    let token = format!("In token 2 of 3, at byte 21: 3:1 string part:\n{}{}", rows, LEAD);
+    let end = "It ends before 5:5, byte 32; its step ends before 6:7, byte 39.\n";
+    let token = format!("In token 2 of 3, at byte 21: 3:1 string part:\n{}{}{}", rows, end, LEAD);
     let name = "Block 1 at 2:6, label ROAD: row";
     check(BLOCK, "3:3", &format!("3:3, byte 23: \"o\"\n{} 1, cell 1\n1 |o .\n  |^\n{}", name, token), 0);
     check(BLOCK, "3:4", &format!("3:4, byte 24: a space\n{} 1, cell 2\n1 |o .\n  | ^\n{}", name, token), 0);
@@ -132,6 +136,7 @@ fn cells_of_a_block() {
 fn other_parts_of_a_block() {
     let name = "Block 1 at 2:6, label ROAD:";
     let end = "token 3 of 3, at byte 21: 3:1 end of text block, indented by spaces (2): \"ROAD\"\n";
+    let ends = "It ends before 6:7, byte 39.\n";
     let want = format!(
         "5:5, byte 32: a line break\n{} row 3, the line break after it\n5 |   #\n  |    ^\n\
          No token has this line break: it is left out.\n{}{}{}",
@@ -140,14 +145,14 @@ fn other_parts_of_a_block() {
     check(BLOCK, "5:5", &want, 0);
     let want = format!(
         "6:2, byte 34: a space\n{} the indentation of its closing line\n6 |  ROAD;\n  | ^\n\
-         In the indentation of the closing line, {}2 records were looked at.\n",
-        name, end
+         In the indentation of the closing line, {}{}2 records were looked at.\n",
+        name, end, ends
     );
     check(BLOCK, "6:2", &want, 0);
     let want = format!(
         "6:6, byte 38: \"D\"\n{} its closing label\n6 |  ROAD;\n  |     ^\nIn {}\
-         It bears the place of the text before it, and begins at 6:3, byte 35.\n2 records were looked at.\n",
-        name, end
+         It bears the place of the text before it, and begins at 6:3, byte 35.\n{}2 records were looked at.\n",
+        name, end, ends
     );
     check(BLOCK, "6:6", &want, 0);
     let want = format!(
@@ -217,12 +222,13 @@ fn a_heredoc() {
     let part = "In token 2 of 5, at byte 11: 2:1 string part:\n    \"kerb\\n\"\n    \" \"\n";
     let lead =
         "3 records were looked at. This leads to token 3 (variable), which bears the place of the text before it.\n";
-    let line = |number| format!("It is line {} of its 2 lines, in the heredoc E.\n", number);
+    let end = "It ends before 3:2, byte 17; its step ends before 3:4, byte 19.";
+    let line = |number| format!("{}\nIt is line {} of its 2 lines, in the heredoc E.\n", end, number);
     check(HEREDOC, "12", &format!("2:2, byte 12: \"e\"\n2 |kerb\n  | ^\n{}{}{}", part, line(1), lead), 0);
     check(HEREDOC, "16", &format!("3:1, byte 16: a space\n3 | $a and\n  |^\n{}{}{}", part, line(2), lead), 0);
     let want = "3:3, byte 18: \"a\"\n3 | $a and\n  |  ^\nIn token 3 of 5, at byte 11: 2:1 variable: \"$a\"\n\
-                It bears the place of the text before it, and begins at 3:2, byte 17.\nIt is in the heredoc E.\n\
-                3 records were looked at.\n";
+                It bears the place of the text before it, and begins at 3:2, byte 17.\n\
+                It ends before 3:4, byte 19.\nIt is in the heredoc E.\n3 records were looked at.\n";
     check(HEREDOC, "18", want, 0);
     let end = "token 5 of 5, at byte 19: 3:4 end of text block, indented by spaces (1): \"E\"\n";
     let want = format!(
@@ -233,13 +239,14 @@ fn a_heredoc() {
     );
     check(HEREDOC, "28", &want, 0);
     let want = format!(
-        "5:1, byte 29: a space\n5 | E;\n  |^\nIn the indentation of the closing line, {}2 records were looked at.\n",
+        "5:1, byte 29: a space\n5 | E;\n  |^\nIn the indentation of the closing line, {}\
+         It ends before 5:3, byte 31.\n2 records were looked at.\n",
         end
     );
     check(HEREDOC, "29", &want, 0);
     let want = format!(
         "5:2, byte 30: \"E\"\n5 | E;\n  | ^\nIn {}\
-         It bears the place of the text before it, and begins at 5:2, byte 30.\n\
+         It bears the place of the text before it, and begins at 5:2, byte 30.\nIt ends before 5:3, byte 31.\n\
          It is the closing label, in the heredoc E.\n2 records were looked at.\n",
         end
     );
@@ -275,8 +282,10 @@ fn other_texts() {
     let token = |script: &[u8], byte: usize| lines(script, &byte.to_string());
     let string = b"<?php \"a $b c\";";
     assert_eq!(token(string, 6)[0], "In token 2 of 5, at byte 6: 1:7 string part: \"a \"");
+    assert_eq!(token(string, 6)[1], "It ends before 1:10, byte 9.");
     assert_eq!(token(string, 10)[0], "In token 3 of 5, at byte 9: 1:10 variable: \"$b\"");
     assert_eq!(token(string, 12)[0], "In token 4 of 5, at byte 11: 1:12 string part: \" c\"");
+    assert_eq!(token(string, 12)[1], "It ends before 1:14, byte 13; its step ends before 1:15, byte 14.");
     assert_eq!(token(string, 13)[0], "In token 5 of 5, at byte 11: 1:12 double quote: \"\\\"\"");
     assert_eq!(token(string, 13)[1], "It bears the place of the text before it, and begins at 1:14, byte 13.");
     let quotes = call_on(&["at", "-", "13"], string).out;
@@ -290,10 +299,13 @@ fn other_texts() {
     assert_eq!(token(command, 14)[0], "In token 5 of 5, at byte 14: 1:15 backtick: \"`\"");
     let remark = b"a\nb<?php /* c\nd */";
     assert_eq!(token(remark, 2)[..2], ["In token 1 of 3, at byte 0: 1:1 inline text:", "    \"a\\n\""]);
-    assert_eq!(token(remark, 2)[3], "It is line 2 of its 2 lines in the script.");
+    assert_eq!(token(remark, 2)[3], "It ends before 2:2, byte 3; its step ends before 2:7, byte 8.");
+    assert_eq!(token(remark, 2)[4], "It is line 2 of its 2 lines in the script.");
     assert_eq!(token(remark, 4)[0], "In token 2 of 3, at byte 3: 2:2 full open tag: \"<?php\"");
-    assert_eq!(token(remark, 13)[3], "It is line 1 of its 2 lines in the script.");
-    assert_eq!(token(remark, 14)[3], "It is line 2 of its 2 lines in the script.");
+    assert_eq!(token(remark, 4)[1], "It ends before 2:7, byte 8.");
+    let end = "It ends before 3:5, byte 18.";
+    assert_eq!(token(remark, 13)[3..5], [end, "It is line 1 of its 2 lines in the script."]);
+    assert_eq!(token(remark, 14)[3..5], [end, "It is line 2 of its 2 lines in the script."]);
 }
 
 #[test]

@@ -14,14 +14,8 @@ use command::reading::form::with_lf_lines;
 use command::reading::sheet::Sheet;
 use command::reading::warning::Warning;
 use common::json::{self, text, Value};
-use common::{call, call_on, empty_folder, run, sample, tests_folder, word};
+use common::{call, call_on, empty_folder, run, sample, scripts, tests_folder, word};
 use puretakoi::{Reading, TokenList};
-
-/// The scripts of a folder.
-fn scripts(folder: PathBuf) -> Vec<PathBuf> {
-    let paths = fs::read_dir(folder).unwrap().map(|entry| entry.unwrap().path());
-    paths.filter(|path| path.extension().map_or(false, |extension| extension == "php")).collect()
-}
 
 /// The rows that `view` prints, block by block.
 fn shown_rows(path: &str) -> Vec<Vec<String>> {
@@ -259,7 +253,8 @@ fn the_ported_reading() {
     let script = b"<?php <<<'A'\n  o\n  A; <<< 'B'\n1";
     let got = call_on(&["at", "--ported", "-", "2:3"], script);
     let want = "standard input at 2:3, byte 15: \"o\"\n2 |  o\n  |  ^\n\
-                In token 2 of 5, at byte 13: 2:1 string part: \"  o\"\nIt is in the nowdoc block A.\n\
+                In token 2 of 5, at byte 13: 2:1 string part: \"  o\"\n\
+                It ends before 2:4, byte 16; its step ends before 3:4, byte 20.\nIt is in the nowdoc block A.\n\
                 3 records were looked at. This leads to token 3 (end of text block, indented by spaces), which bears \
                 the place of the text before it.\n";
     assert_eq!((got.out.as_str(), got.status), (want, Some(0)));
@@ -302,6 +297,9 @@ fn one_object_as_json() {
     assert_eq!((token.get("number"), token.get("kind")), (&Value::Number(2), &Value::Number(5)));
     assert_eq!((token.get("name"), token.get("value").bytes()), (&text("string part"), b"o\n\xFF".to_vec()));
     assert_eq!((got.get("bytes").get("from"), got.get("bytes").get("to")), (&Value::Number(13), &Value::Number(18)));
+    let end = got.get("end");
+    assert_eq!((end.get("line"), end.get("column")), (&Value::Number(4), &Value::Number(3)));
+    assert_eq!((end.get("position"), token.get("end")), (&Value::Number(21), &Value::Number(21)));
     assert_eq!((got.get("lines").get("number"), got.get("lines").get("count")), (&Value::Number(1), &Value::Number(2)));
     assert_eq!((block.get("number"), block.get("position")), (&Value::Number(1), &Value::Number(6)));
     assert_eq!((block.get("part"), block.get("cell")), (&text("cell"), &Value::Number(1)));
@@ -310,6 +308,7 @@ fn one_object_as_json() {
     assert_eq!((got.get("refusal"), got.get("warning")), (&Value::Null, &Value::Null));
     let got = object(&["18"], script);
     assert_eq!((got.get("where"), got.get("token")), (&text("lost-break"), &Value::Null));
+    assert_eq!((got.get("end"), got.get("before").get("end")), (&Value::Null, &Value::Number(21)));
     assert_eq!(
         (got.get("before").get("number"), got.get("after").get("number")),
         (&Value::Number(2), &Value::Number(3))
@@ -368,6 +367,15 @@ fn status(tokens: &TokenList, sheet: Option<&Sheet>, byte: usize) -> u8 {
     }
 }
 
+/// A literal or a comment stands from its place up to its end; of another token the step may go on after it.
+fn check_end(token: &Value, end: &Value, (from, to): (usize, usize)) {
+    assert_eq!((token.get("end"), matches!(end, Value::Number(end) if *end as usize >= to)), (end, true));
+    if (17..=21).map(Value::Number).any(|kind| kind == *token.get("kind")) {
+        let want = (&Value::Number(from as u64), &Value::Number(to as u64));
+        assert_eq!((token.get("position"), end), want, "{:?}", token);
+    }
+}
+
 /// A token whose value is its bytes in the script has just these there, the byte among them.
 fn check_token(script: &[u8], byte: usize, object: &Value) {
     let (from, to) = match (object.get("bytes").get("from"), object.get("bytes").get("to")) {
@@ -380,6 +388,7 @@ fn check_token(script: &[u8], byte: usize, object: &Value) {
     if as_it_stands.contains(token.get("kind")) {
         assert_eq!(token.get("value").bytes(), bytes, "{} of {:?}", byte, script);
     }
+    check_end(token, object.get("end").get("position"), (from, to));
     // A string part without an escape: in the ported reading it keeps all, but for a first quote.
     let is_plain_part = token.get("kind") == &Value::Number(5) && !bytes.contains(&b'\\');
     if is_plain_part && object.get("reading") == &text("ported") {

@@ -8,6 +8,7 @@ const VIEW: &str = "usage: puretakoi view [--text|--braille|--json] [--html FILE
                     [--refused-first] [--strict] PATH..";
 const CHECK: &str = "usage: puretakoi check [--strict] [--json] [-j N] PATH..";
 const AT: &str = "usage: puretakoi at [--ported] [--json] [-w COLUMNS] FILE LINE:COLUMN|BYTE";
+const CUT: &str = "usage: puretakoi cut [--ported] FILE LINE:COLUMN|BYTE";
 const TOKENS: &str = "usage: puretakoi tokens [--sheet] [--json|--numbers] [-p PIECE] [FILE]";
 const RECORDS: &str = "usage: puretakoi records [--sheet|--print] FILE..";
 const ALL: &str = "usage: puretakoi VERB [OPTION..] PATH..";
@@ -23,9 +24,9 @@ fn check_wrong(words: &[&str], fault: &str, usage: &str) {
 
 #[test]
 fn a_wrong_verb() {
-    check_wrong(&[], "no verb is named: write view, check, at, tokens or records", ALL);
+    check_wrong(&[], "no verb is named: write view, check, at, cut, tokens or records", ALL);
     for word in ["sheets", "--strict", "View", "-", "--"] {
-        check_wrong(&[word], &format!("{} is no verb: write view, check, at, tokens or records", word), ALL);
+        check_wrong(&[word], &format!("{} is no verb: write view, check, at, cut, tokens or records", word), ALL);
     }
 }
 
@@ -89,21 +90,28 @@ fn other_wrong_calls() {
     check_wrong(&["tokens", "a", "b"], several, TOKENS);
     let both = "--json and --numbers don't go together: give one of them";
     check_wrong(&["tokens", "--numbers", "--json"], both, TOKENS);
-    check_wrong(&["at"], "no script is named", AT);
-    let form = "write LINE:COLUMN, both from 1, or a byte's position, from 0";
-    check_wrong(&["at", "sheets/tabs.php"], &format!("no place is named after the script: {}", form), AT);
-    for word in ["x", "", ":", "1:", ":1", "0:1", "1:0", "1:1:1", "+1", "1 ", "1.5", "2:+1"] {
-        check_wrong(&["at", "sheets/tabs.php", word], &format!("{} is no place: {}", word, form), AT);
-    }
-    let more = "more than a script and a place are named: name one of each";
-    check_wrong(&["at", "sheets/tabs.php", "1", "2"], more, AT);
-    check_wrong(&["at", "--sheet", "sheets/tabs.php", "1"], "--sheet is no option", AT);
-    check_wrong(&["at", "sheets/tabs.php", "-1"], "-1 is no option", AT);
-    check_wrong(&["at", "-w", "9", "sheets/tabs.php", "1"], "-w wants a number from 10 to 100000 behind it", AT);
     check_wrong(&["records"], "no file is named", RECORDS);
     let place = "record files stand beside their script, and standard input has no place: name a file";
     check_wrong(&["records", "-"], place, RECORDS);
     check_wrong(&["records", "--print", "a", "b"], "more than one file is named behind --print: name one", RECORDS);
+}
+
+#[test]
+fn wrong_places() {
+    let form = "write LINE:COLUMN, both from 1, or a byte's position, from 0";
+    for (verb, usage) in [("at", AT), ("cut", CUT)] {
+        check_wrong(&[verb], "no script is named", usage);
+        check_wrong(&[verb, "sheets/tabs.php"], &format!("no place is named after the script: {}", form), usage);
+        for word in ["x", "", ":", "1:", ":1", "0:1", "1:0", "1:1:1", "+1", "1 ", "1.5", "2:+1"] {
+            check_wrong(&[verb, "sheets/tabs.php", word], &format!("{} is no place: {}", word, form), usage);
+        }
+        let more = "more than a script and a place are named: name one of each";
+        check_wrong(&[verb, "sheets/tabs.php", "1", "2"], more, usage);
+        check_wrong(&[verb, "--sheet", "sheets/tabs.php", "1"], "--sheet is no option", usage);
+        check_wrong(&[verb, "sheets/tabs.php", "-1"], "-1 is no option", usage);
+    }
+    check_wrong(&["at", "-w", "9", "sheets/tabs.php", "1"], "-w wants a number from 10 to 100000 behind it", AT);
+    check_wrong(&["cut", "--json", "sheets/tabs.php", "1"], "--json is no option", CUT);
 }
 
 #[test]
@@ -150,6 +158,7 @@ fn help_and_version_are_no_faults() {
         (&["view", "--help"], VIEW),
         (&["check", "sheets", "--help"], CHECK),
         (&["at", "--help"], AT),
+        (&["cut", "--help"], CUT),
         (&["tokens", "--help", "--rows"], TOKENS),
         (&["records", "--help"], RECORDS),
         (&["--version"], "puretakoi 0.1.0"),
@@ -169,7 +178,9 @@ fn help_and_version_are_no_faults() {
 /// Every option of a verb's usage must be told in its help, and every verb in the help of all.
 #[test]
 fn help_tells_all() {
-    for (verb, usage) in [("view", VIEW), ("check", CHECK), ("at", AT), ("tokens", TOKENS), ("records", RECORDS)] {
+    for (verb, usage) in
+        [("view", VIEW), ("check", CHECK), ("at", AT), ("cut", CUT), ("tokens", TOKENS), ("records", RECORDS)]
+    {
         let help = call(&[verb, "--help"]).out;
         let words = usage.split(['[', ']', '|', ' ']).filter(|word| word.starts_with('-'));
         for option in words {

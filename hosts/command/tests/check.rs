@@ -102,6 +102,7 @@ fn in_trouble() -> Sheet {
         span: place(2, 5, 10),
         mark: None,
         told: "<<<'A' and\na space open nothing".to_string(),
+        read_on: String::new(),
         advice: "Take it away.".to_string(),
     });
     sheet

@@ -70,6 +70,8 @@ fn warnings_heredocs_and_guesses() {
     assert_eq!((warning.get("kind"), warning.get("line")), (&text("opens-nothing"), &Value::Number(2)));
     assert_eq!(warning.get("told"), &text("<<<\"RELIEF\" opens no block"));
     assert_eq!(warning.get("advice"), &text("Write <<<'RELIEF'."));
+    let advice = "It is read as a block here. Take away the blanks before the label.";
+    assert_eq!(json(b"<?php <<< 'A'\no\nA;").get("warnings").at(0).get("advice"), &text(advice));
     let heredoc = got.get("heredocs").at(0);
     assert_eq!((heredoc.get("first"), heredoc.get("last")), (&Value::Number(6), &Value::Number(9)));
     assert_eq!(heredoc.get("label").get("text"), &text("EOD"));

@@ -8,7 +8,7 @@ use std::process::{Command, Stdio};
 use common::tests_folder;
 
 /// Calls that write a text as a whole, lines with a summary, and tokens as they come.
-const CALLS: [&[&str]; 9] = [
+const CALLS: [&[&str]; 11] = [
     &["--help"],
     &["view", "--help"],
     &["view", "sheets/tabs.php"],
@@ -16,6 +16,8 @@ const CALLS: [&[&str]; 9] = [
     &["view", "--json", "sheets/many"],
     &["check", "sheets/many"],
     &["check", "--json", "sheets/many"],
+    &["at", "sheets/tabs.php", "1:1"],
+    &["cut", "sheets/octal.php", "2:6"],
     &["tokens", "sheets/tabs.php"],
     &["tokens", "--numbers", "sheets/tabs.php"],
 ];

@@ -67,8 +67,9 @@ fn records_are_the_rows_that_are_stored() {
         let (all, pool) = written(&script, &[]);
         let mut rows = String::new();
         let mut start = 0;
-        for Record { kind, detail, span, start: from, len } in all {
-            rows += &format!("{} {} {} {} {} {}\n", kind, span.line, span.column, span.position, detail, len);
+        for Record { kind, detail, span, start: from, len, end } in all {
+            let place = format!("{} {} {}", span.line, span.column, span.position);
+            rows += &format!("{} {} {} {} {}\n", kind, place, detail, len, end.unwrap_or(0));
             assert_eq!(from, start, "values stand one behind another");
             start += len;
         }
@@ -187,6 +188,37 @@ fn the_printed_form() {
     }
 }
 
+/// A file that an older writer made has 0 in the place of each end: the same lines, but that no end is stated. It goes
+/// to a list and back as it is.
+#[test]
+fn a_file_of_an_older_writer() {
+    for name in ["remarks", "station-forecourt", "tabs-before-closer"] {
+        let script = copy(name, "older");
+        written(&script, &["--sheet"]);
+        let file = beside(&script, ".records");
+        let mut old = fs::read(&file).unwrap();
+        old.chunks_mut(32).for_each(|record| record[28..].fill(0));
+        fs::write(&file, &old).unwrap();
+        assert_eq!(file_to_list(&old).and_then(|list| list_to_file(&list)), Ok(old));
+        let new = fs::read_to_string(tests_folder().join("printed").join(format!("{}.txt", name))).unwrap();
+        let want: String = new.lines().map(|line| without_end(line) + "\n").collect();
+        let got = print(&script);
+        assert_eq!((got.out, got.status, got.errors.as_str()), (want, Some(0), ""));
+    }
+}
+
+/// A line of a token as it is printed where its end is not stated; any other line as it is.
+fn without_end(line: &str) -> String {
+    let (place, rest) = line.split_once("..").unwrap_or((line, ""));
+    let is_place = |byte: &u8| byte.is_ascii_digit() || b": ".contains(byte);
+    match rest.split_once(' ') {
+        Some((_end, kind)) if !line.starts_with(' ') && place.as_bytes().iter().all(is_place) => {
+            format!("{}.. (end not stated) {}", place, kind)
+        }
+        _ => line.to_string(),
+    }
+}
+
 /// The first and the last line of what is printed.
 fn ends(got: &Run) -> (&str, &str) {
     (got.out.lines().next().unwrap(), got.out.lines().last().unwrap())
@@ -198,15 +230,15 @@ fn without_a_pool_and_with_one_too_short() {
     written(&script, &[]);
     fs::remove_file(beside(&script, ".records.choices")).unwrap();
     fs::write(beside(&script, ".pool"), "<?ph").unwrap();
-    let short = ("1:1 full open tag: 5 bytes, not in the pool", "8 tokens, no choices beside the file");
+    let short = ("1:1 0..5 full open tag: 5 bytes, not in the pool", "8 tokens, no choices beside the file");
     assert_eq!(ends(&print(&script)), short);
     fs::remove_file(beside(&script, ".pool")).unwrap();
-    let none = ("1:1 full open tag: 5 bytes", "8 tokens, no pool beside the file, no choices beside the file");
+    let none = ("1:1 0..5 full open tag: 5 bytes", "8 tokens, no pool beside the file, no choices beside the file");
     assert_eq!(ends(&print(&script)), none);
     fs::write(&script, "o").unwrap();
     written(&script, &[]);
     fs::remove_file(beside(&script, ".pool")).unwrap();
-    let one = ("1:1 inline text: 1 byte", "1 token, no pool beside the file, by the ported reading of sheet.php");
+    let one = ("1:1 0..1 inline text: 1 byte", "1 token, no pool beside the file, by the ported reading of sheet.php");
     let got = print(&script);
     assert_eq!((ends(&got), got.status), (one, Some(0)));
 }

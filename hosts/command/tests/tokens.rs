@@ -38,19 +38,29 @@ fn numbers_are_the_rows_that_are_stored() {
 
 #[test]
 fn a_line_for_a_person() {
-    let want = "1:1 full open tag: \"<?php\"\n1:7 single-quoted string: \"a\\\"b\"\n2:1 string part: \"  o\"\n\
-                2:1 end of text block, indented by spaces (2): \"A\"\n3:6 double-quoted string: \"\\xff\\xe9\"\n\
-                5 tokens, read to the end, 32 bytes\n";
+    let want = "1:1 0..5 full open tag: \"<?php\"\n1:7 6..11 single-quoted string: \"a\\\"b\"\n\
+                2:1 19..26 string part: \"  o\"\n2:1 19..26 end of text block, indented by spaces (2): \"A\"\n\
+                3:6 28..32 double-quoted string: \"\\xff\\xe9\"\n5 tokens, read to the end, 32 bytes\n";
     let got = call_on(&["tokens"], SCRIPT);
     assert_eq!((got.out.as_str(), got.status), (want, Some(0)));
     let got = call_on(&["tokens", "--sheet"], SCRIPT);
     assert_eq!((got.out, got.status), (want.replace("\"  o\"", "\"o\""), Some(0)));
 }
 
+/// The token of an empty script has no bytes, and an end at 0 is not stated.
+#[test]
+fn an_empty_script() {
+    let want = "1:1 0.. (end not stated) inline text: \"\"\n1 token, read to the end, 0 bytes\n";
+    assert_eq!(call(&["tokens"]).out, want);
+    assert_eq!(call(&["tokens", "--numbers"]).out, "1 1 1 0 0 0 0\nend 0\n");
+    let json = call(&["tokens", "--json"]).out;
+    assert!(json.contains("\"position\":0,\"end\":null,\"detail\":0,"), "{}", json);
+}
+
 #[test]
 fn a_refusal_for_a_person() {
     let want =
-        "1:1 full open tag: \"<?php\"\n1 token, then refused 1 at 1:9: something is still open where the script \
+        "1:1 0..5 full open tag: \"<?php\"\n1 token, then refused 1 at 1:9: something is still open where the script \
                 ends. Close the string, the text block, the command or the comment.\n";
     let got = call_on(&["tokens"], b"<?php 'a");
     assert_eq!((got.out.as_str(), got.status, got.errors.as_str()), (want, Some(1), ""));
@@ -58,26 +68,26 @@ fn a_refusal_for_a_person() {
 
 #[test]
 fn one_object_as_json() {
-    let token = |kind: &str, place: [u32; 3], rest: &str| {
-        let [line, column, position] = place;
-        format!("\n{{{},\"line\":{},\"column\":{},\"position\":{},{}}}", kind, line, column, position, rest)
+    let token = |kind: &str, [line, column, position, end]: [u32; 4], rest: &str| {
+        let place = format!("\"line\":{},\"column\":{},\"position\":{},\"end\":{}", line, column, position, end);
+        format!("\n{{{},{},{}}}", kind, place, rest)
     };
     let wild = format!("\"detail\":0,\"value\":{}", json::bytes(b"\xff\xe9"));
     assert!(wild.ends_with(",\"hex\":\"ffe9\"}"), "{}", wild);
     let tokens = [
-        token("\"kind\":2,\"name\":\"full open tag\"", [1, 1, 0], "\"detail\":0,\"value\":{\"text\":\"<?php\"}"),
+        token("\"kind\":2,\"name\":\"full open tag\"", [1, 1, 0, 5], "\"detail\":0,\"value\":{\"text\":\"<?php\"}"),
         token(
             "\"kind\":17,\"name\":\"single-quoted string\"",
-            [1, 7, 6],
+            [1, 7, 6, 11],
             "\"detail\":0,\"value\":{\"text\":\"a\\\"b\"}",
         ),
-        token("\"kind\":5,\"name\":\"string part\"", [2, 1, 19], "\"detail\":0,\"value\":{\"text\":\"o\"}"),
+        token("\"kind\":5,\"name\":\"string part\"", [2, 1, 19, 26], "\"detail\":0,\"value\":{\"text\":\"o\"}"),
         token(
             "\"kind\":12,\"name\":\"end of text block, indented by spaces\"",
-            [2, 1, 19],
+            [2, 1, 19, 26],
             "\"detail\":2,\"value\":{\"text\":\"A\"}",
         ),
-        token("\"kind\":18,\"name\":\"double-quoted string\"", [3, 6, 28], &wild),
+        token("\"kind\":18,\"name\":\"double-quoted string\"", [3, 6, 28, 32], &wild),
     ];
     let want = format!(
         "{{\"path\":\"standard input\",\"reading\":\"sheet\",\"tokens\":[{}],\

@@ -39,7 +39,7 @@ fn guess(is_guess: bool) -> &'static str {
 fn sentence(script: &[u8]) -> (String, String) {
     let sheet = Sheet::read(script);
     assert_eq!(sheet.warnings.len(), 1, "{:?}", String::from_utf8_lossy(script));
-    (sheet.warnings[0].told.clone(), sheet.warnings[0].advice.clone())
+    (sheet.warnings[0].told.clone(), sheet.warnings[0].whole_advice())
 }
 
 #[test]

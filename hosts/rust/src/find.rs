@@ -1,7 +1,8 @@
 //! Which record of a list is under a byte.
 
 use crate::foreign;
-use crate::numbers::layout::{FOUND, FOUND_ANY, FOUND_LOOKS, FOUND_RECORD};
+use crate::numbers::layout::{FOUND_ANY, FOUND_END, FOUND_ENDED, FOUND_LOOKS, FOUND_RECORD};
+use crate::record::stated;
 use crate::refusal::{given, Refusal};
 
 /// Which record is under a byte.
@@ -11,6 +12,9 @@ pub struct Found {
     pub record: Option<usize>,
     /// How many records were looked at: at most 17.
     pub looks: u32,
+    /// Where the step ended that wrote it, as its record says (`Record::end`); none where no record is found, or where
+    /// its end is not stated. A byte from there on has no token of that step.
+    pub end: Option<u32>,
 }
 
 /// The last of the first `count` records of a list whose position is at or before a byte, itself a position in the
@@ -22,8 +26,8 @@ pub struct Found {
 /// `count` is `Session::tokens` for all records of a session. Refused: a list of more than 65,537 places (11), then a
 /// count above its places (12).
 pub fn find(list: &[u32], count: usize, byte: usize) -> Result<Found, Refusal> {
-    let mut numbers = [0; FOUND];
+    let mut numbers = [0; FOUND_ENDED];
     let refusal = foreign::find(list, count, byte, &mut numbers);
     let record = Some(numbers[FOUND_RECORD] as usize).filter(|_| numbers[FOUND_ANY] != 0);
-    given(refusal, Found { record, looks: numbers[FOUND_LOOKS] })
+    given(refusal, Found { record, looks: numbers[FOUND_LOOKS], end: stated(numbers[FOUND_END]) })
 }

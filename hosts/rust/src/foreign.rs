@@ -3,7 +3,7 @@
 //! Each call lends slices that Rust holds to be whole and apart, and keeps none; the library asks for nothing else. This is the one
 //! place with unsafe code.
 
-use crate::numbers::layout::{ANSWER, ANSWER_COUNTED, FOUND, SESSION};
+use crate::numbers::layout::{ANSWER, ANSWER_COUNTED, FOUND_ENDED, SESSION};
 
 extern "C" {
     fn puretakoi_fresh(choices: u32, session: *mut u32, session_len: usize) -> u32;
@@ -197,7 +197,7 @@ pub fn file_to_list(file: &[u8], list: &mut [u32]) -> u32 {
     unsafe { puretakoi_file_to_list(file.as_ptr(), file.len(), list.as_mut_ptr(), list.len()) }
 }
 
-/// Which of the first `count` records of a list is under a byte; the refusal, or 0.
-pub fn find(list: &[u32], count: usize, byte: usize, found: &mut [u32; FOUND]) -> u32 {
-    unsafe { puretakoi_find(list.as_ptr(), list.len(), count, byte, found.as_mut_ptr(), FOUND) }
+/// Which of the first `count` records of a list is under a byte, and its end; the refusal, or 0.
+pub fn find(list: &[u32], count: usize, byte: usize, found: &mut [u32; FOUND_ENDED]) -> u32 {
+    unsafe { puretakoi_find(list.as_ptr(), list.len(), count, byte, found.as_mut_ptr(), FOUND_ENDED) }
 }

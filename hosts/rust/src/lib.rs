@@ -1,9 +1,10 @@
 //! Puretakoi for hosts in Rust on x86-64 Linux: the proved reader of PHP scripts behind calls that can't be misused.
 //!
 //! `tokens` gives the tokens of a whole script, `Tokens` one after another and by choices; `TokenList` keeps them, and
-//! tells which one is under a byte; `Stream` reads a script that comes in parts; `Session` is the library's own walk
-//! and step, with lent tables, and `find` looks up a byte in such a list. What can't be taken is refused by its number,
-//! and session and tables are then as they were; what the steps of a walk before it wrote stays. No call panics.
+//! tells which one is under a byte and where it ends; `Stream` reads a script that comes in parts; `Session` is the
+//! library's own walk and step, with lent tables, and `find` looks up a byte in such a list. What can't be taken is
+//! refused by its number, and session and tables are then as they were; what the steps of a walk before it wrote
+//! stays. No call panics.
 //!
 //! ```
 //! use puretakoi::{tokens, Kind, Reading, Reason, Tokens};
@@ -41,6 +42,20 @@
 //! let under = tokens.at(13).expect("the last token before it");
 //! assert_eq!((under.listed.number, under.listed.passed.contains(&13)), (1, false));
 //! assert_eq!(tokens.end(), Ok(18));
+//! ```
+//!
+//! A literal or a comment goes from its place up to its end, both quotes with it, and so can be cut out of the script.
+//! The finger is on byte 7; byte 13 is past the end of the token before it.
+//!
+//! ```
+//! use puretakoi::{Reading, TokenList};
+//!
+//! let script = b"<?php 'it\\'s' . 12;";
+//! let tokens = TokenList::new(script, Reading::Sheet);
+//! let literal = tokens.at(7).expect("a token is under byte 7").listed;
+//! let bytes = literal.written(script).expect("it is a literal");
+//! assert_eq!((&script[bytes.clone()], &literal.token.value[..]), (&b"'it\\'s'"[..], &b"it's"[..]));
+//! assert_eq!((literal.token.end, bytes.contains(&7), bytes.contains(&13)), (Some(13), true, false));
 //! ```
 
 #![deny(unsafe_code, missing_docs, missing_debug_implementations)]

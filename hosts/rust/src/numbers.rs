@@ -180,10 +180,15 @@ pub(crate) mod layout {
         RECORD_POSITION = 4;
         RECORD_START = 5;
         RECORD_LENGTH = 6;
+        RECORD_END = 7;
+        /// The least that can be lent; the wrapper lends one more, for the end.
+        #[allow(dead_code)]
         FOUND = 3;
+        FOUND_ENDED = 4;
         FOUND_ANY = 0;
         FOUND_RECORD = 1;
         FOUND_LOOKS = 2;
+        FOUND_END = 3;
     }
 }
 

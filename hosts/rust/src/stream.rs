@@ -1,13 +1,14 @@
 //! A script that comes in parts: its bytes, its session, and tables with room for many steps.
 
 use std::fmt;
+use std::ops::Range;
 
 use crate::choices::Choices;
 use crate::numbers::layout::RECORD;
 use crate::numbers::limits::MOST_BYTES;
 use crate::numbers::refusals::{LIST_FULL, OUT_OF_PLACE, POOL_FULL, WAIT};
 use crate::numbers::Kind;
-use crate::record::kind_name;
+use crate::record::{kind_name, written};
 use crate::refusal::{Refusal, Span};
 use crate::session::{End, Progress, Session};
 
@@ -27,6 +28,10 @@ pub struct Token {
     pub detail: u32,
     /// Where it stands.
     pub span: Span,
+    /// Where the step ended that wrote it: the cursor's position then. All tokens of a step bear one end, so that of a
+    /// string part is its step's and not the part's own. None where the end is not stated, as in files that an older
+    /// writer made, and for the token of an empty script.
+    pub end: Option<u32>,
     /// Its value.
     pub value: Vec<u8>,
 }
@@ -40,6 +45,13 @@ impl Token {
     /// Its kind in words.
     pub fn kind_name(&self) -> &'static str {
         kind_name(self.kind)
+    }
+
+    /// Where in its script a literal or a comment (kinds 17 to 21) stands as it is written, with both quotes: the
+    /// bytes from its position up to its end. None for other kinds, and where the end is not stated or these bytes are
+    /// not in the script.
+    pub fn written(&self, script: &[u8]) -> Option<Range<usize>> {
+        written(self.kind, self.span, self.end, script)
     }
 }
 

@@ -39,9 +39,9 @@ pub struct Listed {
     pub number: usize,
     /// The token.
     pub token: Token,
-    /// The bytes of the script that the step passed which wrote it. A byte within them is the token's, or that of
-    /// another token of the step, as a string part and the token after it are written by one; a byte after them has no
-    /// token.
+    /// The bytes of the script that the step passed which wrote it, up to the token's end. A byte within them is the
+    /// token's, or that of another token of the step, as a string part and the token after it are written by one; a
+    /// byte after them has no token.
     pub passed: Range<usize>,
     /// The frame that was on top before the step: what it read in.
     pub frame: Frame,
@@ -50,10 +50,17 @@ pub struct Listed {
 /// The token under a byte.
 #[derive(Clone, Debug, PartialEq, Eq, Hash)]
 pub struct Under {
-    /// The last token whose position is at or before the byte.
+    /// The last token whose position is at or before the byte. The byte may be after its end.
     pub listed: Listed,
     /// How many records were looked at: at most 17.
     pub looks: u32,
+}
+
+impl Listed {
+    /// Where in its script a literal or a comment stands as it is written, with both quotes: `Token::written`.
+    pub fn written(&self, script: &[u8]) -> Option<Range<usize>> {
+        self.token.written(script)
+    }
 }
 
 impl TokenList {

@@ -5,9 +5,10 @@ mod plain;
 use plain::last_at_or_before;
 use puretakoi::{find, limits, refusals, Found, Refusal, Span};
 
-/// A list of records at these positions. Their other numbers mean nothing here.
+/// A list of records at these positions, each with an end of its own: 1,001, 1,002 and so on. Their other numbers mean
+/// nothing here.
 fn list(positions: &[u32]) -> Vec<u32> {
-    positions.iter().flat_map(|position| [99, 99, 0, 0, *position, 7, u32::MAX, 1]).collect()
+    positions.iter().zip(1_001..).flat_map(|(position, end)| [99, 99, 0, 0, *position, 7, u32::MAX, end]).collect()
 }
 
 /// What is found at a byte among all records at these positions.
@@ -16,11 +17,11 @@ fn found(positions: &[u32], byte: usize) -> Found {
 }
 
 fn at(record: usize, looks: u32) -> Found {
-    Found { record: Some(record), looks }
+    Found { record: Some(record), looks, end: Some(1_001 + record as u32) }
 }
 
 fn none(looks: u32) -> Found {
-    Found { record: None, looks }
+    Found { record: None, looks, end: None }
 }
 
 fn refused(number: u32) -> Result<Found, Refusal> {
@@ -88,8 +89,8 @@ fn the_longest_list_takes_17_looks() {
     let at_byte = |byte| find(&longest, positions.len(), byte).unwrap();
     assert_eq!((at_byte(0), at_byte(usize::MAX)), (at(0, 17), at(65_536, 16)));
     for byte in 0..limits::MOST_TOKENS {
-        let Found { record, looks } = at_byte(byte);
-        assert_eq!((record, looks <= 17), (Some(byte), true), "{} looks", looks);
+        let Found { record, looks, end } = at_byte(byte);
+        assert_eq!((record, end, looks <= 17), (Some(byte), Some(1_001 + byte as u32), true), "{} looks", looks);
     }
     let later: Vec<u32> = (1..=limits::MOST_TOKENS as u32).collect();
     assert_eq!((found(&later, 0), found(&later[..65_535], 0)), (none(17), none(16)));
@@ -102,6 +103,18 @@ fn what_is_refused() {
     assert_eq!(find(&one_more, 0, 0), refused(refusals::TOO_LARGE));
     assert_eq!(find(&one_more, usize::MAX, 0), refused(refusals::TOO_LARGE));
     assert_eq!(find(&most, 65_538, 0), refused(refusals::BAD_SESSION));
-    assert_eq!((find(&[0; 15], 1, 0), find(&[0; 15], 2, 0)), (Ok(at(0, 1)), refused(refusals::BAD_SESSION)));
+    let first = Ok(Found { end: None, ..at(0, 1) });
+    assert_eq!((find(&[0; 15], 1, 0), find(&[0; 15], 2, 0)), (first, refused(refusals::BAD_SESSION)));
     assert_eq!(find(&[], usize::MAX, usize::MAX), refused(refusals::BAD_SESSION));
+}
+
+/// The end is the found record's own eighth number, whatever it is; 0 states none, as in lists of older writers.
+#[test]
+fn ends_of_found_records() {
+    let mut all = list(&[0, 3, 6]);
+    all[15] = 0;
+    all[23] = u32::MAX;
+    let end = |byte| find(&all, 3, byte).unwrap().end;
+    assert_eq!([end(0), end(2), end(3), end(5), end(6)], [Some(1_001), Some(1_001), None, None, Some(u32::MAX)]);
+    assert_eq!(find(&all, 0, 6), Ok(none(0)));
 }

@@ -2,8 +2,9 @@
 
 use puretakoi::{kinds, limits, refusals, tokens, Kind, Reading, Reason, Refusal, Span, Stream, Token, Tokens};
 
-fn token(kind: Kind, detail: u32, (line, column, position): (u32, u32, u32), value: &[u8]) -> Token {
-    Token { kind: kind.number(), detail, span: Span { line, column, position }, value: value.to_vec() }
+fn token(kind: Kind, detail: u32, (line, column, position): (u32, u32, u32), end: u32, value: &[u8]) -> Token {
+    let span = Span { line, column, position };
+    Token { kind: kind.number(), detail, span, end: Some(end), value: value.to_vec() }
 }
 
 /// The worked sheet o of document 01, in a script: by the sheet reading the rows lose the closing line's indentation.
@@ -11,9 +12,9 @@ fn token(kind: Kind, detail: u32, (line, column, position): (u32, u32, u32), val
 fn all_tokens_in_either_reading() {
     let script = b"<?php <<<'EOT'\n  ab\n   c\n\n  EOT;";
     let read = |rows: &[u8]| {
-        let tag = token(Kind::OpenTagFull, 0, (1, 1, 0), b"<?php");
-        let part = token(Kind::StringPart, 0, (2, 1, 15), rows);
-        vec![tag, part, token(Kind::EndDocStringSpace, 2, (2, 1, 15), b"EOT")]
+        let tag = token(Kind::OpenTagFull, 0, (1, 1, 0), 5, b"<?php");
+        let part = token(Kind::StringPart, 0, (2, 1, 15), 31, rows);
+        vec![tag, part, token(Kind::EndDocStringSpace, 2, (2, 1, 15), 31, b"EOT")]
     };
     assert_eq!(tokens(script), Ok(read(b"  ab\n   c\n")));
     let sheet: Result<Vec<Token>, Refusal> = Tokens::new(script, Reading::Sheet).collect();
@@ -26,8 +27,8 @@ fn a_refusal_is_the_last_item() {
     let script = b"<?php 1 'kerb";
     let refusal = Refusal { number: 1, span: Span { line: 1, column: 14, position: 13 } };
     let mut all = Tokens::new(script, Reading::Ported);
-    assert_eq!(all.next(), Some(Ok(token(Kind::OpenTagFull, 0, (1, 1, 0), b"<?php"))));
-    assert_eq!(all.next(), Some(Ok(token(Kind::LiteralInteger, 0, (1, 7, 6), b"1"))));
+    assert_eq!(all.next(), Some(Ok(token(Kind::OpenTagFull, 0, (1, 1, 0), 5, b"<?php"))));
+    assert_eq!(all.next(), Some(Ok(token(Kind::LiteralInteger, 0, (1, 7, 6), 7, b"1"))));
     assert_eq!((all.next(), all.next(), all.next()), (Some(Err(refusal)), None, None));
     assert_eq!(tokens(script), Err(refusal));
     assert_eq!(refusal.reason(), Some(Reason::UnexpectedEndOfFile));
@@ -38,7 +39,7 @@ fn a_refusal_is_the_last_item() {
 fn scripts_of_any_length() {
     let many = tokens(&[&b"<?php "[..], &b"1;".repeat(5_000)].concat()).unwrap();
     assert_eq!((many.len(), many[5_000].span.position), (5_001, 6 + 2 * 4_999));
-    assert_eq!(tokens(b""), Ok(vec![token(Kind::InlineHtml, 0, (1, 1, 0), b"")]));
+    assert_eq!(tokens(b""), Ok(vec![Token { end: None, ..token(Kind::InlineHtml, 0, (1, 1, 0), 0, b"") }]));
     let most = vec![b'a'; limits::MOST_BYTES];
     assert_eq!(tokens(&most).unwrap()[0].value, most);
     assert_eq!(tokens(&[&most[..], b"a"].concat()), Err(Refusal { number: refusals::TOO_LARGE, span: Span::START }));

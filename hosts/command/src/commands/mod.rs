@@ -4,12 +4,14 @@ pub mod arguments;
 pub mod at;
 pub mod check;
 pub mod choices;
+pub mod cut;
 pub mod many;
 pub mod options;
 pub mod output;
 pub mod place;
 pub mod pointed;
 pub mod pointed_json;
+pub mod pointing;
 pub mod printing;
 pub mod record_file;
 pub mod records;
@@ -39,7 +41,7 @@ pub struct Verb {
 }
 
 /// All verbs.
-const VERBS: &[&Verb] = &[&view::VERB, &check::VERB, &at::VERB, &tokens::VERB, &records::VERB];
+const VERBS: &[&Verb] = &[&view::VERB, &check::VERB, &at::VERB, &cut::VERB, &tokens::VERB, &records::VERB];
 
 /// How the command is called.
 const USAGE: &str = "usage: puretakoi VERB [OPTION..] PATH..";

@@ -98,7 +98,7 @@ pub const SHEET: Choice = flag(&["--sheet"], "reads nowdoc blocks as sheets, wit
 
 /// Nowdoc blocks are read as by the lexer that was carried over.
 pub const PORTED: Choice =
-    flag(&["--ported"], "tells the token that tokens prints without --sheet; no row, no cell, no warning");
+    flag(&["--ported"], "takes the token that tokens prints without --sheet; no row, no cell, no warning");
 
 /// Numbers alone.
 pub const NUMBERS: Choice = flag(&["--numbers"], "numbers alone, as the program rows prints them");

@@ -10,7 +10,7 @@ pub const ALL_GOOD: u8 = 0;
 /// A sheet is refused.
 pub const REFUSED: u8 = 1;
 
-/// The call is wrong, or a file can't be read or written.
+/// The call is wrong, a file can't be read or written, or nothing is there to cut.
 pub const NOT_DONE: u8 = 2;
 
 /// A sheet is read with a warning.
@@ -34,7 +34,12 @@ pub fn status(totals: &Totals) -> u8 {
 
 /// Writes a text; the status, unless no one takes the text.
 pub fn written(text: &str, status: u8) -> u8 {
-    print(text).map_or_else(|error| unwritten(&error), |_| status)
+    written_bytes(text.as_bytes(), status)
+}
+
+/// Writes bytes, which need not be characters; the status, unless no one takes them.
+pub fn written_bytes(bytes: &[u8], status: u8) -> u8 {
+    print_bytes(bytes).map_or_else(|error| unwritten(&error), |_| status)
 }
 
 /// Tells why standard output takes nothing, unless its reader is gone.
@@ -47,8 +52,12 @@ pub fn unwritten(error: &io::Error) -> u8 {
 
 /// Writes a text to standard output.
 pub fn print(text: &str) -> io::Result<()> {
+    print_bytes(text.as_bytes())
+}
+
+fn print_bytes(bytes: &[u8]) -> io::Result<()> {
     let mut out = io::stdout();
-    out.write_all(text.as_bytes())?;
+    out.write_all(bytes)?;
     out.flush()
 }
 

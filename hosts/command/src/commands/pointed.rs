@@ -1,5 +1,7 @@
 //! What a finger points at in a script, and how a person is told of it.
 
+use std::ops::Range;
+
 use puretakoi::{refusals, Frame, Listed, Span, Token, TokenList, Under};
 
 use crate::commands::check::{refused, refused_alone, Finding};
@@ -83,15 +85,36 @@ impl<'a> Pointed<'a> {
         lines.extend(self.token_lines());
         lines.push(self.looks());
         lines.extend(self.refusal.as_ref().map(|refusal| refusal.line(name).trim_end().to_string()));
-        lines.extend(self.warning.map(|warning| {
-            let told = shown(warning.sentence().as_bytes());
-            format!("PHP reads something else at {} ({}): {}", warning.span, warning.kind.name(), told)
-        }));
+        lines.extend(self.warning_in_words(Warning::sentence));
         lines.join("\n") + "\n"
     }
 
+    /// What PHP reads otherwise before or at the place, with what a sentence tells of the warning.
+    pub fn warning_in_words(&self, sentence: fn(&Warning) -> String) -> Option<String> {
+        let warning = self.warning?;
+        let told = shown(sentence(warning).as_bytes());
+        Some(format!("PHP reads something else at {} ({}): {}", warning.span, warning.kind.name(), told))
+    }
+
+    /// Where the step ended that wrote the token which the finger is in.
+    pub fn end(&self) -> Option<Span> {
+        self.spot.token()?.token.end.map(|end| span_at(self.script, end as usize))
+    }
+
+    /// The bytes of the literal or the comment that the finger is in. The token that is found may have ended before.
+    pub fn literal(&self) -> Option<Range<usize>> {
+        let bytes = self.under.as_ref()?.listed.written(self.script)?;
+        Some(bytes).filter(|bytes| bytes.contains(&(self.span.position as usize)))
+    }
+
+    /// Where all literals and comments that are read begin.
+    pub fn literals(&self) -> Vec<Span> {
+        let all = self.tokens.iter().filter(|listed| listed.written(self.script).is_some());
+        all.map(|listed| listed.token.span).collect()
+    }
+
     /// The character at the place, in words.
-    fn sign(&self) -> String {
+    pub fn sign(&self) -> String {
         let rest = self.script.get(self.span.position as usize..).unwrap_or_default();
         let mark = Mark::new(self.script, self.span);
         match (rest.first(), split(&mark.text, mark.at).1.first()) {
@@ -120,12 +143,15 @@ impl<'a> Pointed<'a> {
             [Some(what.to_string()), before, after].into_iter().flatten().collect()
         };
         match &self.spot {
-            Spot::Token(listed, _own) => {
-                let token = self.listed_line("In", listed, token::line);
-                [Some(token), self.own_in_words(), self.line_in_words(listed)].into_iter().flatten().collect()
+            Spot::Token(listed, own) => {
+                let token = self.listed_line("In", listed, token::line_without_end);
+                let told = [Some(token), self.own_in_words(), self.end_in_words(own.end), self.line_in_words(listed)];
+                told.into_iter().flatten().collect()
             }
             Spot::ClosingIndentation(closer) => {
-                vec![self.listed_line("In the indentation of the closing line,", closer, token::line)]
+                let place = "In the indentation of the closing line,";
+                let token = self.listed_line(place, closer, token::line_without_end);
+                [Some(token), self.end_in_words(closer.passed.end)].into_iter().flatten().collect()
             }
             Spot::Between(..) => between("No token has this byte."),
             Spot::LostBreak(..) => between("No token has this line break: it is left out."),
@@ -157,6 +183,14 @@ impl<'a> Pointed<'a> {
         Some(format!("It bears the place of {}, and begins at {}, byte {}.", place_of, start, own.start))
     }
 
+    /// Where the token ends that the finger is in, and where its step ends, if that wrote another token after it.
+    fn end_in_words(&self, own_end: usize) -> Option<String> {
+        let (end, own) = (self.end()?, span_at(self.script, own_end));
+        let its_step = format!("; its step ends before {}, byte {}", end, end.position);
+        let its_step = if own == end { String::new() } else { its_step };
+        Some(format!("It ends before {}, byte {}{}.", own, own.position, its_step))
+    }
+
     /// Whose place a token bears that begins after it: that of its step's text, or of what no token has.
     fn place_of(&self, listed: &Listed) -> &'static str {
         let before = listed.number.checked_sub(1).and_then(|number| self.tokens.get(number));
@@ -181,15 +215,24 @@ impl<'a> Pointed<'a> {
     /// Where in a token the place is, if no block that is shown tells it: its line, the text block, the closing label.
     fn line_in_words(&self, listed: &Listed) -> Option<String> {
         let line = self.line_of_token().map(|(number, count)| format!("line {} of its {} lines", number, count));
-        let (kind, label) = match listed.frame {
+        let block = match self.text_block(listed.frame) {
             _ if self.touch.is_some() => return None,
-            Frame::Heredoc(label) => ("heredoc", label),
-            Frame::Nowdoc(label) => ("nowdoc block", label),
-            _ => return line.map(|line| format!("It is {} in the script.", line)),
+            Some(block) => block,
+            None => return line.map(|line| format!("It is {} in the script.", line)),
         };
         let place = if is_closer(listed) { Some("the closing label".to_string()) } else { line };
         let place = place.map_or_else(String::new, |place| format!("{}, ", place));
-        Some(format!("It is {}in the {} {}.", place, kind, shown(label.bytes(self.script)?)))
+        Some(format!("It is {}in the {}.", place, block))
+    }
+
+    /// The text block that a frame reads, in words.
+    pub fn text_block(&self, frame: Frame) -> Option<String> {
+        let (kind, label) = match frame {
+            Frame::Heredoc(label) => ("heredoc", label),
+            Frame::Nowdoc(label) => ("nowdoc block", label),
+            _ => return None,
+        };
+        Some(format!("{} {}", kind, shown(label.bytes(self.script)?)))
     }
 
     /// How many records were looked at, and which token that led to, if the finger is not in it.

@@ -3,10 +3,11 @@
 //! One object: `path`, `reading`, the place as `line`, `column` and `position`; `where`, one of `token`,
 //! `closing-indentation`, `between`, `lost-break`, `end` and `unread`; `tokens`, how many there are, `looks`, how many
 //! of them were looked at, `found`, the number of the one that this led to; `token`, `before` and `after`, each a
-//! token with its number, or null; `bytes`, the token's first byte in the script and the one after its last; `lines`,
-//! the line of the token and how many it has, where it has several; `block`, the block of `view` with its number, and
-//! with `part`, `row`, which is a number and the row's bytes, and `cell`; `refusal` and `warning`. Tokens, lines,
-//! blocks, rows and cells count from 1.
+//! token with its number and its end, or null; `bytes`, the token's first byte in the script and the one after its
+//! last; `end`, where the step ended that wrote the token, as `line`, `column` and `position`; `lines`, the line of
+//! the token and how many it has, where it has several; `block`, the block of `view` with its number, and with `part`,
+//! `row`, which is a number and the row's bytes, and `cell`; `refusal` and `warning`. Tokens, lines, blocks, rows and
+//! cells count from 1.
 
 use puretakoi::{Listed, Reading};
 
@@ -39,6 +40,7 @@ pub fn object(name: &str, reading: Reading, pointed: &Pointed) -> String {
         ("found", or_null(found)),
         ("token", or_null(spot.token().map(listed))),
         ("bytes", or_null(bytes)),
+        ("end", or_null(pointed.end().map(|end| json::object(&place_fields(end))))),
         ("lines", or_null(lines)),
         ("before", or_null(spot.before().map(listed))),
         ("after", or_null(spot.after().map(listed))),

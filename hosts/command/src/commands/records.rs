@@ -24,7 +24,9 @@ pub const VERB: Verb = Verb {
 Beside each script it writes FILE.records, 32 bytes a token, FILE.pool, their values, and FILE.records.choices, which
 says by which reading and of which bytes. Of a script that is refused or can't be read nothing is left, old files
 neither.
-With --print FILE is one record file; a warning tells where its choices do not fit it or the script has changed.",
+With --print FILE is one record file. A token is a line as of puretakoi tokens; `end not stated` is said of the tokens
+of a file that an older writer made, and always of the token of an empty script. A warning tells where its choices do
+not fit it or the script has changed.",
     run,
 };
 

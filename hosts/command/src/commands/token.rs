@@ -5,21 +5,26 @@ use puretakoi::{Record, Span, Token};
 use crate::reading::fault::counted;
 use crate::showing::json::{self, Field};
 
-/// A token for a person: where it stands, what it is, and its value.
+/// A token for a person: where it stands and ends, what it is, and its value.
 pub fn line(token: &Token) -> String {
-    told(token.span, token.kind_name(), token.detail, &value_text(&token.value))
+    told(&with_end(token.span, token.end), token.kind_name(), token.detail, &value_text(&token.value))
 }
 
-/// A token for a person in one line: of a value of several lines how long it is.
+/// A token for a person without its end.
+pub fn line_without_end(token: &Token) -> String {
+    told(&token.span.to_string(), token.kind_name(), token.detail, &value_text(&token.value))
+}
+
+/// A token for a person in one line, without its end: of a value of several lines how long it is.
 pub fn short_line(token: &Token) -> String {
     let value = match value_lines(&token.value).len() {
         0 | 1 => value_text(&token.value),
         _ => length_text(token.value.len()),
     };
-    told(token.span, token.kind_name(), token.detail, &value)
+    told(&token.span.to_string(), token.kind_name(), token.detail, &value)
 }
 
-/// A record for a person; where its value is not there, how long it is.
+/// A record for a person, with its end; where its value is not there, how long it is.
 pub fn record_line(record: &Record, pool: Option<&[u8]>) -> String {
     let length = length_text(record.len as usize);
     let value = match pool.map(|pool| record.value(pool)) {
@@ -27,13 +32,14 @@ pub fn record_line(record: &Record, pool: Option<&[u8]>) -> String {
         Some(None) => format!("{}, not in the pool", length),
         None => length,
     };
-    told(record.span, record.kind_name(), record.detail, &value)
+    told(&with_end(record.span, record.end), record.kind_name(), record.detail, &value)
 }
 
-/// A token as the program rows prints it.
+/// A token as the program rows prints it: an end that is not stated is 0.
 pub fn numbers(token: &Token) -> String {
-    let Token { kind, detail, span, value } = token;
-    format!("{} {} {} {} {} {}", kind, span.line, span.column, span.position, detail, value.len())
+    let Token { kind, detail, span, end, value } = token;
+    let (length, end) = (value.len(), end.unwrap_or(0));
+    format!("{} {} {} {} {} {} {}", kind, span.line, span.column, span.position, detail, length, end)
 }
 
 /// A token as an object.
@@ -44,13 +50,22 @@ pub fn object(token: &Token) -> String {
 /// A token as fields of an object.
 pub fn fields(token: &Token) -> Vec<Field> {
     let kind = vec![("kind", token.kind.to_string()), ("name", json::string(token.kind_name()))];
-    let value = vec![("detail", token.detail.to_string()), ("value", json::bytes(&token.value))];
+    let end = token.end.map_or_else(|| "null".to_string(), |end| end.to_string());
+    let value = vec![("end", end), ("detail", token.detail.to_string()), ("value", json::bytes(&token.value))];
     [kind, json::place_fields(token.span), value].concat()
 }
 
-fn told(span: Span, kind: &str, detail: u32, value: &str) -> String {
+/// A place with its byte, and the byte up to which its token's step goes.
+fn with_end(span: Span, end: Option<u32>) -> String {
+    match end {
+        Some(end) => format!("{} {}..{}", span, span.position, end),
+        None => format!("{} {}.. (end not stated)", span, span.position),
+    }
+}
+
+fn told(place: &str, kind: &str, detail: u32, value: &str) -> String {
     let detail = if detail == 0 { String::new() } else { format!(" ({})", detail) };
-    format!("{} {}{}:{}", span, kind, detail, value)
+    format!("{} {}{}:{}", place, kind, detail, value)
 }
 
 /// A value behind the colon, or its lines below.

@@ -21,9 +21,10 @@ pub const VERB: Verb = Verb {
     operands: "[FILE]",
     about: "prints the tokens of a script with their places and values",
     more: "\
-FILE is a script; none, or -, is standard input. A token is a line: line:column, kind, detail in round brackets, value;
-the lines of a longer value stand below it. --numbers prints kind, line, column, position, detail and length of the
-value, last `end` and the position, or `refused`, the number and its place. --json prints one object.",
+FILE is a script; none, or -, is standard input. A token is a line: line:column, its byte and the byte up to which its
+step was read as 6..12, kind, detail in round brackets, value; the lines of a longer value stand below it. --numbers
+prints kind, line, column, position, detail, length of the value and end, last `end` and the position, or `refused`,
+the number and its place. --json prints one object.",
     run,
 };
 

@@ -75,6 +75,8 @@ pub struct Warning {
     pub mark: Option<Mark>,
     /// What is there: a sentence without its full stop, which may begin with a small letter or a sign.
     pub told: String,
+    /// How the sheet is read on there: a whole sentence, or nothing.
+    pub read_on: String,
     /// What to do: whole sentences.
     pub advice: String,
 }
@@ -83,11 +85,29 @@ impl Warning {
     /// A warning on a whole script.
     pub fn of_all(kind: Kind, told: &str, advice: &str) -> Warning {
         let (told, advice) = (told.to_string(), advice.to_string());
-        Warning { kind, span: Span::START, mark: None, told, advice }
+        Warning { kind, span: Span::START, mark: None, told, read_on: String::new(), advice }
     }
 
-    /// What is there and what to do, in one line.
+    /// It with a sentence on how the sheet is read on.
+    pub fn with_read_on(self, read_on: &str) -> Warning {
+        Warning { read_on: read_on.to_string(), ..self }
+    }
+
+    /// What is there, how the sheet is read on and what to do, in one line.
     pub fn sentence(&self) -> String {
+        format!("{}. {}", self.told, self.whole_advice())
+    }
+
+    /// What is there and what to do, in one line, for those who do not read on so.
+    pub fn short_sentence(&self) -> String {
         format!("{}. {}", self.told, self.advice)
+    }
+
+    /// How the sheet is read on and what to do.
+    pub fn whole_advice(&self) -> String {
+        match self.read_on.is_empty() {
+            true => self.advice.clone(),
+            false => format!("{} {}", self.read_on, self.advice),
+        }
     }
 }

@@ -70,7 +70,8 @@ pub fn look(script: &[u8], step: &Step, reader: &Reader) -> Option<Finding> {
 /// A warning at a position.
 pub fn warning(script: &[u8], kind: Kind, at: usize, told: String, advice: &str) -> Warning {
     let span = span_at(script, at);
-    Warning { kind, span, mark: Some(Mark::new(script, span)), told, advice: advice.to_string() }
+    let mark = Some(Mark::new(script, span));
+    Warning { kind, span, mark, told, read_on: String::new(), advice: advice.to_string() }
 }
 
 /// An open tag that PHP takes for text. That of XML is text in every setting that reads the script at all.
@@ -85,9 +86,11 @@ fn look_at_tag(script: &[u8], step: &Step) -> Option<Finding> {
     }
     let is_xml = script[at..].get(2..5).map_or(false, |name| name.eq_ignore_ascii_case(b"xml"));
     let told = "PHP takes <? for an open tag only where the setting short_open_tag is on".to_string();
-    let advice = if is_xml { "It is read as text here. Print it from a string." } else { "Write <?php." };
-    let mend = if is_xml { Mend::Mask(at) } else { Mend::Keep };
-    Some(Finding::new(warning(script, Kind::OpenTag, at, told, advice), mend))
+    if !is_xml {
+        return keep(warning(script, Kind::OpenTag, at, told, "Write <?php."));
+    }
+    let warning = warning(script, Kind::OpenTag, at, told, "Print it from a string.");
+    Some(Finding::new(warning.with_read_on("It is read as text here."), Mend::Mask(at)))
 }
 
 fn look_at_script(script: &[u8], step: &Step, reader: &Reader) -> Option<Finding> {
@@ -108,8 +111,9 @@ fn look_at_first_line(script: &[u8], step: &Step, label: Label, reader: &Reader)
     let last = reader.closing_line();
     let library = last.map_or_else(|| "finds no closing line".to_string(), |last| format!("goes on to line {}", last));
     let told = format!("PHP closes this heredoc at line {}; the library's reading {}", line, library);
-    let advice = "It is closed as in PHP here. Write a line between, or an empty string.";
+    let advice = "Write a line between, or an empty string.";
     let warning = warning(script, Kind::ClosesElsewhere, step.before.position() as usize, told, advice);
+    let warning = warning.with_read_on("It is closed as in PHP here.");
     let hidden = Some(line..last.unwrap_or(u32::MAX));
     Some(Finding { warning, mend: Mend::CloseHeredoc(label, closer), hidden })
 }
@@ -119,16 +123,17 @@ fn look_at_remark(script: &[u8], step: &Step) -> Option<Finding> {
     let (from, to) = (step.before.position() as usize, step.after.position() as usize);
     let at = lone_return(script, from..to).filter(|_| !script[from..].starts_with(b"/*"))?;
     let told = "PHP ends this remark at a CR; the library goes on to the line's end".to_string();
-    let advice = "It is ended as in PHP here. End the line in LF or CRLF.";
-    Some(Finding::new(warning(script, Kind::RemarkGoesOn, from, told, advice), Mend::CutRemark(at)))
+    let warning = warning(script, Kind::RemarkGoesOn, from, told, "End the line in LF or CRLF.");
+    Some(Finding::new(warning.with_read_on("It is ended as in PHP here."), Mend::CutRemark(at)))
 }
 
 fn look_at_halt(script: &[u8], step: &Step) -> Option<Finding> {
     let at = step.before.position() as usize;
     halt_end(script, at)?;
     let told = "PHP reads nothing behind __halt_compiler".to_string();
-    let advice = "What follows is not read here either. Take it away, or move it, if blocks stand behind it.";
-    Some(Finding::new(warning(script, Kind::HaltCompiler, at, told, advice), Mend::Stop))
+    let advice = "Take it away, or move it, if blocks stand behind it.";
+    let warning = warning(script, Kind::HaltCompiler, at, told, advice);
+    Some(Finding::new(warning.with_read_on("What follows is not read here either."), Mend::Stop))
 }
 
 /// A `<<<` that the library passes.
@@ -140,8 +145,8 @@ fn opens_nothing(script: &[u8], at: usize) -> Finding {
             let told = format!("{} opens no block{}", there, what_php_does(&meant));
             let advice = meant.forms.iter().map(|form| what_to_write(*form)).collect::<Vec<_>>().join(" ");
             let mend = mend_of(script, &meant);
-            let read = how_it_is_read(script, &mend);
-            Finding::new(warning(script, Kind::OpensNothing, at, told, &format!("{}{}", read, advice)), mend)
+            let warning = warning(script, Kind::OpensNothing, at, told, &advice);
+            Finding::new(warning.with_read_on(&how_it_is_read(script, &mend)), mend)
         }
         None => {
             let told = format!("{} opens no block", there);
@@ -193,8 +198,8 @@ fn mend_of(script: &[u8], meant: &Meant) -> Mend {
 /// How a block is read that is meant.
 fn how_it_is_read(script: &[u8], mend: &Mend) -> String {
     match mend {
-        Mend::GoOn(at, Frame::Scripting) => format!("It is passed here, up to line {}. ", span_at(script, *at).line),
-        Mend::GoOn(..) | Mend::CloseHeredoc(..) => "It is read as a block here. ".to_string(),
+        Mend::GoOn(at, Frame::Scripting) => format!("It is passed here, up to line {}.", span_at(script, *at).line),
+        Mend::GoOn(..) | Mend::CloseHeredoc(..) => "It is read as a block here.".to_string(),
         _ => String::new(),
     }
 }
@@ -206,15 +211,16 @@ fn look_at_heredoc(script: &[u8], step: &Step, label: Label) -> Option<Finding> 
     let is_closed = step.after.top() == Some(Frame::Scripting) && step.after.depth() == step.before.depth();
     if let Some(there) = closer(script, from..to, name).filter(|there| there.end < to || !is_closed) {
         let told = format!("PHP closes this heredoc at {}, behind a CR alone", span_at(script, there.label));
-        let advice = "It is closed as in PHP here. End the line before in LF or CRLF.";
-        let warning = warning(script, Kind::ClosesElsewhere, there.label, told, advice);
+        let warning = warning(script, Kind::ClosesElsewhere, there.label, told, "End the line before in LF or CRLF.");
+        let warning = warning.with_read_on("It is closed as in PHP here.");
         return Some(Finding::new(warning, Mend::CloseHeredoc(label, there)));
     }
     let goes_on = is_closed && script.get(to).map_or(false, |byte| is_part_of_a_word(*byte));
     let at = to.checked_sub(name.len()).filter(|_| goes_on)?;
     let told = format!("the library closes the heredoc here; PHP does not, for a word goes on behind {}", shown(name));
-    let advice = "It is read on as in PHP here. Choose a label that no line of the text begins with.";
-    Some(Finding::new(warning(script, Kind::ClosesElsewhere, at, told, advice), Mend::Mask(at)))
+    let advice = "Choose a label that no line of the text begins with.";
+    let warning = warning(script, Kind::ClosesElsewhere, at, told, advice);
+    Some(Finding::new(warning.with_read_on("It is read on as in PHP here."), Mend::Mask(at)))
 }
 
 /// Rows with a CR that no LF follows, which PHP takes for a break.
@@ -269,9 +275,9 @@ fn look_at_offset(script: &[u8], step: &Step) -> Option<Finding> {
     let rest = script.get(at..)?;
     rest.first().filter(|byte| !is_bracket && !is_offset(**byte) && **byte != b']')?;
     let told = format!("PHP refuses {} in the brackets behind a variable", character_in_words(rest));
-    let advice =
-        "The string goes on there. Write a name, a number or a variable in them, or all of it in braces: {$a['b']}.";
-    Some(Finding::new(warning(script, Kind::Offset, at, told, advice), Mend::Leave))
+    let advice = "Write a name, a number or a variable in them, or all of it in braces: {$a['b']}.";
+    let warning = warning(script, Kind::Offset, at, told, advice);
+    Some(Finding::new(warning.with_read_on("The string goes on there."), Mend::Leave))
 }
 
 /// Where a variable, a brace or a closing backtick stands that a step read last.
@@ -286,8 +292,8 @@ fn interpolation(step: &Step, last: &Record) -> Option<usize> {
 }
 
 fn escape(script: &[u8], at: usize, told: &str) -> Finding {
-    let advice = "It is read as in PHP here. Write it in another way.";
-    Finding::new(warning(script, Kind::Escape, at, told.to_string(), advice), Mend::Mask(at))
+    let warning = warning(script, Kind::Escape, at, told.to_string(), "Write it in another way.");
+    Finding::new(warning.with_read_on("It is read as in PHP here."), Mend::Mask(at))
 }
 
 fn keep(warning: Warning) -> Option<Finding> {

@@ -135,7 +135,7 @@ fn remark(remark: &Remark) -> String {
 pub fn warning(warning: &Warning) -> String {
     let mut fields = vec![("kind", string(warning.kind.name()))];
     fields.extend(place_fields(warning.span));
-    fields.extend([("told", string(&warning.told)), ("advice", string(&warning.advice))]);
+    fields.extend([("told", string(&warning.told)), ("advice", string(&warning.whole_advice()))]);
     object(&fields)
 }
 

@@ -35,6 +35,12 @@ pub fn call(words: &[&str]) -> Run {
 
 /// Runs the program with bytes on its standard input.
 pub fn call_on(words: &[&str], input: &[u8]) -> Run {
+    let (status, out, errors) = call_for_bytes(words, input);
+    Run { status, out: String::from_utf8(out).expect("the program writes UTF-8"), errors }
+}
+
+/// Runs the program with bytes on its standard input: the status, what it writes, and its errors.
+pub fn call_for_bytes(words: &[&str], input: &[u8]) -> (Option<i32>, Vec<u8>, String) {
     let mut program = Command::new(env!("CARGO_BIN_EXE_puretakoi"));
     let program = program.args(words).current_dir(tests_folder());
     let program = program.stdin(Stdio::piped()).stdout(Stdio::piped()).stderr(Stdio::piped());
@@ -42,8 +48,8 @@ pub fn call_on(words: &[&str], input: &[u8]) -> Run {
     // A program that reads no input may have ended.
     child.stdin.take().map(|mut pipe| pipe.write_all(input));
     let done = child.wait_with_output().expect("the program ends");
-    let text = |bytes| String::from_utf8(bytes).expect("the program writes UTF-8");
-    Run { status: done.status.code(), out: text(done.stdout), errors: text(done.stderr) }
+    let errors = String::from_utf8(done.stderr).expect("the program tells errors in UTF-8");
+    (done.status.code(), done.stdout, errors)
 }
 
 pub fn stored(name: &str) -> String {
@@ -61,6 +67,12 @@ pub fn empty_folder(name: &str) -> PathBuf {
 /// A path as a word.
 pub fn word(path: &Path) -> &str {
     path.to_str().expect("a path in UTF-8")
+}
+
+/// The scripts of a folder.
+pub fn scripts(folder: PathBuf) -> Vec<PathBuf> {
+    let paths = fs::read_dir(folder).expect("a folder").map(|entry| entry.expect("an entry").path());
+    paths.filter(|path| path.extension().map_or(false, |extension| extension == "php")).collect()
 }
 
 /// A sample sheet of the repository.

@@ -25,6 +25,7 @@ pub fn warned() -> Sheet {
         span: span(2, 6, 11),
         mark: Some(Mark { line: 2, text: b"$a = <<<\"RELIEF\"".to_vec(), at: 5 }),
         told: "<<<\"RELIEF\" opens no block".to_string(),
+        read_on: String::new(),
         advice: "Write <<<'RELIEF'.".to_string(),
     };
     let cr_lines = Warning {
@@ -32,6 +33,7 @@ pub fn warned() -> Sheet {
         span: Span::START,
         mark: None,
         told: "the lines end in CR".to_string(),
+        read_on: String::new(),
         advice: "Use LF.".to_string(),
     };
     let (blocks, heredocs) = parts(false);
