@@ -245,8 +245,8 @@ uint32_t puretakoi_file_to_list(const uint8_t *file, size_t file_len, uint32_t *
  * session and the records that the last one left, it is what a look at every record would find: of records at one
  * position the last. In a list whose positions fall it is what the halving comes to: a record at or before the byte, or
  * none, and the same each time. A byte past all records gives the last. A fourth number of `found` is the record's end:
- * a byte before it lies in the token, or in text that its step passed. Refused, with nothing written: a `found` of fewer
- * than 3 numbers (10), a list of more than 65,537 places (11), a count above its places (12). */
+ * a byte before it lies in the token, or in text that its step passed. Refused, with nothing written: a `found` of
+ * fewer than 3 numbers (10), a list of more than 65,537 places (11), a count above its places (12). */
 uint32_t puretakoi_find(const uint32_t *list, size_t list_len, size_t count, size_t byte, uint32_t *found,
                         size_t found_len);
 

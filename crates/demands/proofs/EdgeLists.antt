@@ -1,7 +1,5 @@
 -- Where the steps ended that filled a list. Assumes nothing.
---   Grows          records and value bytes that stood before a call, or a walk, stand after it; the cursor does not go
---                  back
---   call-grows, walk-grows     so after a call, and after any number of steps
+--   call-grows, walk-grows     records and value bytes that stood before a call, or a walk, stand after it
 --   filled-edges   in a list that was filled from empty ends never fall
 --   walk-new       each record that a walk writes ends where its own step did
 --   cuts-new       so does each record of a script in parts: as in a walk over the uncut script
@@ -19,84 +17,48 @@ use Rattle.state.specs.declared.Answer.{Answer}
 use Rattle.state.specs.declared.Choices.{Choices}
 use Rattle.state.specs.declared.Session.{Session}
 use Rattle.state.specs.declared.Turn.{Turn}
-use Rattle.state.specs.Calls.{spanOf, freshSession}
+use Rattle.state.specs.Calls.{freshSession}
 use Rattle.state.specs.Gates.{tablesFit}
 use Rattle.state.proofs.Kept.{Stays, skip-stays, push-stays, pop-stays}
 use Rattle.token.specs.declared.Token.{Token}
 use Rattle.token.specs.Records.{tokenIn}
 use Rattle.token.proofs.Tokens.{tokenIn-same}
 use Rattle.outcome.specs.declared.Call.{Call}
-use Rattle.outcome.specs.declared.Change.{Change}
-use Rattle.outcome.specs.Outcomes.{Piece, values}
-use Rattle.outcome.specs.Insides.{Inside, ToldInside}
 use Rattle.outcome.specs.Steps.{callOutcome}
 use Rattle.outcome.specs.Written.{AsWritten}
 use Rattle.outcome.proofs.StepWays.{call-inside}
-use Rattle.commit.proofs.Putting.{room-facts, put-laid}
-use Rattle.lexer.specs.Turns.{After, markOf}
+use Rattle.lexer.specs.Turns.{After}
 use Rattle.lexer.specs.Calls.{called, stepped}
-use Rattle.lexer.proofs.Nexts.{room, written, settled-cases}
+use Rattle.lexer.proofs.Nexts.{written, settled-cases}
 use Rattle.demands.specs.Walks.{goOn, walked, joined, fed}
 use Rattle.demands.specs.Filled.{Filled, empty, call, lend, skip, push, pop}
 use Rattle.demands.specs.Edges.{valueIn, writtenIn, IsNew, Literally, IsOnward, IsStated, NewToken, Edges}
 use Rattle.demands.specs.Edges.{StepOf}
-use Rattle.demands.proofs.Rising.{drop-take, laid-front, span-place, goOn-either}
+use Rattle.demands.proofs.Rising.{drop-take, goOn-either}
 use Rattle.demands.proofs.Ends.{cuts-whole}
 use Rattle.demands.proofs.Refusals.{called-cases}
-use Rattle.demands.proofs.Taken.{take-less}
+use Rattle.demands.proofs.Narrow.{settled-narrow}
+use Rattle.demands.proofs.Taken.{Grows, grows-none, grows-both, written-grows, take-less}
 use Rattle.demands.proofs.Edges.{call-new}
 
 -- ---- what stood before stands
 
-pub record Grows (s : Session) (l q : List ℕ) (a : After) : Type 0 where
-  pub tokens : s .tokens ≤ a .turn .session .tokens
-  pub bytes : s .bytes ≤ a .turn .session .bytes
-  pub onward : s .position ≤ a .turn .session .position
-  pub list : take (s .tokens * 8) (a .list) ≡ take (s .tokens * 8) l
-  pub pool : take (s .bytes) (a .pool) ≡ take (s .bytes) q
-
-grows-none : (s : Session) (l q : List ℕ) (answer : Answer)
-    → Grows s l q (record { turn = record { answer = answer; session = s }; list = l; pool = q })
-grows-none s l q answer =
-    record { tokens = omega arith; bytes = omega arith; onward = omega arith; list = refl; pool = refl }
-
-grows-both : {s : Session} {l q : List ℕ} {a b : After} → Grows s l q a
-    → Grows (a .turn .session) (a .list) (a .pool) b → Grows s l q b
-grows-both {s} {l} {q} {a} {b} v w = record {
-  tokens = omega (arith, v .tokens, w .tokens);
-  bytes = omega (arith, v .bytes, w .bytes);
-  onward = omega (arith, v .onward, w .onward);
-  list =
-      take-less (s .tokens * 8) (a .turn .session .tokens * 8) (b .list) (a .list) (omega (arith, v .tokens)) (w .list)
-      ∙ v .list;
-  pool = take-less (s .bytes) (a .turn .session .bytes) (b .pool) (a .pool) (v .bytes) (w .pool) ∙ v .pool;
-}
-
 module _ (src : List ℕ) (s : Session) (l q : List ℕ) where
-  written-grows : (pieces : List Piece) (after : ℕ) (change : Change) (finished : Bool) → room src s l q pieces ≡ 0
-      → ToldInside (s .position) (length src) pieces after
-      → Grows s l q (written src s l q pieces after change finished)
-  written-grows pieces after change finished e i =
-      let fits = room-facts (length l) (length q) (s .tokens) (s .bytes) (length pieces) (length (values pieces)) e in
-      let put-so = put-laid src after pieces (markOf s) (record { list = l; pool = q }) (fits .0) (fits .1) in
-      let there = span-place src (spanOf s) after (i .order) (i .inside) in
-      record {
-        tokens = omega arith;
-        bytes = omega arith;
-        onward = omega (arith, there, i .order);
-        list = rw (put-so .0) (laid-front l (s .tokens * 8) _ (omega (arith, fits .0)));
-        pool = rw (put-so .1) (laid-front q (s .bytes) _ (omega (arith, fits .1)));
-      }
-
   pub call-grows : (c : Call) (end : Bool) → Grows s l q (called c src end s l q)
   call-grows c end =
       called-cases c src end s l q (Grows s l q)
       (λ h.
-      settled-cases src s l q (λ o a. Inside (s .position) (length src) o → Grows s l q a)
-      (λ pieces after change finished e i. written-grows pieces after change finished e i)
-      (λ pieces after change finished i. grows-none s l q _) (λ number place i. grows-none s l q _)
-      (λ i. grows-none s l q _) (callOutcome c src end s) (call-inside c src end s h))
+      settled-cases src s l q (λ o a. Grows s l q a)
+      (λ pieces after change finished e. written-grows src s l q pieces after change finished e)
+      (λ pieces after change finished. grows-none s l q _) (λ number place. grows-none s l q _)
+      (grows-none s l q _) (callOutcome c src end s))
       (λ number e. grows-none s l q _)
+
+  call-onward : (c : Call) (end : Bool) → s .position ≤ called c src end s l q .turn .session .position
+  call-onward c end =
+      called-cases c src end s l q (λ (a : After). s .position ≤ a .turn .session .position)
+      (λ h. settled-narrow src s l q h (callOutcome c src end s) (call-inside c src end s h) .forward)
+      (λ number e. omega arith)
 
 pub walk-grows : (n : ℕ) (src : List ℕ) (end : Bool) (s : Session) (l q : List ℕ)
     → Grows s l q (walked n src end s l q)
@@ -135,11 +97,11 @@ end-same e = ap (λ (t : Token). t .end) e
 call-edges : (c : Call) (src : List ℕ) (end : Bool) (s : Session) (l q : List ℕ) → Edges l s
     → Edges (called c src end s l q .list) (called c src end s l q .turn .session)
 call-edges c src end s l q e =
-    go (called c src end s l q) (call-grows src s l q c end) (call-new c src s l q end)
+    go (called c src end s l q) (call-grows src s l q c end) (call-onward src s l q c end) (call-new c src s l q end)
   where
-    go : (a : After) → Grows s l q a → ((i : ℕ) → IsNew s a i → NewToken c src a (tokenIn (a .list) i))
+    go : (a : After) → Grows s l q a → s .position ≤ a .turn .session .position → ((i : ℕ) → IsNew s a i → NewToken c src a (tokenIn (a .list) i))
         → Edges (a .list) (a .turn .session)
-    go a g new = record {
+    go a g onward new = record {
       rising = λ i j h k.
           side (s .tokens) j
           (λ old.
@@ -148,10 +110,10 @@ call-edges c src end s l q e =
           (λ fresh.
           let after = new j (fresh, k) .ends in
           side (s .tokens) i
-          (λ old. omega (arith, end-same (grows-token g i old), after, e .last i old, g .onward))
+          (λ old. omega (arith, end-same (grows-token g i old), after, e .last i old, onward))
           (λ both. omega (arith, after, new i (both, omega (arith, h, k)) .ends)));
       last = λ i h.
-          side (s .tokens) i (λ old. omega (arith, end-same (grows-token g i old), e .last i old, g .onward))
+          side (s .tokens) i (λ old. omega (arith, end-same (grows-token g i old), e .last i old, onward))
           (λ fresh. omega (arith, new i (fresh, h) .ends));
       onward = λ i h.
           side (s .tokens) i (λ old. subst IsOnward (sym (grows-token g i old)) (e .onward i old))

@@ -31,7 +31,7 @@ module _ (src : List ℕ) (s : Session) (l q : List ℕ) (h : s .position ≤ le
   same : Narrow s s
   same = record { forward = omega arith; bytes = omega arith }
 
-  settled-narrow : (o : Outcome) → Inside (s .position) (length src) o → NarrowAfter (settled src s l q o)
+  pub settled-narrow : (o : Outcome) → Inside (s .position) (length src) o → NarrowAfter (settled src s l q o)
   settled-narrow =
       settled-cases src s l q (λ o a. Inside (s .position) (length src) o → NarrowAfter a)
       (λ pieces after change finished e i.

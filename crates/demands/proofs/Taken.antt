@@ -1,8 +1,9 @@
 -- What a host takes of the records and bytes that a call wrote is just what the call told. Assumes nothing.
 --   takenIn-sum      the tokens of records in two parts
 --   records-taken    the records and values of pieces, wherever they stand, are taken as the pieces
---   Wrote            the new tokens stand between the marks, whatever comes after them; what stood before is the same
---   wrote-pieces, wrote-none, wrote-both   of pieces, of nothing, of one call and another
+--   Grows            what stood before the marks stands there still
+--   Wrote            so it is, and the new tokens stand between the marks, whatever comes after them
+--   written-grows, grows-none, grows-both and wrote-..   of pieces, of nothing, of one call and another
 --   handedOf         what an outcome gives to a host whose tables have room
 --   settled-hands    what it comes to in tables that do not lack room
 --   call-taken       so of a call that is not refused
@@ -81,11 +82,14 @@ laid-again l l′ i n vs h e same =
 -- ---- what a call wrote
 
 -- from s with these tables to a
-pub record Wrote (s : Session) (l q : List ℕ) (a : After) (ts : List Taken) : Type 0 where
+pub record Grows (s : Session) (l q : List ℕ) (a : After) : Type 0 where
   pub tokens : s .tokens ≤ a .turn .session .tokens
   pub bytes : s .bytes ≤ a .turn .session .bytes
   pub list : take (s .tokens * 8) (a .list) ≡ take (s .tokens * 8) l
   pub pool : take (s .bytes) (a .pool) ≡ take (s .bytes) q
+
+pub record Wrote (s : Session) (l q : List ℕ) (a : After) (ts : List Taken) : Type 0 where
+  pub grows : Grows s l q a
   pub new : (l′ q′ : List ℕ) → take (a .turn .session .tokens * 8) l′ ≡ take (a .turn .session .tokens * 8) (a .list)
       → take (a .turn .session .bytes) q′ ≡ take (a .turn .session .bytes) (a .pool)
       → takenIn (a .turn .session .tokens - s .tokens) (drop (s .tokens * 8) l′) q′ ≡ ts
@@ -93,15 +97,16 @@ pub record Wrote (s : Session) (l q : List ℕ) (a : After) (ts : List Taken) : 
 pub wrote-new : {s : Session} {l q : List ℕ} {a : After} {ts : List Taken} → Wrote s l q a ts → newIn s a ≡ ts
 wrote-new {a = a} w = w .new (a .list) (a .pool) refl refl
 
+pub grows-none : (s : Session) (l q : List ℕ) (answer : Answer)
+    → Grows s l q (record { turn = record { answer = answer; session = s }; list = l; pool = q })
+grows-none s l q answer = record { tokens = omega arith; bytes = omega arith; list = refl; pool = refl }
+
 pub wrote-none : (s : Session) (l q : List ℕ) (answer : Answer)
     → Wrote s l q (record { turn = record { answer = answer; session = s }; list = l; pool = q }) []
 unfolding takenIn
 wrote-none s l q answer =
     record {
-      tokens = omega arith;
-      bytes = omega arith;
-      list = refl;
-      pool = refl;
+      grows = grows-none s l q answer;
       new = λ l′ q′ x y. let none : s .tokens - s .tokens ≡ 0 = omega arith in rw none;
     }
 
@@ -109,27 +114,49 @@ wrote-none s l q answer =
 pub take-less : (m n : ℕ) (l l′ : List ℕ) → m ≤ n → take n l ≡ take n l′ → take m l ≡ take m l′
 take-less m n l l′ h e = sym (take-take m n l h) ∙ ap (take m) e ∙ take-take m n l′ h
 
+pub grows-both : {s : Session} {l q : List ℕ} {a b : After} → Grows s l q a
+    → Grows (a .turn .session) (a .list) (a .pool) b → Grows s l q b
+grows-both {s} {l} {q} {a} {b} v w =
+    let marks : s .tokens * 8 ≤ a .turn .session .tokens * 8 = omega (arith, v .tokens) in
+    record {
+      tokens = omega (arith, v .tokens, w .tokens);
+      bytes = omega (arith, v .bytes, w .bytes);
+      list = take-less (s .tokens * 8) (a .turn .session .tokens * 8) (b .list) (a .list) marks (w .list) ∙ v .list;
+      pool = take-less (s .bytes) (a .turn .session .bytes) (b .pool) (a .pool) (v .bytes) (w .pool) ∙ v .pool;
+    }
+
 pub wrote-both : {s : Session} {l q : List ℕ} {a b : After} {ts us : List Taken} → Wrote s l q a ts
     → Wrote (a .turn .session) (a .list) (a .pool) b us → Wrote s l q b (ts ++ us)
 wrote-both {s} {l} {q} {a} {b} {ts} {us} v w =
     let k = s .tokens in
     let m = a .turn .session .tokens in
     let n = b .turn .session .tokens in
+    let g = v .grows in
+    let h = w .grows in
     record {
-      tokens = omega (arith, v .tokens, w .tokens);
-      bytes = omega (arith, v .bytes, w .bytes);
-      list = take-less (k * 8) (m * 8) (b .list) (a .list) (omega (arith, v .tokens)) (w .list) ∙ v .list;
-      pool = take-less (s .bytes) (a .turn .session .bytes) (b .pool) (a .pool) (v .bytes) (w .pool) ∙ v .pool;
+      grows = grows-both g h;
       new = λ l′ q′ x y.
-          let sum : n - k ≡ (m - k) + (n - m) = omega (arith, v .tokens, w .tokens) in
-          let seam : k * 8 + (m - k) * 8 ≡ m * 8 = omega (arith, v .tokens) in
-          let first = v .new l′ q′ (take-less (m * 8) (n * 8) l′ (b .list) (omega (arith, w .tokens)) x ∙ w .list)
-          (take-less (a .turn .session .bytes) (b .turn .session .bytes) q′ (b .pool) (w .bytes) y ∙ w .pool) in
+          let sum : n - k ≡ (m - k) + (n - m) = omega (arith, g .tokens, h .tokens) in
+          let seam : k * 8 + (m - k) * 8 ≡ m * 8 = omega (arith, g .tokens) in
+          let first = v .new l′ q′ (take-less (m * 8) (n * 8) l′ (b .list) (omega (arith, h .tokens)) x ∙ h .list)
+          (take-less (a .turn .session .bytes) (b .turn .session .bytes) q′ (b .pool) (h .bytes) y ∙ h .pool) in
           let parts = takenIn-sum (m - k) (n - m) (drop (k * 8) l′) q′ in
           rw (sum, parts, drop-drop ((m - k) * 8) (k * 8) l′, seam, first, w .new l′ q′ x y);
     }
 
 module _ (src : List ℕ) (s : Session) (l q : List ℕ) where
+  pub written-grows : (pieces : List Piece) (after : ℕ) (change : Change) (finished : Bool) → room src s l q pieces ≡ 0
+      → Grows s l q (written src s l q pieces after change finished)
+  written-grows pieces after change finished e =
+      let fits = room-facts (length l) (length q) (s .tokens) (s .bytes) (length pieces) (length (values pieces)) e in
+      let put-so = put-laid src after pieces (markOf s) (record { list = l; pool = q }) (fits .0) (fits .1) in
+      record {
+        tokens = omega arith;
+        bytes = omega arith;
+        list = rw (put-so .0) (laid-front l (s .tokens * 8) _ (omega (arith, fits .0)));
+        pool = rw (put-so .1) (laid-front q (s .bytes) _ (omega (arith, fits .1)));
+      }
+
   wrote-pieces : (pieces : List Piece) (after : ℕ) (change : Change) (finished : Bool) → room src s l q pieces ≡ 0
       → Wrote s l q (written src s l q pieces after change finished) (takens src after (spanOf s) pieces)
   wrote-pieces pieces after change finished e =
@@ -141,10 +168,7 @@ module _ (src : List ℕ) (s : Session) (l q : List ℕ) where
       let size = records-length src after (markOf s) pieces in
       let count : s .tokens + length pieces - s .tokens ≡ length pieces = omega arith in
       record {
-        tokens = omega arith;
-        bytes = omega arith;
-        list = rw (put-so .0) (laid-front l m rs (omega (arith, fits .0)));
-        pool = rw (put-so .1) (laid-front q (s .bytes) vs (omega (arith, fits .1)));
+        grows = written-grows pieces after change finished e;
         new = λ l′ q′ x y.
             let list = laid-again l l′ m ((s .tokens + length pieces) * 8) rs (omega (arith, fits .0))
             (omega (arith, size)) (rw (put-so .0) at x) in

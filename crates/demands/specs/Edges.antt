@@ -7,8 +7,8 @@
 --   IsStated     none of non-zero length ends at 0
 --   NewToken     what holds of each token that a call writes: it ends at the session's position after the call, within
 --                the source, and its value stands in the pool before the mark after it; and the three above
---   Edges        what holds of a session's records in a list that was filled: ends never fall, none is after the cursor,
---                and each is onward and stated
+--   Edges        what holds of a session's records in a list that was filled: ends never fall, none is after the
+--                cursor, and each is onward and stated
 --   StepOf       the step of a walk that wrote a record: the record ends where that step did; and the three above, with
 --                list and pool as they are after the walk
 use Prim.Native.Nat.{ℕ, suc, _+_, _-_, _≤_, _<_}
