@@ -1,9 +1,11 @@
 -- The refusal numbers of document 01 by name, as the source has them.
---   isAmong   whether a number stands in a list
+--   isAmong          whether a number stands in a list
+--   octalRefusals    what a call may refuse an octal escape with
 use Prim.Native.Nat.{ℕ}
 use mathlib.Core.Bool.{Bool, false, _||_}
 use mathlib.Core.List.{List, [], _∷_}
 use lib.Dec.{eqb}
+use Rattle.byte.specs.declared.Octal.{Octal}
 
 abbrev pub unexpectedEndOfFile : ℕ
 unexpectedEndOfFile = 1
@@ -55,3 +57,8 @@ strayIndentation = 13
 unfoldable pub isAmong : ℕ → List ℕ → Bool
 isAmong number [] = false
 isAmong number (n ∷ more) = eqb number n || isAmong number more
+
+-- 3 under the Rust's choice alone
+unfoldable pub octalRefusals : Octal → List ℕ
+octalRefusals Octal.Rust = invalidOctalEscape ∷ []
+octalRefusals Octal.Manual = []

@@ -1,4 +1,4 @@
-// Bytes: their classes; and the refusal numbers by name.
+// Bytes: their classes; the refusal numbers by name; and the choice that decides one of them.
 // Of the Rust: the byte tests of its macros, and error.rs.
 ghost use mathlib.Core.Path.{_≡_};
 ghost use Rattle.byte.specs.Bytes.{isDigit, isOctal, isHex, isLetter, isStart, isIdentifier, isBlank, isNoBreak, isNoneOf};
@@ -29,6 +29,14 @@ pub const TOO_LARGE: u32 = 11;
 pub const BAD_SESSION: u32 = 12;
 // Sheet reading: another byte inside the indentation.
 pub const STRAY_INDENTATION: u32 = 13;
+
+// What an octal escape over 255 stands for: `\400` to `\777`.
+pub enum Octal {
+    // Nothing: it is refused, as in the Rust.
+    Rust,
+    // The number's low eight bits, one byte, as in the PHP manual.
+    Manual,
+}
 
 // A decimal digit.
 pub fn is_digit(b: u8) -> bool

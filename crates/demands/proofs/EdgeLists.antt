@@ -11,6 +11,7 @@ use native.Mathlib.Omega.{arith}
 use lib.Dec.{leb}
 use lib.ListN.{length, take, drop}
 use borrow.Author.Tests.{leb-true, leb-false}
+use Rattle.byte.specs.declared.Octal.{Octal}
 use Rattle.byte.specs.Demand.{isByte}
 use Rattle.byte.specs.Words.{every}
 use Rattle.state.specs.declared.Answer.{Answer}
@@ -31,7 +32,7 @@ use Rattle.lexer.specs.Turns.{After}
 use Rattle.lexer.specs.Calls.{called, stepped}
 use Rattle.lexer.proofs.Nexts.{written, settled-cases}
 use Rattle.demands.specs.Walks.{goOn, walked, joined, fed}
-use Rattle.demands.specs.Filled.{Filled, empty, call, lend, skip, push, pop}
+use Rattle.demands.specs.Filled.{Filled, empty, call, lend, choose, skip, push, pop}
 use Rattle.demands.specs.Edges.{valueIn, writtenIn, IsNew, Literally, IsOnward, IsStated, NewToken, Edges}
 use Rattle.demands.specs.Edges.{StepOf}
 use Rattle.demands.proofs.Rising.{drop-take, goOn-either}
@@ -39,6 +40,7 @@ use Rattle.demands.proofs.Ends.{cuts-whole}
 use Rattle.demands.proofs.Refusals.{called-cases}
 use Rattle.demands.proofs.Narrow.{settled-narrow}
 use Rattle.demands.proofs.Taken.{Grows, grows-none, grows-both, written-grows, take-less}
+use Rattle.demands.proofs.Choices.{call-choices}
 use Rattle.demands.proofs.Edges.{call-new}
 
 -- ---- what stood before stands
@@ -152,6 +154,8 @@ filled-edges s l q (call {s = t} {list = m} {pool = p} c src end f) =
     call-edges c src end t m p (filled-edges t m p f)
 filled-edges s l q (lend {list = m} {pool = p} l′ q′ e f) =
     kept-edges s s m l refl (omega arith) e (filled-edges s m p f)
+filled-edges s l q (choose {s = t} choices f) =
+    kept-edges t s l l refl (omega arith) refl (filled-edges t l q f)
 filled-edges s l q (skip {s = t} src count f) = stays-edges src t l _ (skip-stays src t count) (filled-edges t l q f)
 filled-edges s l q (push {s = t} src frame f) = stays-edges src t l _ (push-stays src t frame) (filled-edges t l q f)
 filled-edges s l q (pop {s = t} src f) = stays-edges src t l _ (pop-stays src t) (filled-edges t l q f)
@@ -166,29 +170,32 @@ module _ (src : List ℕ) (end : Bool) where
       walked n src end (now .turn .session) (now .list) (now .pool)
 
   -- what a record is in the end, after a walk that ends as `a`, of a step that ended at a place
-  record Ending (i place : ℕ) (a : After) : Type 0 where
+  record Ending (octals : Octal) (i place : ℕ) (a : After) : Type 0 where
     ends : tokenIn (a .list) i .end ≡ place
     onward : IsOnward (tokenIn (a .list) i)
     stated : IsStated (tokenIn (a .list) i)
-    written : Literally Call.Step src (a .pool) (tokenIn (a .list) i)
+    written : Literally Call.Step octals src (a .pool) (tokenIn (a .list) i)
 
   -- of the first step, whatever is written after it
   first-ending : (s : Session) (l q : List ℕ) (i : ℕ) (a : After)
       → Grows (stepped src end s l q .turn .session) (stepped src end s l q .list) (stepped src end s l q .pool) a
-      → IsNew s (stepped src end s l q) i → Ending i (stepped src end s l q .turn .session .position) a
+      → IsNew s (stepped src end s l q) i
+      → Ending (s .choices .octals) i (stepped src end s l q .turn .session .position) a
   first-ending s l q i a g new =
       let t = tokenIn (stepped src end s l q .list) i in
       let here = call-new Call.Step src s l q end i new in
+      let own = call-choices Call.Step src end s l q in
       let same : tokenIn (a .list) i ≡ t = grows-token g i (new .1) in
-      let literal : Literally Call.Step src (a .pool) t =
+      let literal : Literally Call.Step (s .choices .octals) src (a .pool) t =
       λ f.
-      subst (λ (v : List ℕ). AsWritten Call.Step (t .kind) v (writtenIn src t)) (sym (grows-value g t (here .inside)))
-      (here .written f) in
+      subst (λ (v : List ℕ). AsWritten Call.Step (s .choices .octals) (t .kind) v (writtenIn src t))
+      (sym (grows-value g t (here .inside)))
+      (rw own at (here .written f)) in
       record {
         ends = end-same same ∙ here .ends;
         onward = subst IsOnward (sym same) (here .onward);
         stated = subst IsStated (sym same) (here .stated);
-        written = subst (Literally Call.Step src (a .pool)) (sym same) literal;
+        written = subst (Literally Call.Step (s .choices .octals) src (a .pool)) (sym same) literal;
       }
 
   -- a step and what the walk after it is known to do
@@ -204,7 +211,7 @@ module _ (src : List ℕ) (end : Bool) where
       now = stepped src end s l q
 
       -- nothing comes after the step
-      alone : Ending i (now .turn .session .position) now → now ≡ walked (suc n) src end s l q
+      alone : Ending (s .choices .octals) i (now .turn .session .position) now → now ≡ walked (suc n) src end s l q
           → now ≡ walked 1 src end s l q → StepOf (suc n) src end s l q i
       alone x e one = record {
         steps = 0;
@@ -216,7 +223,9 @@ module _ (src : List ℕ) (end : Bool) where
             ∙ ap (λ (a : After). a .turn .session .position) one;
         onward = subst (λ (a : After). IsOnward (tokenIn (a .list) i)) e (x .onward);
         stated = subst (λ (a : After). IsStated (tokenIn (a .list) i)) e (x .stated);
-        written = subst (λ (a : After). Literally Call.Step src (a .pool) (tokenIn (a .list) i)) e (x .written);
+        written =
+            subst (λ (a : After). Literally Call.Step (s .choices .octals) src (a .pool) (tokenIn (a .list) i)) e
+            (x .written);
       }
 
       go : (answer : Answer) → now .turn .answer ≡ answer → StepOf (suc n) src end s l q i
@@ -244,7 +253,7 @@ module _ (src : List ℕ) (end : Bool) where
             ends = rw e (r .ends);
             onward = rw e (r .onward);
             stated = rw e (r .stated);
-            written = rw e (r .written);
+            written = rw e (rw (call-choices Call.Step src end s l q) at (r .written));
           })
       go Answer.Finished e =
           alone (first-ending s l q i now (grows-none _ _ _ _) (new .0, rw e at (new .1))) (rw e) (rw e)

@@ -92,8 +92,9 @@ module _ (call : Call) (src : List ℕ) (s : Session) (q : List ℕ) (after : �
   pool pieces = laid q (s .bytes) (values pieces)
 
   -- the one piece of a literal's step
-  only-written : (p : Piece) → s .bytes ≤ length q → PiecesWritten call (s .position) (rest src s) after (p ∷ [])
-      → Literally call src (pool (p ∷ [])) (tokenOf src after (markOf s) p)
+  only-written : (p : Piece) → s .bytes ≤ length q
+      → PiecesWritten call (s .choices .octals) (s .position) (rest src s) after (p ∷ [])
+      → Literally call (s .choices .octals) src (pool (p ∷ [])) (tokenOf src after (markOf s) p)
   unfolding values
   only-written p room w e =
       let v = p .value in
@@ -108,7 +109,7 @@ module _ (call : Call) (src : List ℕ) (s : Session) (q : List ℕ) (after : �
   -- pieces that are no literals
   none-written : (m : Mark) (pool′ : List ℕ) (pieces : List Piece)
       → every (λ r. not (isLiteral (r .kind))) pieces ≡ true
-      → EachToken src after (Literally call src pool′) m pieces
+      → EachToken src after (Literally call (s .choices .octals) src pool′) m pieces
   unfolding every
   none-written m pool′ [] e = tt
   none-written m pool′ (p ∷ more) e = (
@@ -117,8 +118,8 @@ module _ (call : Call) (src : List ℕ) (s : Session) (q : List ℕ) (after : �
   )
 
   pieces-written : (pieces : List Piece) → s .bytes ≤ length q
-      → PiecesWritten call (s .position) (rest src s) after pieces
-      → EachToken src after (Literally call src (pool pieces)) (markOf s) pieces
+      → PiecesWritten call (s .choices .octals) (s .position) (rest src s) after pieces
+      → EachToken src after (Literally call (s .choices .octals) src (pool pieces)) (markOf s) pieces
   pieces-written [] room w = tt
   pieces-written (p ∷ []) room w = (only-written p room w, tt)
   pieces-written (p ∷ p′ ∷ more) room w = none-written (markOf s) (pool (p ∷ p′ ∷ more)) (p ∷ p′ ∷ more) w
@@ -131,7 +132,7 @@ NewAfter call src s a = (i : ℕ) → IsNew s a i → NewToken call src a (token
 module _ (call : Call) (src : List ℕ) (s : Session) (l q : List ℕ) where
   written-new : (pieces : List Piece) (after : ℕ) (change : Change) (finished : Bool) → room src s l q pieces ≡ 0
       → ToldInside (s .position) (length src) pieces after
-      → PiecesWritten call (s .position) (rest src s) after pieces
+      → PiecesWritten call (s .choices .octals) (s .position) (rest src s) after pieces
       → NewAfter call src s (written src s l q pieces after change finished)
   written-new pieces after change finished e i w k new =
       let fits = room-facts (length l) (length q) (s .tokens) (s .bytes) (length pieces) (length (values pieces)) e in
@@ -153,11 +154,12 @@ module _ (call : Call) (src : List ℕ) (s : Session) (l q : List ℕ) where
       let placed = records-token src after (Placed after bytes) (markOf s) pieces more
       (pieces-placed src after bytes (markOf s) (s .position) pieces (omega arith) (i .inside) (i .all)
       (omega (arith, i .narrow)) (omega arith)) j less in
-      let literal = records-token src after (Literally call src (laid q (s .bytes) (values pieces))) (markOf s) pieces
+      let literal = records-token src after
+      (Literally call (s .choices .octals) src (laid q (s .bytes) (values pieces))) (markOf s) pieces
       more
       (pieces-written call src s q after (i .order) (i .inside) pieces room w) j less in
       let p = subst (Placed after bytes) here placed in
-      let t = subst (Literally call src (laid q (s .bytes) (values pieces))) here literal in
+      let t = subst (Literally call (s .choices .octals) src (laid q (s .bytes) (values pieces))) here literal in
       rw (put-so .0, put-so .1)
       (record {
         ends = p .ends ∙ sym there;
@@ -173,11 +175,13 @@ module _ (call : Call) (src : List ℕ) (s : Session) (l q : List ℕ) where
   none-new answer k new = absurd (omega (arith, new .0, new .1))
 
   settled-new : (o : Outcome) → Inside (s .position) (length src) o
-      → OutcomeWritten call (s .position) (rest src s) o → NewAfter call src s (settled src s l q o)
+      → OutcomeWritten call (s .choices .octals) (s .position) (rest src s) o
+      → NewAfter call src s (settled src s l q o)
   settled-new =
       settled-cases src s l q
       (λ o a.
-      Inside (s .position) (length src) o → OutcomeWritten call (s .position) (rest src s) o → NewAfter call src s a)
+      Inside (s .position) (length src) o → OutcomeWritten call (s .choices .octals) (s .position)
+      (rest src s) o → NewAfter call src s a)
       (λ pieces after change finished e i w. written-new pieces after change finished e i w)
       (λ pieces after change finished i w. none-new _) (λ number place i w. none-new _) (λ i w. none-new _)
 

@@ -20,7 +20,7 @@ use Rattle.outcome.specs.declared.Call.{Call}
 use Rattle.lexer.specs.Turns.{After}
 use Rattle.lexer.specs.Calls.{called, stepped}
 use Rattle.demands.specs.Walks.{walked, calledOn, isWait, fed}
-use Rattle.demands.specs.Filled.{Filled, empty, call, lend, skip, push, pop, FilledAfter, Round, steppedOn}
+use Rattle.demands.specs.Filled.{Filled, empty, call, lend, choose, skip, push, pop, FilledAfter, Round, steppedOn}
 use Rattle.demands.proofs.Good.{let-sound, call-sound}
 use Rattle.demands.proofs.Rising.{Ordered, empty-ordered, call-rising, goOn-either, lent-ordered, stays-rising}
 
@@ -73,6 +73,9 @@ filled-ordered s l q (empty e) = empty-ordered l s e
 filled-ordered s l q (call {s = t} {list = m} {pool = p} c src end f) =
     call-rising src t m p c end (filled-ordered t m p f)
 filled-ordered s l q (lend {list = m} {pool = p} l′ q′ e f) = lent-ordered s m l e (filled-ordered s m p f)
+filled-ordered s l q (choose {s = t} choices f) =
+    let o = filled-ordered t l q f in
+    record { inside = o .inside; rising = o .rising }
 filled-ordered s l q (skip {s = t} src count f) =
     stays-rising src t l _ (skip-stays src t count) (filled-ordered t l q f)
 filled-ordered s l q (push {s = t} src frame f) =

@@ -2,6 +2,7 @@ pub mod Kept
 pub mod Good
 pub mod Longer
 pub mod Rising
+pub mod Choices
 pub mod Filled
 pub mod Narrow
 pub mod Waiting
@@ -9,6 +10,7 @@ pub mod Cuts
 pub mod Ends
 pub mod Steps
 pub mod Refusals
+pub mod Octals
 pub mod Room
 pub mod Taken
 pub mod Emptied

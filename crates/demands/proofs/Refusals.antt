@@ -11,7 +11,8 @@ use mathlib.Core.List.{List, [], _∷_, _++_}
 use lib.Dec.{leb, eqb}
 use lib.ListN.{length}
 use borrow.Author.Tests.{eqb-true}
-use Rattle.byte.specs.Refusals.{wait, listFull, poolFull, tooLarge, badSession, isAmong}
+use Rattle.byte.specs.declared.Octal.{Octal}
+use Rattle.byte.specs.Refusals.{octalRefusals, wait, listFull, poolFull, tooLarge, badSession, isAmong}
 use Rattle.byte.specs.Words.{every}
 use Rattle.byte.proofs.Tests.{choice}
 use Rattle.source.specs.Cursor.{origin}
@@ -34,13 +35,18 @@ use Rattle.lexer.proofs.Calls.{lent-opened}
 use Rattle.lexer.proofs.Nexts.{room}
 use Rattle.demands.specs.Refusals.{refusals}
 use Rattle.demands.specs.Walks.{goOn, walked, calledOn}
+use Rattle.demands.proofs.Choices.{call-choices}
 
-pub refusals-told : (call : Call) → every (λ n. leb 1 n && leb n 13) (refusals call) ≡ true
-unfolding refusals every
-refusals-told Call.Step = refl
-refusals-told Call.Number = refl
-refusals-told Call.Single = refl
-refusals-told Call.Double = refl
+pub refusals-told : (octals : Octal) (call : Call) → every (λ n. leb 1 n && leb n 13) (refusals octals call) ≡ true
+unfolding refusals octalRefusals every
+refusals-told Octal.Rust Call.Step = refl
+refusals-told Octal.Rust Call.Number = refl
+refusals-told Octal.Rust Call.Single = refl
+refusals-told Octal.Rust Call.Double = refl
+refusals-told Octal.Manual Call.Step = refl
+refusals-told Octal.Manual Call.Number = refl
+refusals-told Octal.Manual Call.Single = refl
+refusals-told Octal.Manual Call.Double = refl
 
 -- ---- a call
 
@@ -67,12 +73,17 @@ common = wait ∷ listFull ∷ poolFull ∷ tooLarge ∷ badSession ∷ []
 abbrev AllIn : List ℕ → List ℕ → Type 0
 AllIn others numbers = every (λ n. isAmong n others) numbers ≡ true
 
-refusals-all : (call : Call) → AllIn (refusals call) common × AllIn (refusals call) (callNumbers call)
-unfolding refusals every isAmong
-refusals-all Call.Step = (refl, refl)
-refusals-all Call.Number = (refl, refl)
-refusals-all Call.Single = (refl, refl)
-refusals-all Call.Double = (refl, refl)
+refusals-all : (octals : Octal) (call : Call)
+    → AllIn (refusals octals call) common × AllIn (refusals octals call) (callNumbers octals call)
+unfolding refusals octalRefusals every isAmong
+refusals-all Octal.Rust Call.Step = (refl, refl)
+refusals-all Octal.Rust Call.Number = (refl, refl)
+refusals-all Octal.Rust Call.Single = (refl, refl)
+refusals-all Octal.Rust Call.Double = (refl, refl)
+refusals-all Octal.Manual Call.Step = (refl, refl)
+refusals-all Octal.Manual Call.Number = (refl, refl)
+refusals-all Octal.Manual Call.Single = (refl, refl)
+refusals-all Octal.Manual Call.Double = (refl, refl)
 
 pub room-among : (list pool tokens bytes count len : ℕ) → eqb (roomRefusal list pool tokens bytes count len) 0 ≡ false
     → isAmong (roomRefusal list pool tokens bytes count len) (listFull ∷ poolFull ∷ []) ≡ true
@@ -89,34 +100,39 @@ refuses-answer numbers true = record { among = λ n p f. cc }
 refuses-answer numbers false = refuses-none numbers
 
 module _ (call : Call) (src : List ℕ) (end : Bool) (s : Session) (l q : List ℕ) where
+  abbrev octals : Octal
+  octals = s .choices .octals
+
   abbrev Among : After → Type 0
-  Among a = Refuses (refusals call) (a .turn .answer)
+  Among a = Refuses (refusals octals call) (a .turn .answer)
 
   -- some of what every call may refuse
   shared : (numbers : List ℕ) → AllIn common numbers → (number : ℕ) → isAmong number numbers ≡ true
-      → isAmong number (refusals call) ≡ true
+      → isAmong number (refusals octals call) ≡ true
   shared numbers part number e =
-      among-every _ common (refusals-all call .0) number (among-every _ numbers part number e)
+      among-every _ common (refusals-all octals call .0) number (among-every _ numbers part number e)
 
-  settled-refuses : (o : Outcome) → Numbers (callNumbers call) o → Among (settled src s l q o)
+  settled-refuses : (o : Outcome) → Numbers (callNumbers octals call) o → Among (settled src s l q o)
   unfolding reached isAmong every
   settled-refuses (Outcome.Told pieces after change finished) n =
       choice (λ (r : Reached). Among (reaching s r)) (eqb (room src s l q pieces) 0) _ _
-      (λ e. refuses-answer (refusals call) finished)
+      (λ e. refuses-answer (refusals octals call) finished)
       (λ e.
-      refuses-one (refusals call) (room src s l q pieces) (spanOf s)
+      refuses-one (refusals octals call) (room src s l q pieces) (spanOf s)
       (shared (listFull ∷ poolFull ∷ []) refl _
       (room-among (length l) (length q) (s .tokens) (s .bytes) (length pieces) (length (values pieces)) e)))
   settled-refuses (Outcome.Refused number place) n =
-      refuses-one (refusals call) number _ (among-every _ (callNumbers call) (refusals-all call .1) number n)
-  settled-refuses Outcome.Wait n = refuses-one (refusals call) wait (spanOf s) (shared (wait ∷ []) refl wait refl)
+      refuses-one (refusals octals call) number _
+      (among-every _ (callNumbers octals call) (refusals-all octals call .1) number n)
+  settled-refuses Outcome.Wait n =
+      refuses-one (refusals octals call) wait (spanOf s) (shared (wait ∷ []) refl wait refl)
 
-  pub call-refusals : Refuses (refusals call) (called call src end s l q .turn .answer)
+  pub call-refusals : Refuses (refusals (s .choices .octals) call) (called call src end s l q .turn .answer)
   unfolding isAmong every
   call-refusals =
       called-cases call src end s l q Among
       (λ h. settled-refuses (callOutcome call src end s) (call-ways call src end s h .numbers))
-      (λ number e. refuses-one (refusals call) number origin (shared gate-refusals refl number e))
+      (λ number e. refuses-one (refusals octals call) number origin (shared gate-refusals refl number e))
 
 -- ---- many steps
 
@@ -131,43 +147,62 @@ goOn-refuses numbers Answer.Finished now later x y = x
 goOn-refuses numbers (Answer.Refused number span) now later x y = x
 
 pub walk-refusals : (n : ℕ) (src : List ℕ) (end : Bool) (s : Session) (l q : List ℕ)
-    → Refuses (refusals Call.Step) (walked n src end s l q .turn .answer)
+    → Refuses (refusals (s .choices .octals) Call.Step) (walked n src end s l q .turn .answer)
 unfolding walked
-walk-refusals zero src end s l q = refuses-none (refusals Call.Step)
+walk-refusals zero src end s l q = refuses-none (refusals (s .choices .octals) Call.Step)
 walk-refusals (suc n) src end s l q =
+    let octals = s .choices .octals in
     let now = stepped src end s l q in
-    goOn-refuses (refusals Call.Step) (now .turn .answer) now _ (call-refusals Call.Step src end s l q)
-    (walk-refusals n src end (now .turn .session) (now .list) (now .pool))
-
--- the call's and the step's
-abbrev both : Call → List ℕ
-both call = refusals call ++ refusals Call.Step
-
-both-all : (call : Call)
-    → AllIn (both call) (refusals call) × AllIn (both call) (refusals Call.Step) × AllIn (both call) gate-refusals
-unfolding refusals every isAmong
-both-all Call.Step = (refl, refl, refl)
-both-all Call.Number = (refl, refl, refl)
-both-all Call.Single = (refl, refl, refl)
-both-all Call.Double = (refl, refl, refl)
-
-pub calledOn-refusals : (call : Call) (n : ℕ) (src : List ℕ) (end : Bool) (s : Session) (l q : List ℕ)
-    → Refuses (refusals call ++ refusals Call.Step) (calledOn call n src end s l q .turn .answer)
-unfolding calledOn
-calledOn-refusals call zero src end s l q =
-    choice (λ (a : After). Refuses (both call) (a .turn .answer)) (eqb (lentRefusal src (length l) (length q) s) 0) _ _
-    (λ e. refuses-none (both call))
-    (λ e.
-    refuses-one (both call) (lentRefusal src (length l) (length q) s) origin
-    (among-every _ gate-refusals (both-all call .2) _ (lent-among src (length l) (length q) s e)))
-calledOn-refusals call (suc n) src end s l q =
-    let now = called call src end s l q in
-    goOn-refuses (both call) (now .turn .answer) now _
-    (refuses-more (refusals call) (both call) (both-all call .0) _ (call-refusals call src end s l q))
-    (refuses-more (refusals Call.Step) (both call) (both-all call .1) _
+    goOn-refuses (refusals octals Call.Step) (now .turn .answer) now _ (call-refusals Call.Step src end s l q)
+    (rw (call-choices Call.Step src end s l q) at
     (walk-refusals n src end (now .turn .session) (now .list) (now .pool)))
 
+-- the call's and the step's
+abbrev both : Octal → Call → List ℕ
+both octals call = refusals octals call ++ refusals octals Call.Step
+
+both-all : (octals : Octal) (call : Call)
+    → AllIn (both octals call) (refusals octals call) × AllIn (both octals call) (refusals octals Call.Step)
+    × AllIn (both octals call) gate-refusals
+unfolding refusals octalRefusals every isAmong
+both-all Octal.Rust Call.Step = (refl, refl, refl)
+both-all Octal.Rust Call.Number = (refl, refl, refl)
+both-all Octal.Rust Call.Single = (refl, refl, refl)
+both-all Octal.Rust Call.Double = (refl, refl, refl)
+both-all Octal.Manual Call.Step = (refl, refl, refl)
+both-all Octal.Manual Call.Number = (refl, refl, refl)
+both-all Octal.Manual Call.Single = (refl, refl, refl)
+both-all Octal.Manual Call.Double = (refl, refl, refl)
+
+pub calledOn-refusals : (call : Call) (n : ℕ) (src : List ℕ) (end : Bool) (s : Session) (l q : List ℕ)
+    → Refuses (refusals (s .choices .octals) call ++ refusals (s .choices .octals) Call.Step)
+    (calledOn call n src end s l q .turn .answer)
+unfolding calledOn
+calledOn-refusals call zero src end s l q =
+    let octals = s .choices .octals in
+    choice (λ (a : After). Refuses (both octals call) (a .turn .answer))
+    (eqb (lentRefusal src (length l) (length q) s) 0) _ _
+    (λ e. refuses-none (both octals call))
+    (λ e.
+    refuses-one (both octals call) (lentRefusal src (length l) (length q) s) origin
+    (among-every _ gate-refusals (both-all octals call .2) _ (lent-among src (length l) (length q) s e)))
+calledOn-refusals call (suc n) src end s l q =
+    let octals = s .choices .octals in
+    let now = called call src end s l q in
+    goOn-refuses (both octals call) (now .turn .answer) now _
+    (refuses-more (refusals octals call) (both octals call) (both-all octals call .0) _
+    (call-refusals call src end s l q))
+    (refuses-more (refusals octals Call.Step) (both octals call) (both-all octals call .1) _
+    (rw (call-choices call src end s l q) at (walk-refusals n src end (now .turn .session) (now .list) (now .pool))))
+
+step-twice : (octals : Octal) → AllIn (refusals octals Call.Step) (both octals Call.Step)
+unfolding refusals octalRefusals every isAmong
+step-twice Octal.Rust = refl
+step-twice Octal.Manual = refl
+
 pub steps-refusals : (n : ℕ) (src : List ℕ) (end : Bool) (s : Session) (l q : List ℕ)
-    → Refuses (refusals Call.Step) (calledOn Call.Step n src end s l q .turn .answer)
-unfolding refusals every isAmong
-steps-refusals n src end s l q = refuses-more (both Call.Step) (refusals Call.Step) refl _ (calledOn-refusals Call.Step n src end s l q)
+    → Refuses (refusals (s .choices .octals) Call.Step) (calledOn Call.Step n src end s l q .turn .answer)
+steps-refusals n src end s l q =
+    let octals = s .choices .octals in
+    refuses-more (both octals Call.Step) (refusals octals Call.Step) (step-twice octals) _
+    (calledOn-refusals Call.Step n src end s l q)

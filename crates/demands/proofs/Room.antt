@@ -10,7 +10,8 @@ use native.Mathlib.Omega.{arith}
 use lib.Dec.{eqb}
 use lib.ListN.{length}
 use borrow.Author.Tests.{le-leb, not-true}
-use Rattle.byte.specs.Refusals.{listFull, poolFull}
+use Rattle.byte.specs.declared.Octal.{Octal}
+use Rattle.byte.specs.Refusals.{octalRefusals, listFull, poolFull}
 use Rattle.byte.specs.Words.{every}
 use Rattle.state.specs.declared.Session.{Session}
 use Rattle.state.proofs.Refusals.{gate-refusals}
@@ -32,12 +33,16 @@ use Rattle.demands.proofs.Refusals.{called-cases}
 abbrev isRoomy : ℕ → Bool
 isRoomy number = not (eqb number listFull || eqb number poolFull)
 
-call-roomy : (call : Call) → every isRoomy (callNumbers call) ≡ true
-unfolding every
-call-roomy Call.Step = refl
-call-roomy Call.Number = refl
-call-roomy Call.Single = refl
-call-roomy Call.Double = refl
+call-roomy : (octals : Octal) (call : Call) → every isRoomy (callNumbers octals call) ≡ true
+unfolding every octalRefusals
+call-roomy Octal.Rust Call.Step = refl
+call-roomy Octal.Rust Call.Number = refl
+call-roomy Octal.Rust Call.Single = refl
+call-roomy Octal.Rust Call.Double = refl
+call-roomy Octal.Manual Call.Step = refl
+call-roomy Octal.Manual Call.Number = refl
+call-roomy Octal.Manual Call.Single = refl
+call-roomy Octal.Manual Call.Double = refl
 
 answer-roomy : (finished : Bool) → lacksRoom (answerOf finished) ≡ false
 unfolding lacksRoom
@@ -67,7 +72,8 @@ module _ (call : Call) (src : List ℕ) (end : Bool) (s : Session) (l q : List �
     unfolding roomRefusal
     fits pieces x y = rw (le-leb _ _ x, le-leb _ _ y)
 
-    settled-room : (o : Outcome) → Inside (s .position) (length src) o → Few o → Numbers (callNumbers call) o
+    settled-room : (o : Outcome) → Inside (s .position) (length src) o → Few o
+        → Numbers (callNumbers (s .choices .octals) call) o
         → RoomyAfter (settled src s l q o)
     unfolding reached lacksRoom
     settled-room (Outcome.Told pieces after change finished) i f n =
@@ -75,7 +81,8 @@ module _ (call : Call) (src : List ℕ) (end : Bool) (s : Session) (l q : List �
         fits pieces (omega (arith, f)) (omega (arith, i .narrow, i .inside)) in
         rw enough (answer-roomy finished)
     settled-room (Outcome.Refused number place) i f n =
-        not-true _ (among-every isRoomy (callNumbers call) (call-roomy call) number n)
+        not-true _
+        (among-every isRoomy (callNumbers (s .choices .octals) call) (call-roomy (s .choices .octals) call) number n)
     settled-room Outcome.Wait i f n = refl
 
     pub call-room : lacksRoom (called call src end s l q .turn .answer) ≡ false

@@ -142,39 +142,39 @@ module _ (place n : ℕ) (xs : List ℕ) where
       → textRead mode place n xs r ≡ texted mode n xs r
   unfolding literalKind textRead
   textRead-mode Mode.Single r z = absurd (omega arith)
-  textRead-mode Mode.Double r z = absurd (omega arith)
-  textRead-mode Mode.DoubleQuote r z = refl
+  textRead-mode (Mode.Double octals) r z = absurd (omega arith)
+  textRead-mode (Mode.DoubleQuote octals) r z = refl
   textRead-mode Mode.ShellExec r z = refl
-  textRead-mode Mode.Heredoc r z = refl
+  textRead-mode (Mode.Heredoc octals) r z = refl
   textRead-mode Mode.Nowdoc r z = refl
 
   textRead-literal : (mode : Mode) (r : unit.Reading) → (literalKind mode ≡ 0 → ⊥)
       → textRead mode place n xs r ≡ literal (literalKind mode) place r
   unfolding literalKind textRead
   textRead-literal Mode.Single r z = refl
-  textRead-literal Mode.Double r z = refl
-  textRead-literal Mode.DoubleQuote r z = absurd (z refl)
+  textRead-literal (Mode.Double octals) r z = refl
+  textRead-literal (Mode.DoubleQuote octals) r z = absurd (z refl)
   textRead-literal Mode.ShellExec r z = absurd (z refl)
-  textRead-literal Mode.Heredoc r z = absurd (z refl)
+  textRead-literal (Mode.Heredoc octals) r z = absurd (z refl)
   textRead-literal Mode.Nowdoc r z = absurd (z refl)
 
   textRead-refused : (mode : Mode) (number fault : ℕ)
       → textRead mode place n xs (unit.Refused number fault) ≡ Outcome.Refused number fault
   unfolding textRead texted literal
   textRead-refused Mode.Single number fault = refl
-  textRead-refused Mode.Double number fault = refl
-  textRead-refused Mode.DoubleQuote number fault = refl
+  textRead-refused (Mode.Double octals) number fault = refl
+  textRead-refused (Mode.DoubleQuote octals) number fault = refl
   textRead-refused Mode.ShellExec number fault = refl
-  textRead-refused Mode.Heredoc number fault = refl
+  textRead-refused (Mode.Heredoc octals) number fault = refl
   textRead-refused Mode.Nowdoc number fault = refl
 
   textRead-waits : (mode : Mode) → textRead mode place n xs unit.Wait ≡ Outcome.Wait
   unfolding textRead texted literal
   textRead-waits Mode.Single = refl
-  textRead-waits Mode.Double = refl
-  textRead-waits Mode.DoubleQuote = refl
+  textRead-waits (Mode.Double octals) = refl
+  textRead-waits (Mode.DoubleQuote octals) = refl
   textRead-waits Mode.ShellExec = refl
-  textRead-waits Mode.Heredoc = refl
+  textRead-waits (Mode.Heredoc octals) = refl
   textRead-waits Mode.Nowdoc = refl
 
 -- what a scan leaves in the scratch part
@@ -182,19 +182,19 @@ module _ (label : List ℕ) (len room : ℕ) where
   held-unsearched : (mode : Mode) → isHeld mode len room ≡ true → text-scans.isSearched mode label ≡ false
   unfolding isHeld text-scans.isSearched
   held-unsearched Mode.Single h = refl
-  held-unsearched Mode.Double h = refl
-  held-unsearched Mode.DoubleQuote h = refl
+  held-unsearched (Mode.Double octals) h = refl
+  held-unsearched (Mode.DoubleQuote octals) h = refl
   held-unsearched Mode.ShellExec h = refl
-  held-unsearched Mode.Heredoc h = refl
+  held-unsearched (Mode.Heredoc octals) h = refl
   held-unsearched Mode.Nowdoc h = absurd (false≢true h)
 
   held-fits : (mode : Mode) → isHeld mode len room ≡ true → len ≤ room
   unfolding isHeld
   held-fits Mode.Single h = leb-true len room h
-  held-fits Mode.Double h = leb-true len room h
-  held-fits Mode.DoubleQuote h = leb-true len room h
+  held-fits (Mode.Double octals) h = leb-true len room h
+  held-fits (Mode.DoubleQuote octals) h = leb-true len room h
   held-fits Mode.ShellExec h = leb-true len room h
-  held-fits Mode.Heredoc h = leb-true len room h
+  held-fits (Mode.Heredoc octals) h = leb-true len room h
   held-fits Mode.Nowdoc h = absurd (false≢true h)
 
 -- a part that begins with the first bytes of a list begins with those of them that fit

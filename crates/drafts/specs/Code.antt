@@ -37,10 +37,10 @@ madeDraft kind place making from to len =
 -- a nowdoc's label is looked for, and nothing is written
 unfoldable pub isHeld : Mode → ℕ → ℕ → Bool
 isHeld Mode.Single len room = leb len room
-isHeld Mode.Double len room = leb len room
-isHeld Mode.DoubleQuote len room = leb len room
+isHeld (Mode.Double octals) len room = leb len room
+isHeld (Mode.DoubleQuote octals) len room = leb len room
 isHeld Mode.ShellExec len room = leb len room
-isHeld Mode.Heredoc len room = leb len room
+isHeld (Mode.Heredoc octals) len room = leb len room
 isHeld Mode.Nowdoc len room = false
 
 unfoldable pub textMaking : Mode → Label → Bool → Making
@@ -71,10 +71,10 @@ textWork mode draft Scanned.Wait = Plan.Wait
 
 unfoldable pub literalKind : Mode → ℕ
 literalKind Mode.Single = literalSingleQuotedString
-literalKind Mode.Double = literalDoubleQuotedString
-literalKind Mode.DoubleQuote = 0
+literalKind (Mode.Double octals) = literalDoubleQuotedString
+literalKind (Mode.DoubleQuote octals) = 0
 literalKind Mode.ShellExec = 0
-literalKind Mode.Heredoc = 0
+literalKind (Mode.Heredoc octals) = 0
 literalKind Mode.Nowdoc = 0
 
 -- before an interpolation, which is left, it is a part

@@ -46,10 +46,10 @@ fn quote_kind(mode: Mode) -> u32
 {
     match mode {
         Mode::Single => token::DOUBLE_QUOTE,
-        Mode::Double => token::DOUBLE_QUOTE,
-        Mode::DoubleQuote => token::DOUBLE_QUOTE,
+        Mode::Double(_) => token::DOUBLE_QUOTE,
+        Mode::DoubleQuote(_) => token::DOUBLE_QUOTE,
         Mode::ShellExec => token::BACKTICK,
-        Mode::Heredoc => token::DOUBLE_QUOTE,
+        Mode::Heredoc(_) => token::DOUBLE_QUOTE,
         Mode::Nowdoc => token::DOUBLE_QUOTE,
     }
 }
@@ -156,10 +156,10 @@ fn is_held(mode: Mode, len: usize, room: usize) -> bool
 {
     match mode {
         Mode::Single => len <= room,
-        Mode::Double => len <= room,
-        Mode::DoubleQuote => len <= room,
+        Mode::Double(_) => len <= room,
+        Mode::DoubleQuote(_) => len <= room,
         Mode::ShellExec => len <= room,
-        Mode::Heredoc => len <= room,
+        Mode::Heredoc(_) => len <= room,
         Mode::Nowdoc => false,
     }
 }
@@ -261,10 +261,10 @@ fn literal_kind(mode: Mode) -> u32
 {
     match mode {
         Mode::Single => token::LITERAL_SINGLE_QUOTED_STRING,
-        Mode::Double => token::LITERAL_DOUBLE_QUOTED_STRING,
-        Mode::DoubleQuote => 0,
+        Mode::Double(_) => token::LITERAL_DOUBLE_QUOTED_STRING,
+        Mode::DoubleQuote(_) => 0,
         Mode::ShellExec => 0,
-        Mode::Heredoc => 0,
+        Mode::Heredoc(_) => 0,
         Mode::Nowdoc => 0,
     }
 }

@@ -8,41 +8,49 @@ use native.Mathlib.Numerals.{add-one}
 use lib.Dec.{eqb, ltb}
 use lib.ListN.{length, getD, drop, drop-of-length-le}
 use borrow.Author.Tests.{eq-eqb, ne-eqb, lt-ltb, le-ltb, le-leb, ltb-false}
+use Rattle.byte.specs.declared.Octal.{Octal}
 use Rattle.byte.specs.Words.{if_then_else_}
 use Rattle.byte.proofs.Tests.{arms}
 use Rattle.byte.proofs.Words.{drop-one}
 use Rattle.unit.specs.declared.TextUnit.{TextUnit}
 use Rattle.unit.specs.Digits.{digitValue, isScalar}
-use Rattle.unit.specs.Escapes.{last, backslash, letterValue, fitted, digits, hex, codePoint, braced, escape, quoteEscape}
+use Rattle.unit.specs.Escapes.{last, backslash, letterValue, overflowing, fitted, digits, hex, codePoint, braced, escape, quoteEscape}
 
 -- an arm of the match on a letter
 pub letter-arm : (b letter r : ℕ) → b ≡ letter → r ≡ letterValue letter → r ≡ letterValue b
 letter-arm b letter r e h = rw e h
 
+-- an arm of the match on the choice
+pub overflowing-arm : (octals arm : Octal) (value n : ℕ) (r : TextUnit) → octals ≡ arm → r ≡ overflowing arm value n
+    → r ≡ overflowing octals value n
+overflowing-arm octals arm value n r e h = rw e h
+
 -- the tests of `fitted` and `grown`, and of the match's last arm, are those of what they say
 pub ruleset choices = (eq-eqb, ne-eqb, lt-ltb, le-ltb)
 
 -- octal and hex digits, of which `left` more may come
-module _ (src : List ℕ) (n : ℕ) (end : Bool) (base value : ℕ) where
-  pub digits-past : (left : ℕ) (u r : TextUnit) → 0 < left → length src ≤ n → u ≡ fitted value n → r ≡ last end u
-      → r ≡ digits end base left value n (drop n src)
+module _ (octals : Octal) (src : List ℕ) (n : ℕ) (end : Bool) (base value : ℕ) where
+  pub digits-past : (left : ℕ) (u r : TextUnit) → 0 < left → length src ≤ n → u ≡ fitted octals value n → r ≡ last end u
+      → r ≡ digits octals end base left value n (drop n src)
   unfolding digits
   digits-past zero u r some past e f = absurd (omega arith)
   digits-past (suc left) u r some past e f = rw (drop-of-length-le src past, ← e) f
 
   module _ (digit : ℕ) (inside : n < length src) (e : digit ≡ digitValue (getD src n 0)) where
-    pub digits-stop : (left : ℕ) (r : TextUnit) → 0 < left → base ≤ digit → r ≡ fitted value n
-        → r ≡ digits end base left value n (drop n src)
+    pub digits-stop : (left : ℕ) (r : TextUnit) → 0 < left → base ≤ digit → r ≡ fitted octals value n
+        → r ≡ digits octals end base left value n (drop n src)
     unfolding digits
     digits-stop zero r some h f = absurd (omega arith)
     digits-stop (suc left) r some h f = rw (drop-one src n inside, ← e, le-ltb digit base h) f
 
     module _ (r : TextUnit) (small : digit < base) where
-      pub digits-two : r ≡ digits end base 1 (value * base + digit) (n + 1) (drop (n + 1) src) → r ≡ digits end base 2 value n (drop n src)
+      pub digits-two : r ≡ digits octals end base 1 (value * base + digit) (n + 1) (drop (n + 1) src)
+          → r ≡ digits octals end base 2 value n (drop n src)
       unfolding digits
       digits-two f = f ∙ rw (drop-one src n inside, ← e, lt-ltb digit base small, add-one)
 
-      pub digits-one : r ≡ fitted (value * base + digit) (n + 1) → r ≡ digits end base 1 value n (drop n src)
+      pub digits-one : r ≡ fitted octals (value * base + digit) (n + 1)
+          → r ≡ digits octals end base 1 value n (drop n src)
       unfolding digits
       digits-one f = f ∙ rw (drop-one src n inside, ← e, lt-ltb digit base small, add-one)
 
@@ -53,17 +61,19 @@ two : (at : ℕ) → at + 1 + 1 ≡ suc (suc at)
 two at = omega arith
 
 -- after `\x`, whose letter stands at `at`
-module _ (src : List ℕ) (at : ℕ) (end : Bool) (r : TextUnit) where
-  pub hex-past : (u : TextUnit) → length src ≤ at + 1 → u ≡ backslash at → r ≡ last end u → r ≡ hex end at (drop (at + 1) src)
+module _ (octals : Octal) (src : List ℕ) (at : ℕ) (end : Bool) (r : TextUnit) where
+  pub hex-past : (u : TextUnit) → length src ≤ at + 1 → u ≡ backslash at → r ≡ last end u
+      → r ≡ hex octals end at (drop (at + 1) src)
   unfolding hex
   hex-past u past e f = rw (drop-of-length-le src past, ← e) f
 
   module _ (digit : ℕ) (inside : at + 1 < length src) (e : digit ≡ digitValue (getD src (at + 1) 0)) where
-    pub hex-digit : digit < 16 → r ≡ digits end 16 1 digit (at + 1 + 1) (drop (at + 1 + 1) src) → r ≡ hex end at (drop (at + 1) src)
+    pub hex-digit : digit < 16 → r ≡ digits octals end 16 1 digit (at + 1 + 1) (drop (at + 1 + 1) src)
+        → r ≡ hex octals end at (drop (at + 1) src)
     unfolding hex
     hex-digit h f = f ∙ rw (drop-one src (at + 1) inside, ← e, lt-ltb digit 16 h, two at)
 
-    pub hex-none : 16 ≤ digit → r ≡ backslash at → r ≡ hex end at (drop (at + 1) src)
+    pub hex-none : 16 ≤ digit → r ≡ backslash at → r ≡ hex octals end at (drop (at + 1) src)
     unfolding hex
     hex-none h f = f ∙ rw (drop-one src (at + 1) inside, ← e, le-ltb digit 16 h)
 
@@ -130,37 +140,43 @@ braced-last end at u r e f = rw (← e) f
 pub ruleset bracings = (arms, braced-last, drop-of-length-le, drop-one)
 
 -- after a backslash
-module _ (src : List ℕ) (at : ℕ) (end : Bool) where
-  pub escape-past : (u r : TextUnit) → length src ≤ at → u ≡ backslash at → r ≡ last end u → r ≡ escape end at (drop at src)
+module _ (octals : Octal) (src : List ℕ) (at : ℕ) (end : Bool) where
+  pub escape-past : (u r : TextUnit) → length src ≤ at → u ≡ backslash at → r ≡ last end u
+      → r ≡ escape octals end at (drop at src)
   unfolding escape
   escape-past u r past e f = rw (drop-of-length-le src past, ← e) f
 
   module _ (letter : ℕ) (inside : at < length src) (e : letter ≡ letterValue (getD src at 0)) where
-    pub escape-letter : letter < 256 → TextUnit.Byte letter (at + 1) ≡ escape end at (drop at src)
+    pub escape-letter : letter < 256 → TextUnit.Byte letter (at + 1) ≡ escape octals end at (drop at src)
     unfolding escape
     escape-letter h = rw (drop-one src at inside, ← e, lt-ltb letter 256 h, add-one)
 
     module _ (digit : ℕ) (no-letter : 256 ≤ letter) (f : digit ≡ digitValue (getD src at 0)) (r : TextUnit) where
-      pub escape-octal : digit < 8 → r ≡ digits end 8 2 digit (at + 1) (drop (at + 1) src) → r ≡ escape end at (drop at src)
+      pub escape-octal : digit < 8 → r ≡ digits octals end 8 2 digit (at + 1) (drop (at + 1) src)
+          → r ≡ escape octals end at (drop at src)
       unfolding escape
       escape-octal h g = g ∙ rw (drop-one src at inside, ← e, le-ltb letter 256 no-letter, ← f, lt-ltb digit 8 h, add-one)
 
       module _ (no-digit : 8 ≤ digit) where
-        pub escape-hex : getD src at 0 ≡ 120 → r ≡ hex end at (drop (at + 1) src) → r ≡ escape end at (drop at src)
+        pub escape-hex : getD src at 0 ≡ 120 → r ≡ hex octals end at (drop (at + 1) src)
+            → r ≡ escape octals end at (drop at src)
         unfolding escape
         escape-hex x g = g ∙ rw (drop-one src at inside, ← e, le-ltb letter 256 no-letter, ← f, le-ltb digit 8 no-digit, eq-eqb (getD src at 0) 120 x)
 
         module _ (no-x : getD src at 0 ≡ 120 → ⊥) where
-          pub escape-braced : getD src at 0 ≡ 117 → r ≡ braced end at (drop (at + 1) src) → r ≡ escape end at (drop at src)
+          pub escape-braced : getD src at 0 ≡ 117 → r ≡ braced end at (drop (at + 1) src)
+              → r ≡ escape octals end at (drop at src)
           unfolding escape
           escape-braced u g =
               g ∙ rw (drop-one src at inside, ← e, le-ltb letter 256 no-letter, ← f, le-ltb digit 8 no-digit, ne-eqb (getD src at 0) 120 no-x, eq-eqb (getD src at 0) 117 u)
 
-          pub escape-none : (getD src at 0 ≡ 117 → ⊥) → r ≡ backslash at → r ≡ escape end at (drop at src)
+          pub escape-none : (getD src at 0 ≡ 117 → ⊥) → r ≡ backslash at → r ≡ escape octals end at (drop at src)
           unfolding escape
           escape-none u g =
               g ∙ rw (drop-one src at inside, ← e, le-ltb letter 256 no-letter, ← f, le-ltb digit 8 no-digit, ne-eqb (getD src at 0) 120 no-x, ne-eqb (getD src at 0) 117 u)
 
+-- the same in single quotes
+module _ (src : List ℕ) (at : ℕ) (end : Bool) where
   pub quoteEscape-past : (u r : TextUnit) → length src ≤ at → u ≡ backslash at → r ≡ last end u → r ≡ quoteEscape end at (drop at src)
   unfolding quoteEscape
   quoteEscape-past u r past e f = rw (drop-of-length-le src past, ← e) f

@@ -1,5 +1,6 @@
 // Escapes: what a backslash and the bytes after it stand for, and code points in UTF-8.
 // Of the Rust: the escapes of its string routines, read by one reader. In the order of unit's definitions, Digits and then Escapes.
+use byte::Octal;
 use unit::TextUnit;
 ghost use mathlib.Core.Path.{_≡_};
 ghost use mathlib.Core.Bool.{true, false};
@@ -10,7 +11,7 @@ ghost use Rattle.byte.specs.Words.{if_then_else_};
 ghost use Rattle.byte.specs.Laid.{laid};
 ghost use Rattle.unit.specs.declared.TextUnit.{TextUnit};
 ghost use Rattle.unit.specs.Digits.{digitValue, isScalar, utf8};
-ghost use Rattle.unit.specs.Escapes.{last, backslash, letterValue, fitted, digits, hex, codePoint, braced, escape, quoteEscape};
+ghost use Rattle.unit.specs.Escapes.{last, backslash, letterValue, overflowing, fitted, digits, hex, codePoint, braced, escape, quoteEscape};
 
 // The value of a digit, 0 to 9, A to F, a to f; 16 of any other byte.
 fn digit_value(b: u8) -> u32
@@ -135,9 +136,25 @@ fn letter_value(b: u8) -> u32
     }
 }
 
+// A value over 255, after its digits.
+fn overflowing(octals: Octal, value: u32, n: usize) -> TextUnit
+    ensures { λ r. ⌜ r ≡ overflowing octals value n ⌝ }
+{
+    match octals {
+        Octal::Rust => TextUnit::Fault {
+            number: byte::INVALID_OCTAL_ESCAPE,
+            place: n,
+        },
+        Octal::Manual => TextUnit::Byte {
+            value: (value % 256) as u8,
+            after: n,
+        },
+    }
+}
+
 // Digits with this value end before n.
-fn fitted(value: u32, n: usize) -> TextUnit
-    ensures { λ r. ⌜ r ≡ fitted value n ⌝ }
+fn fitted(octals: Octal, value: u32, n: usize) -> TextUnit
+    ensures { λ r. ⌜ r ≡ fitted octals value n ⌝ }
 {
     if value < 256 {
         return TextUnit::Byte {
@@ -145,64 +162,61 @@ fn fitted(value: u32, n: usize) -> TextUnit
             after: n,
         };
     }
-    TextUnit::Fault {
-        number: byte::INVALID_OCTAL_ESCAPE,
-        place: n,
-    }
+    overflowing(octals, value, n)
 }
 
 // After two octal digits with this value.
-fn octal_third(src: &[u8], n: usize, end: bool, value: u32) -> TextUnit
+fn octal_third(octals: Octal, src: &[u8], n: usize, end: bool, value: u32) -> TextUnit
     requires { ⌜ value < 64 ⌝ }
-    ensures { λ r. ⌜ r ≡ digits end 8 1 value n (drop n (now (src .entry))) ⌝ }
+    ensures { λ r. ⌜ r ≡ digits octals end 8 1 value n (drop n (now (src .entry))) ⌝ }
 {
     if src.len() <= n {
-        let unit = fitted(value, n);
+        let unit = fitted(octals, value, n);
         return last(end, unit);
     }
     let digit = digit_value(src[n]);
     if digit < 8 {
-        return fitted(value * 8 + digit, n + 1);
+        return fitted(octals, value * 8 + digit, n + 1);
     }
-    fitted(value, n)
+    fitted(octals, value, n)
 }
 
 // After one octal digit with this value.
-fn octal_second(src: &[u8], n: usize, end: bool, value: u32) -> TextUnit
+fn octal_second(octals: Octal, src: &[u8], n: usize, end: bool, value: u32) -> TextUnit
     requires { ⌜ value < 8 ⌝ }
-    ensures { λ r. ⌜ r ≡ digits end 8 2 value n (drop n (now (src .entry))) ⌝ }
+    ensures { λ r. ⌜ r ≡ digits octals end 8 2 value n (drop n (now (src .entry))) ⌝ }
 {
     if src.len() <= n {
-        let unit = fitted(value, n);
+        let unit = fitted(octals, value, n);
         return last(end, unit);
     }
     let digit = digit_value(src[n]);
     if digit < 8 {
-        return octal_third(src, n + 1, end, value * 8 + digit);
+        return octal_third(octals, src, n + 1, end, value * 8 + digit);
     }
-    fitted(value, n)
+    fitted(octals, value, n)
 }
 
 // After `\x` and one digit with this value.
-fn hex_second(src: &[u8], n: usize, end: bool, value: u32) -> TextUnit
+fn hex_second(octals: Octal, src: &[u8], n: usize, end: bool, value: u32) -> TextUnit
     requires { ⌜ value < 16 ⌝ }
-    ensures { λ r. ⌜ r ≡ digits end 16 1 value n (drop n (now (src .entry))) ⌝ }
+    ensures { λ r. ⌜ r ≡ digits octals end 16 1 value n (drop n (now (src .entry))) ⌝ }
 {
     if src.len() <= n {
-        let unit = fitted(value, n);
+        let unit = fitted(octals, value, n);
         return last(end, unit);
     }
     let digit = digit_value(src[n]);
     if digit < 16 {
-        return fitted(value * 16 + digit, n + 1);
+        return fitted(octals, value * 16 + digit, n + 1);
     }
-    fitted(value, n)
+    fitted(octals, value, n)
 }
 
 // `\x`, its `x` at `at`.
-fn hex_at(src: &[u8], at: usize, end: bool) -> TextUnit
+fn hex_at(octals: Octal, src: &[u8], at: usize, end: bool) -> TextUnit
     requires { ⌜ at < length (now src) ⌝ }
-    ensures { λ r. ⌜ r ≡ hex end at (drop (at + 1) (now (src .entry))) ⌝ }
+    ensures { λ r. ⌜ r ≡ hex octals end at (drop (at + 1) (now (src .entry))) ⌝ }
 {
     let n = at + 1;
     if src.len() <= n {
@@ -211,7 +225,7 @@ fn hex_at(src: &[u8], at: usize, end: bool) -> TextUnit
     }
     let digit = digit_value(src[n]);
     if digit < 16 {
-        return hex_second(src, n + 1, end, digit);
+        return hex_second(octals, src, n + 1, end, digit);
     }
     backslash(at)
 }
@@ -288,9 +302,9 @@ fn braced_at(src: &[u8], at: usize, end: bool) -> TextUnit
 }
 
 // What stands after the backslash before `at`, in double quotes and heredocs.
-pub fn escape_at(src: &[u8], at: usize, end: bool) -> TextUnit
+pub fn escape_at(octals: Octal, src: &[u8], at: usize, end: bool) -> TextUnit
     requires { ⌜ (at ≤ length (now src)) × (length (now src) ≤ 65536) ⌝ }
-    ensures { λ r. ⌜ r ≡ escape end at (drop at (now (src .entry))) ⌝ }
+    ensures { λ r. ⌜ r ≡ escape octals end at (drop at (now (src .entry))) ⌝ }
 {
     if src.len() <= at {
         let unit = backslash(at);
@@ -306,10 +320,10 @@ pub fn escape_at(src: &[u8], at: usize, end: bool) -> TextUnit
     }
     let digit = digit_value(b);
     if digit < 8 {
-        return octal_second(src, at + 1, end, digit);
+        return octal_second(octals, src, at + 1, end, digit);
     }
     if b == b'x' {
-        return hex_at(src, at, end);
+        return hex_at(octals, src, at, end);
     }
     if b == b'u' {
         return braced_at(src, at, end);

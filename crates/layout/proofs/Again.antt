@@ -4,7 +4,7 @@
 --   held-in                    what is read is such a session, whatever the numbers
 --   held-moved, held-entered, held-left   it stays one at another place, with a frame more, with a frame less
 --   good-session, no-session   numbers that are no session are refused: 11 for a source or tables that are too large, else 12
-use Prim.Native.Nat.{ℕ, zero, suc, _≤_, _<_, _%_}
+use Prim.Native.Nat.{ℕ, zero, suc, _≤_, _<_, _/_, _%_}
 use mathlib.Core.Path.{_≡_, refl, sym, _∙_}
 use mathlib.Core.Bool.{Bool, true, false, _&&_, false≢true}
 use mathlib.Core.List.{List, [], _∷_, _++_}
@@ -12,6 +12,7 @@ use native.Mathlib.Omega.{arith}
 use lib.Dec.{eqb}
 use lib.ListN.{length, getD, set, take, drop, length-set}
 use borrow.Author.Tests.{eqb-true, eqb-false, lt-ltb, ltb-true}
+use Rattle.byte.specs.declared.Octal.{Octal}
 use Rattle.byte.specs.Words.{if_then_else_, every}
 use Rattle.byte.specs.Laid.{laid}
 use Rattle.byte.specs.Refusals.{tooLarge, badSession}
@@ -27,8 +28,8 @@ use Rattle.state.specs.Bounds.{isLabel, isFrame, isBottom, noSlot, isSlot, isSt
 use Rattle.state.specs.Calls.{moved, entered, left}
 use Rattle.state.specs.Gates.{sourceFits, tablesFit, gateRefusal, lentRefusal}
 use Rattle.state.proofs.Bounds.{isWithin-facts}
-use Rattle.layout.specs.Sessions.{frameNumber, labelOf, framesNumbers, readingFlag, choicesNumber, numbersOf, isLabelNumbers, labelIn, frameIn, framesIn, readingIn, areChoices, choicesIn, depthIn, sessionIn, isFrameNumbers, areSlots, isSession}
-use Rattle.layout.proofs.Sessions.{length-framesIn}
+use Rattle.layout.specs.Sessions.{frameNumber, labelOf, framesNumbers, readingFlag, octalFlag, choicesNumber, numbersOf, isLabelNumbers, labelIn, frameIn, framesIn, readingIn, octalIn, areChoices, choicesIn, depthIn, sessionIn, isFrameNumbers, areSlots, isSession}
+use Rattle.layout.proofs.Sessions.{length-framesIn, readingFlag-small, octalFlag-small}
 
 -- a label's numbers have 16 bits
 unfoldable pub isHeld : Slot → Bool
@@ -60,33 +61,51 @@ frames-again (slot ∷ slots) rest h =
     let first = frame-again (slot .frame) (&&-left (isHeld slot) (every isHeld slots) h) in
     rw (first, frames-again slots rest (&&-right (isHeld slot) (every isHeld slots) h))
 
--- a reading's flag is 0 or 1, and gives the reading again
-readingFlag-small : (reading : Reading) → readingFlag reading < 2
-unfolding readingFlag
-readingFlag-small Reading.Ported = omega arith
-readingFlag-small Reading.Sheet = omega arith
-
+-- a choice gives a flag that gives the choice again, and a flag a choice that gives the flag again
 reading-again : (reading : Reading) → readingIn (readingFlag reading) ≡ reading
 unfolding readingIn readingFlag
 reading-again Reading.Ported = refl
 reading-again Reading.Sheet = refl
 
-flag-again : (flag : ℕ) → flag < 2 → readingFlag (readingIn flag) ≡ flag
-unfolding readingFlag readingIn
-flag-again flag h =
-    choice (λ (r : Reading). readingFlag r ≡ flag) (eqb flag 0) Reading.Ported Reading.Sheet (λ e. sym (eqb-true flag 0 e))
-    (λ e. omega (arith, eqb-false flag 0 e))
+octal-again : (octals : Octal) → octalIn (octalFlag octals) ≡ octals
+unfolding octalIn octalFlag
+octal-again Octal.Rust = refl
+octal-again Octal.Manual = refl
 
-pub choices-flags : (choices : Choices) → areChoices (choicesNumber choices) ≡ true
-choices-flags choices = lt-ltb _ 2 (readingFlag-small (choices .nowdocs))
+module _ (flag : ℕ) (h : flag < 2) where
+  readingFlag-again : readingFlag (readingIn flag) ≡ flag
+  unfolding readingFlag readingIn
+  readingFlag-again =
+      choice (λ (r : Reading). readingFlag r ≡ flag) (eqb flag 0) Reading.Ported Reading.Sheet
+      (λ e. sym (eqb-true flag 0 e))
+      (λ e. omega (arith, eqb-false flag 0 e))
 
-pub choices-again : (choices : Choices) → choicesIn (choicesNumber choices) ≡ choices
-choices-again choices =
-    let e : choicesNumber choices % 2 ≡ readingFlag (choices .nowdocs) = omega (arith, readingFlag-small (choices .nowdocs)) in
-    rw (e, reading-again (choices .nowdocs))
+  octalFlag-again : octalFlag (octalIn flag) ≡ flag
+  unfolding octalFlag octalIn
+  octalFlag-again =
+      choice (λ (o : Octal). octalFlag o ≡ flag) (eqb flag 0) Octal.Rust Octal.Manual (λ e. sym (eqb-true flag 0 e))
+      (λ e. omega (arith, eqb-false flag 0 e))
+
+module _ (choices : Choices) where
+  pub choices-flags : areChoices (choicesNumber choices) ≡ true
+  choices-flags =
+      lt-ltb (choicesNumber choices) 4
+      (omega (arith, readingFlag-small (choices .nowdocs), octalFlag-small (choices .octals)))
+
+  -- each flag is a bit of the number
+  low-bit : choicesNumber choices % 2 ≡ readingFlag (choices .nowdocs)
+  low-bit = omega (arith, readingFlag-small (choices .nowdocs))
+
+  next-bit : choicesNumber choices / 2 % 2 ≡ octalFlag (choices .octals)
+  next-bit = omega (arith, readingFlag-small (choices .nowdocs), octalFlag-small (choices .octals))
+
+  pub choices-again : choicesIn (choicesNumber choices) ≡ choices
+  choices-again = rw (low-bit, next-bit, reading-again (choices .nowdocs), octal-again (choices .octals))
 
 pub number-again : (number : ℕ) → areChoices number ≡ true → choicesNumber (choicesIn number) ≡ number
-number-again number h = flag-again (number % 2) (omega arith) ∙ omega (arith, ltb-true number 2 h)
+number-again number h =
+    rw (readingFlag-again (number % 2) (omega arith), octalFlag-again (number / 2 % 2) (omega arith))
+    (omega (arith, ltb-true number 4 h))
 
 depth-again : (depth : ℕ) (choices : Choices) → depthIn depth (choicesNumber choices) ≡ depth
 unfolding depthIn

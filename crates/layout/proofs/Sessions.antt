@@ -1,14 +1,17 @@
 -- A session's numbers on each way through the functions that read and write them. Assumes nothing.
-use Prim.Native.Nat.{ℕ, zero, suc, _+_, _*_, _-_, _%_, _≤_, _<_}
+use Prim.Native.Nat.{ℕ, zero, suc, _+_, _*_, _-_, _/_, _%_, _≤_, _<_}
 use mathlib.Core.Path.{_≡_, refl, sym, ap, _∙_}
 use mathlib.Core.Bool.{Bool, true, false, not}
 use mathlib.Core.List.{List, [], _∷_, _++_}
 use native.Mathlib.Omega.{arith}
 use native.Mathlib.Numerals.{add-one}
 use native.Mathlib.Nat.{add-zero, add-comm}
+use mir.Syntax.{w32}
+use mir.Val.{Fits}
 use lib.ListN.{length, getD, take, drop, set, length-set}
 use lib.Seq.{sets-eq, getD-drop, drop-drop, take-all, take-suc-set}
 use borrow.Author.Tests.{le-leb, lt-leb, eq-eqb, ne-eqb, not-true, not-false}
+use Rattle.byte.specs.declared.Octal.{Octal}
 use Rattle.byte.specs.Laid.{laid}
 use Rattle.byte.proofs.Laid.{laid-append, laid-rest, length-laid, Writing, writing-first, writing-on, writing-end}
 use Rattle.state.specs.declared.Label.{Label}
@@ -18,7 +21,7 @@ use Rattle.state.specs.declared.Reading.{Reading}
 use Rattle.state.specs.declared.Choices.{Choices}
 use Rattle.state.specs.declared.Session.{Session}
 use Rattle.state.specs.Bounds.{noSlot, noLabel}
-use Rattle.layout.specs.Sessions.{frameNumber, labelOf, slotNumbers, framesNumbers, readingFlag, choicesNumber, headNumbers, numbersOf, labelIn, frameIn, slotIn, framesIn, readingIn, areChoices, choicesIn, depthIn, sessionIn}
+use Rattle.layout.specs.Sessions.{frameNumber, labelOf, slotNumbers, framesNumbers, readingFlag, octalFlag, choicesNumber, headNumbers, numbersOf, labelIn, frameIn, slotIn, framesIn, readingIn, octalIn, areChoices, choicesIn, depthIn, sessionIn}
 
 -- a label in two numbers
 module _ (start len : ℕ) where
@@ -73,10 +76,22 @@ module _ (flag : ℕ) where
   unfolding readingIn
   readingIn-sheet h = rw (ne-eqb flag 0 h)
 
+  pub octalIn-rust : flag ≡ 0 → Octal.Rust ≡ octalIn flag
+  unfolding octalIn
+  octalIn-rust h = rw (eq-eqb flag 0 h)
+
+  pub octalIn-manual : (flag ≡ 0 → ⊥) → Octal.Manual ≡ octalIn flag
+  unfolding octalIn
+  octalIn-manual h = rw (ne-eqb flag 0 h)
+
 pub ruleset readings = (readingIn-ported, readingIn-sheet)
 
-pub choicesIn-flags : (number : ℕ) (nowdocs : Reading) → nowdocs ≡ readingIn (number % 2) → record { nowdocs = nowdocs } ≡ choicesIn number
-choicesIn-flags number nowdocs e = rw e
+pub ruleset octals = (octalIn-rust, octalIn-manual)
+
+pub choicesIn-flags : (number : ℕ) (nowdocs : Reading) (octals : Octal) → nowdocs ≡ readingIn (number % 2)
+    → octals ≡ octalIn (number / 2 % 2)
+    → record { nowdocs = nowdocs; octals = octals } ≡ choicesIn number
+choicesIn-flags number nowdocs octals e f = rw (e, f)
 
 module _ (depth choices : ℕ) (flag : Bool) (e : flag ≡ areChoices choices) where
   pub depthIn-none : not flag ≡ true → 0 ≡ depthIn depth choices
@@ -202,6 +217,30 @@ head-laid l s choices h e = rw e (sets-eq (headNumbers s) l 0 h)
 
 pub readingFlag-arm : (reading arm : Reading) (r : ℕ) → reading ≡ arm → r ≡ readingFlag arm → r ≡ readingFlag reading
 readingFlag-arm reading arm r e h = rw e h
+
+pub octalFlag-arm : (octals arm : Octal) (r : ℕ) → octals ≡ arm → r ≡ octalFlag arm → r ≡ octalFlag octals
+octalFlag-arm octals arm r e h = rw e h
+
+-- a flag is 0 or 1
+pub readingFlag-small : (reading : Reading) → readingFlag reading < 2
+unfolding readingFlag
+readingFlag-small Reading.Ported = omega arith
+readingFlag-small Reading.Sheet = omega arith
+
+pub octalFlag-small : (octals : Octal) → octalFlag octals < 2
+unfolding octalFlag
+octalFlag-small Octal.Rust = omega arith
+octalFlag-small Octal.Manual = omega arith
+
+-- flags add up to a number that fits
+module _ (octals : Octal) (o : ℕ) (e : o ≡ octalFlag octals) where
+  pub choicesNumber-twice : Fits w32 (2 * o)
+  choicesNumber-twice = omega (arith, octalFlag-small octals, e)
+
+  pub choicesNumber-fits : (reading : Reading) (n : ℕ) → n ≡ readingFlag reading → Fits w32 (n + 2 * o)
+  choicesNumber-fits reading n f = omega (arith, octalFlag-small octals, e, readingFlag-small reading, f)
+
+pub ruleset numbers = (choicesNumber-twice, choicesNumber-fits)
 
 -- the head, and the slots in the rest after it
 pub session-laid : (l m rest : List ℕ) (s : Session) → 199 ≤ length l → m ≡ laid l 0 (headNumbers s)

@@ -1,18 +1,19 @@
 -- A session as numbers, for hosts in C and Rust (include/puretakoi.h): 199 of them. Position, line, column, depth, the marks of list
 -- and pool, the choices as flags; then for each of 64 slots its frame's number, and its label's start and length (0, 0 without a label).
 --   frameNumber, labelOf, slotNumbers, framesNumbers   from a session to its numbers: frames
---   readingFlag, choicesNumber, numbersOf              choices, and all
+--   readingFlag, octalFlag, choicesNumber, numbersOf   choices, and all
 --   labelIn, frameIn, framesIn                         from any numbers at all to a session: frames
---   readingIn, choicesIn, sessionIn                    choices, and all
+--   readingIn, octalIn, choicesIn, sessionIn           choices, and all
 --   areChoices, isSession                              which numbers are choices, and what a session's are
 -- What is no frame is read as a text block without a label, and a session with a bit set that is no flag has depth 0: the gate refuses
 -- both (12), and looks at no slot above the depth. `no-session` says so, and `session-again` that reading what was written gives the
 -- session again (proofs/Again.antt).
-use Prim.Native.Nat.{ℕ, zero, suc, _%_}
+use Prim.Native.Nat.{ℕ, zero, suc, _+_, _*_, _/_, _%_}
 use mathlib.Core.Bool.{Bool, true, _&&_, _||_, not}
 use mathlib.Core.List.{List, [], _∷_, _++_}
 use lib.Dec.{leb, ltb, eqb}
 use lib.ListN.{getD, drop}
+use Rattle.byte.specs.declared.Octal.{Octal}
 use Rattle.byte.specs.Words.{if_then_else_}
 use Rattle.state.specs.declared.Label.{Label}
 use Rattle.state.specs.declared.Frame.{Frame}
@@ -58,9 +59,13 @@ unfoldable pub readingFlag : Reading → ℕ
 readingFlag Reading.Ported = 0
 readingFlag Reading.Sheet = 1
 
--- the choices as flags in one number: 1 nowdoc blocks as sheets
+unfoldable pub octalFlag : Octal → ℕ
+octalFlag Octal.Rust = 0
+octalFlag Octal.Manual = 1
+
+-- the choices as flags in one number: 1 nowdoc blocks as sheets, 2 octal escapes as the manual has them
 abbrev pub choicesNumber : Choices → ℕ
-choicesNumber choices = readingFlag (choices .nowdocs)
+choicesNumber choices = readingFlag (choices .nowdocs) + 2 * octalFlag (choices .octals)
 
 -- the seven numbers before the slots
 abbrev pub headNumbers : Session → List ℕ
@@ -101,12 +106,15 @@ framesIn (suc count) numbers = slotIn numbers ∷ framesIn count (drop 3 numbers
 unfoldable pub readingIn : ℕ → Reading
 readingIn flag = if eqb flag 0 then Reading.Ported else Reading.Sheet
 
+unfoldable pub octalIn : ℕ → Octal
+octalIn flag = if eqb flag 0 then Octal.Rust else Octal.Manual
+
 -- no bit is set but flags
 abbrev pub areChoices : ℕ → Bool
-areChoices number = ltb number 2
+areChoices number = ltb number 4
 
 abbrev pub choicesIn : ℕ → Choices
-choicesIn number = record { nowdocs = readingIn (number % 2) }
+choicesIn number = record { nowdocs = readingIn (number % 2); octals = octalIn (number / 2 % 2) }
 
 unfoldable pub depthIn : ℕ → ℕ → ℕ
 depthIn depth choices = if areChoices choices then depth else 0

@@ -1,10 +1,8 @@
 // A session as numbers, both ways, and a turn as numbers: what crosses to a host. include/puretakoi.h tells the layout.
 use source::Span;
 use state::Answer;
-use state::Choices;
 use state::Frame;
 use state::Label;
-use state::Reading;
 use state::Session;
 use state::Slot;
 use state::Turn;
@@ -16,9 +14,14 @@ ghost use Rattle.byte.specs.Laid.{laid};
 ghost use Rattle.state.specs.Bounds.{noSlot, isStack};
 ghost use Rattle.state.specs.Gates.{gateRefusal, lentRefusal};
 ghost use Rattle.state.specs.Calls.{spanOf};
-ghost use Rattle.layout.specs.Sessions.{frameNumber, labelOf, slotNumbers, framesNumbers, readingFlag, choicesNumber, headNumbers, numbersOf, labelIn, frameIn, slotIn, framesIn, readingIn, areChoices, choicesIn, depthIn, sessionIn};
+ghost use Rattle.layout.specs.Sessions.{frameNumber, labelOf, slotNumbers, framesNumbers, headNumbers, numbersOf, labelIn, frameIn, slotIn, framesIn, depthIn, sessionIn};
 ghost use Rattle.layout.specs.Lent.{placeNumbers};
 ghost use Rattle.layout.specs.Answers.{answerNumbers, refusalIn, Turned};
+
+mod choices;
+
+pub use choices::are_choices;
+pub use choices::choices_in;
 
 // The label in two numbers; one of no bytes where a number has more than 16 bits.
 fn label_in(start: u32, len: u32) -> Label
@@ -73,37 +76,11 @@ pub fn frame_at(numbers: &[u32], i: usize) -> Frame
     slot.frame
 }
 
-// The reading that a flag stands for.
-fn reading_in(flag: u32) -> Reading
-    ensures { λ r. ⌜ r ≡ readingIn flag ⌝ }
-{
-    if flag == 0 {
-        return Reading::Ported;
-    }
-    Reading::Sheet
-}
-
-// Whether no bit of a number is set but flags.
-pub fn are_choices(number: u32) -> bool
-    ensures { λ r. ⌜ r ≡ areChoices number ⌝ }
-{
-    number < 2
-}
-
-// The choices in a number's flags.
-pub fn choices_in(number: u32) -> Choices
-    ensures { λ r. ⌜ r ≡ choicesIn number ⌝ }
-{
-    Choices {
-        nowdocs: reading_in(number % 2),
-    }
-}
-
 // The depth; 0, which no session has, where the choices are none.
 fn depth_in(depth: u32, choices: u32) -> u32
     ensures { λ r. ⌜ r ≡ depthIn depth choices ⌝ }
 {
-    if !are_choices(choices) {
+    if !choices::are_choices(choices) {
         return 0;
     }
     depth
@@ -213,7 +190,7 @@ pub fn session_in(numbers: &[u32]) -> Session
         tokens: numbers[4],
         bytes: numbers[5],
         frames,
-        choices: choices_in(numbers[6]),
+        choices: choices::choices_in(numbers[6]),
     }
 }
 
@@ -285,24 +262,6 @@ pub fn put_place(numbers: &mut [u32], span: Span, depth: u32, tokens: u32, bytes
     numbers[5] = bytes;
 }
 
-// The flag of a reading, set or not.
-fn reading_flag(reading: Reading) -> u32
-    ensures { λ r. ⌜ r ≡ readingFlag reading ⌝ }
-{
-    match reading {
-        Reading::Ported => 0,
-        Reading::Sheet => 1,
-    }
-}
-
-// The choices as flags in one number.
-fn choices_number(choices: Choices) -> u32
-    ensures { λ r. ⌜ r ≡ choicesNumber choices ⌝ }
-{
-    let nowdocs = choices.nowdocs;
-    reading_flag(nowdocs)
-}
-
 // The 64 slots from a list's start on.
 fn put_frames(numbers: &mut [u32], s: Session)
     requires { ⌜ 192 ≤ length (now numbers) ⌝ }
@@ -328,7 +287,7 @@ fn put_head(numbers: &mut [u32], s: Session)
     numbers[3] = s.depth;
     numbers[4] = s.tokens;
     numbers[5] = s.bytes;
-    numbers[6] = choices_number(choices);
+    numbers[6] = choices::choices_number(choices);
 }
 
 // A session as 199 numbers.

@@ -107,7 +107,8 @@ module _ (call : Call) (src : List ℕ) (end : Bool) (f : Frame) (choices : Choi
           ready = p .ready;
           inside =
               rw (p .told)
-              (callAt-ways src (at .depth) (at .mark .span .position) end (s .marked .cursor .inside) f call choices .lies);
+              (callAt-ways choices src (at .depth) (at .mark .span .position) end
+              (s .marked .cursor .inside) f call .lies);
         }
 
     pub step-committed : (x : Next) (l′ q′ : List ℕ)

@@ -11,6 +11,7 @@ use lib.Seq.{getD-drop}
 use borrow.Author.Tests.{ne-eqb, le-leb, lt-leb, leb-true}
 use Rattle.byte.specs.Words.{if_then_else_, every}
 use Rattle.byte.specs.Bytes.{isDigit, isIdentifier}
+use Rattle.byte.specs.declared.Octal.{Octal}
 use Rattle.byte.specs.Refusals.{outOfPlace}
 use Rattle.byte.proofs.Tests.{&&-left, &&-right}
 use Rattle.byte.proofs.Words.{drop-one}
@@ -112,13 +113,24 @@ not-tick : isDigit 96 ≡ true → ⊥
 unfolding isDigit
 not-tick e = false≢true e
 
-module _ (src : List ℕ) (at : ℕ) (here : Here src at) (r : Row) where
-  own-reads : NoLiteral src at → r ≡ plainRow Way.Scripting Mode.Nowdoc at → Reads (scripts src at) src at r
+-- of the table the row of double quotes alone asks for the choice
+scripting-octals : (octals : Octal) (depth : ℕ) (end : Bool) (n : ℕ) (xs : List ℕ) → (getD xs 0 0 ≡ 34 → ⊥)
+    → scripting Octal.Rust depth end n xs ≡ scripting octals depth end n xs
+unfolding scripting
+scripting-octals octals depth end n [] h = refl
+scripting-octals octals depth end n (b ∷ rest) h = rw (ne-eqb b 34 h)
+
+module _ (octals : Octal) (src : List ℕ) (at : ℕ) (here : Here src at) (r : Row) where
+  own-reads : NoLiteral src at → r ≡ plainRow Way.Scripting Mode.Nowdoc at → Reads (scripts octals src at) src at r
   unfolding wayOutcome scripts
   own-reads x e =
-      plain-reads (scripts src at) src at Way.Scripting Mode.Nowdoc at r e (here .inside) x (λ depth end. refl)
+      let place : at + 0 ≡ at = omega arith in
+      let first : getD (drop at src) 0 0 ≡ getD src at 0 = getD-drop at src 0 0 ∙ rw place in
+      plain-reads (scripts octals src at) src at Way.Scripting Mode.Nowdoc at r e (here .inside) x
+      (λ depth end. scripting-octals octals depth end at (drop at src) (λ z. x .double (sym first ∙ z)))
 
-  pub script-past : length src ≤ at → r ≡ plainRow Way.Scripting Mode.Nowdoc at → Reads (scripts src at) src at r
+  pub script-past : length src ≤ at → r ≡ plainRow Way.Scripting Mode.Nowdoc at
+      → Reads (scripts octals src at) src at r
   unfolding isDigit
   script-past past e =
       let b : getD src at 0 ≡ 0 = List·getD-eq-default src 0 past in
@@ -127,45 +139,47 @@ module _ (src : List ℕ) (at : ℕ) (here : Here src at) (r : Row) where
 
   module _ (h : at < length src) where
     pub script-single : getD src at 0 ≡ 39 → r ≡ plainRow Way.Text Mode.Single (at + 1)
-        → Reads (scripts src at) src at r
+        → Reads (scripts octals src at) src at r
     unfolding wayOutcome scripts textRead scripting
     script-single b e =
-        plain-reads (scripts src at) src at Way.Text Mode.Single (at + 1) r e (omega arith) tt
+        plain-reads (scripts octals src at) src at Way.Text Mode.Single (at + 1) r e (omega arith) tt
         (λ depth end. rw (drop-one src at h, b, ← add-one at))
 
-    pub script-double : getD src at 0 ≡ 34 → r ≡ plainRow Way.Text Mode.Double (at + 1)
-        → Reads (scripts src at) src at r
+    pub script-double : getD src at 0 ≡ 34 → r ≡ plainRow Way.Text (Mode.Double octals) (at + 1)
+        → Reads (scripts octals src at) src at r
     unfolding wayOutcome scripts textRead scripting
     script-double b e =
-        plain-reads (scripts src at) src at Way.Text Mode.Double (at + 1) r e (omega arith) tt
+        plain-reads (scripts octals src at) src at Way.Text (Mode.Double octals) (at + 1) r e (omega arith) tt
         (λ depth end. rw (drop-one src at h, b, ← add-one at))
 
     pub script-point : (way : Way) → getD src at 0 ≡ 46 → way ≡ digitWay (getD src (at + 1) 0)
-        → r ≡ plainRow way Mode.Nowdoc at → Reads (scripts src at) src at r
+        → r ≡ plainRow way Mode.Nowdoc at → Reads (scripts octals src at) src at r
     unfolding wayOutcome scripts scripting isDigit
     script-point way b w e = go (isDigit (getD src (at + 1) 0)) refl (e ∙ rw w)
       where
         go : (t : Bool) → isDigit (getD src (at + 1) 0) ≡ t
-            → r ≡ plainRow (if t then Way.Number else Way.Scripting) Mode.Nowdoc at → Reads (scripts src at) src at r
+            → r ≡ plainRow (if t then Way.Number else Way.Scripting) Mode.Nowdoc at
+            → Reads (scripts octals src at) src at r
         go true d m =
             let place : at + 1 + 0 ≡ at + 1 = omega arith in
             let first : isDigit (getD (drop (at + 1) src) 0 0) ≡ true = rw (getD-drop (at + 1) src 0 0, place) d in
-            plain-reads (scripts src at) src at Way.Number Mode.Nowdoc at r m (here .inside) tt
+            plain-reads (scripts octals src at) src at Way.Number Mode.Nowdoc at r m (here .inside) tt
             (λ depth end. rw (drop-one src at h, b) (sym (point-digit end at (drop (at + 1) src) first)))
         go false d m =
             own-reads (record { single = λ z. omega arith; double = λ z. omega arith; digit = rw b; point = λ z. d }) m
 
     pub script-other : (way : Way) → (getD src at 0 ≡ 39 → ⊥) → (getD src at 0 ≡ 34 → ⊥) → (getD src at 0 ≡ 46 → ⊥)
-        → way ≡ digitWay (getD src at 0) → r ≡ plainRow way Mode.Nowdoc at → Reads (scripts src at) src at r
+        → way ≡ digitWay (getD src at 0) → r ≡ plainRow way Mode.Nowdoc at → Reads (scripts octals src at) src at r
     unfolding wayOutcome scripts scripting
     script-other way single double other w e = go (isDigit (getD src at 0)) refl (e ∙ rw w)
       where
         go : (t : Bool) → isDigit (getD src at 0) ≡ t
-            → r ≡ plainRow (if t then Way.Number else Way.Scripting) Mode.Nowdoc at → Reads (scripts src at) src at r
+            → r ≡ plainRow (if t then Way.Number else Way.Scripting) Mode.Nowdoc at
+            → Reads (scripts octals src at) src at r
         go true d m =
             let b = getD src at 0 in
             let tick : eqb b 96 ≡ false = ne-eqb b 96 (λ z. not-tick (rw z at d)) in
-            plain-reads (scripts src at) src at Way.Number Mode.Nowdoc at r m (here .inside) tt
+            plain-reads (scripts octals src at) src at Way.Number Mode.Nowdoc at r m (here .inside) tt
             (λ depth end. rw (drop-one src at h, ne-eqb b 39 single, ne-eqb b 34 double, tick, d))
         go false d m =
             own-reads (record { single = single; double = double; digit = d; point = λ z. absurd (other z) }) m
@@ -204,10 +218,11 @@ module _ (src : List ℕ) (f : Frame) (choices : Choices) (at : ℕ) (here : Her
   unfolding wayOutcome steps framed
   step-initial e = step-plain Frame.Initial Way.Initial Mode.Nowdoc e tt (λ depth end. refl)
 
-  pub step-doubleQuote : f ≡ Frame.DoubleQuote → r ≡ plainRow Way.Text Mode.DoubleQuote at
+  pub step-doubleQuote : f ≡ Frame.DoubleQuote → r ≡ plainRow Way.Text (Mode.DoubleQuote (choices .octals)) at
       → Reads (steps f src choices at) src at r
   unfolding wayOutcome textRead steps framed textMode
-  step-doubleQuote e = step-plain Frame.DoubleQuote Way.Text Mode.DoubleQuote e tt (λ depth end. refl)
+  step-doubleQuote e =
+      step-plain Frame.DoubleQuote Way.Text (Mode.DoubleQuote (choices .octals)) e tt (λ depth end. refl)
 
   pub step-shellExec : f ≡ Frame.ShellExec → r ≡ plainRow Way.Text Mode.ShellExec at
       → Reads (steps f src choices at) src at r
@@ -229,16 +244,18 @@ module _ (src : List ℕ) (f : Frame) (choices : Choices) (at : ℕ) (here : Her
   unfolding wayOutcome steps framed
   step-offset e = step-plain Frame.VarOffset Way.Offset Mode.Nowdoc e tt (λ depth end. refl)
 
-  pub step-scripting : f ≡ Frame.Scripting → Reads (scripts src at) src at r → Reads (steps f src choices at) src at r
+  pub step-scripting : f ≡ Frame.Scripting → Reads (scripts (choices .octals) src at) src at r
+      → Reads (steps f src choices at) src at r
   unfolding scripts steps framed
-  step-scripting e x = same-reads (scripts src at) (steps f src choices at) src at r x (λ depth end. rw e)
+  step-scripting e x =
+      same-reads (scripts (choices .octals) src at) (steps f src choices at) src at r x (λ depth end. rw e)
 
 -- a block's label is within the source
 module _ (src : List ℕ) (f : Frame) (choices : Choices) (at : ℕ) (here : Here src at) (good : isFrame src f ≡ true)
     (label : Label) where
   pub step-heredoc : f ≡ Frame.Heredoc label
       → Reads (steps f src choices at) src at
-      (record { way = Way.Text; mode = Mode.Heredoc; label = label; start = at })
+      (record { way = Way.Text; mode = Mode.Heredoc (choices .octals); label = label; start = at })
   unfolding wayOutcome textRead steps framed textMode isFrame
   step-heredoc e =
       let named : Named src label = isLabel-named src label (rw e at good) in
@@ -306,10 +323,11 @@ module _ (call : Call) (f : Frame) (src : List ℕ) (choices : Choices) (at : �
   unfolding calls callAt wayOutcome textRead
   call-single e = reading-reads Call.Single Way.Text Mode.Single e tt (λ depth end. refl)
 
-  pub call-double : call ≡ Call.Double → r ≡ plainRow (if isScripting f then Way.Text else Way.Refused) Mode.Double at
+  pub call-double : call ≡ Call.Double
+      → r ≡ plainRow (if isScripting f then Way.Text else Way.Refused) (Mode.Double (choices .octals)) at
       → Reads (calls call f src choices at) src at r
   unfolding calls callAt wayOutcome textRead
-  call-double e = reading-reads Call.Double Way.Text Mode.Double e tt (λ depth end. refl)
+  call-double e = reading-reads Call.Double Way.Text (Mode.Double (choices .octals)) e tt (λ depth end. refl)
 
 pub ruleset callRows = (call-step, call-number, call-single, call-double)
 

@@ -10,6 +10,7 @@ use lib.ListN.{length, getD, drop, drop-of-length-le}
 use borrow.Author.Tests.{ne-eqb, lt-ltb, le-ltb}
 use Rattle.byte.specs.Words.{if_then_else_}
 use Rattle.byte.specs.Bytes.{isDigit, isStart, isLetter}
+use Rattle.byte.specs.declared.Octal.{Octal}
 use Rattle.byte.proofs.Words.{drop-one}
 use Rattle.state.specs.declared.Frame.{Frame}
 use Rattle.outcome.specs.declared.Change.{Change}
@@ -86,9 +87,9 @@ pub finishedPlan-made : (at : ℕ) (drafts : Drafts) → drafts ≡ noDrafts
     → Plan.Told (record { drafts = drafts; after = at; change = Change.Keep; finished = true }) ≡ finishedPlan at
 finishedPlan-made at drafts e = rw e
 
-module _ (depth : ℕ) (src : List ℕ) (end : Bool) (at : ℕ) (r : Plan) where
+module _ (octals : Octal) (depth : ℕ) (src : List ℕ) (end : Bool) (at : ℕ) (r : Plan) where
   pub scripting-past : (p : Plan) → length src ≤ at → p ≡ finishedPlan at → r ≡ endingPlan end p
-      → Plans src end (scripting depth end at (drop at src)) r
+      → Plans src end (scripting octals depth end at (drop at src)) r
   unfolding scripting outcomeOf pieces
   scripting-past p h e f =
       rw (drop-of-length-le src h, f, e)
@@ -98,43 +99,43 @@ module _ (depth : ℕ) (src : List ℕ) (end : Bool) (at : ℕ) (r : Plan) where
   module _ (h : at < length src) where
     -- what the row's own routine plans
     pub scripting-point : getD src at 0 ≡ 46 → Plans src end (point end at (drop (at + 1) src)) r
-        → Plans src end (scripting depth end at (drop at src)) r
+        → Plans src end (scripting octals depth end at (drop at src)) r
     unfolding scripting isDigit
     scripting-point b p = rw (drop-one src at h, b) p
 
     pub scripting-question : getD src at 0 ≡ 63 → Plans src end (closeTag end at (drop (at + 1) src)) r
-        → Plans src end (scripting depth end at (drop at src)) r
+        → Plans src end (scripting octals depth end at (drop at src)) r
     unfolding scripting isDigit isStart isLetter
     scripting-question b p = rw (drop-one src at h, b) p
 
     pub scripting-less : getD src at 0 ≡ 60 → Plans src end (opened at (opening end (at + 1) (drop (at + 1) src))) r
-        → Plans src end (scripting depth end at (drop at src)) r
+        → Plans src end (scripting octals depth end at (drop at src)) r
     unfolding scripting isDigit isStart isLetter
     scripting-less b p = rw (drop-one src at h, b, ← add-one at) p
 
     pub scripting-slash : getD src at 0 ≡ 47 → Plans src end (slash end at (drop at src) (drop (at + 1) src)) r
-        → Plans src end (scripting depth end at (drop at src)) r
+        → Plans src end (scripting octals depth end at (drop at src)) r
     unfolding scripting isDigit isStart isLetter
     scripting-slash b p = rw (drop-one src at h, b) (rw (drop-one src at h, b) at p)
 
     pub scripting-hash : getD src at 0 ≡ 35 → Plans src end (hash end at (drop at src) (drop (at + 1) src)) r
-        → Plans src end (scripting depth end at (drop at src)) r
+        → Plans src end (scripting octals depth end at (drop at src)) r
     unfolding scripting isDigit isStart isLetter
     scripting-hash b p = rw (drop-one src at h, b) (rw (drop-one src at h, b) at p)
 
     -- one byte is passed
     pub scripting-backtick : getD src at 0 ≡ 96 → r ≡ goesPlan (at + 1) (Change.Swap Frame.ShellExec)
-        → Plans src end (scripting depth end at (drop at src)) r
+        → Plans src end (scripting octals depth end at (drop at src)) r
     unfolding scripting
     scripting-backtick b e = rw (drop-one src at h, b, ← add-one at, e) (goes-plans src end (at + 1) (Change.Swap Frame.ShellExec))
 
     pub scripting-opens : getD src at 0 ≡ 123 → r ≡ goesPlan (at + 1) (Change.Enter Frame.Scripting)
-        → Plans src end (scripting depth end at (drop at src)) r
+        → Plans src end (scripting octals depth end at (drop at src)) r
     unfolding scripting isDigit isStart isLetter
     scripting-opens b e = rw (drop-one src at h, b, ← add-one at, e) (goes-plans src end (at + 1) (Change.Enter Frame.Scripting))
 
     pub scripting-closes : (change : Change) → getD src at 0 ≡ 125 → change ≡ (if ltb 1 depth then Change.Leave else Change.Keep)
-        → r ≡ goesPlan (at + 1) change → Plans src end (scripting depth end at (drop at src)) r
+        → r ≡ goesPlan (at + 1) change → Plans src end (scripting octals depth end at (drop at src)) r
     unfolding scripting isDigit isStart isLetter
     scripting-closes change b c e = rw (drop-one src at h, b, ← add-one at, ← c, e) (goes-plans src end (at + 1) change)
 
@@ -142,7 +143,7 @@ module _ (depth : ℕ) (src : List ℕ) (end : Bool) (at : ℕ) (r : Plan) where
     module _ (x : NoLiteral src at) (s : getD src at 0 ≡ 96 → ⊥) (o : getD src at 0 ≡ 46 → ⊥) (start : Bool)
         (g : start ≡ isStart (getD src at 0)) where
       pub scripting-word : start ≡ true → Plans src end (word at (named end 1 (drop (at + 1) src))) r
-          → Plans src end (scripting depth end at (drop at src)) r
+          → Plans src end (scripting octals depth end at (drop at src)) r
       unfolding scripting
       scripting-word t p =
           rw (
@@ -158,7 +159,7 @@ module _ (depth : ℕ) (src : List ℕ) (end : Bool) (at : ℕ) (r : Plan) where
 
       pub scripting-other : start ≡ false → (getD src at 0 ≡ 123 → ⊥) → (getD src at 0 ≡ 125 → ⊥)
           → (getD src at 0 ≡ 63 → ⊥) → (getD src at 0 ≡ 60 → ⊥) → (getD src at 0 ≡ 47 → ⊥) → (getD src at 0 ≡ 35 → ⊥)
-          → r ≡ goesPlan (at + 1) Change.Keep → Plans src end (scripting depth end at (drop at src)) r
+          → r ≡ goesPlan (at + 1) Change.Keep → Plans src end (scripting octals depth end at (drop at src)) r
       unfolding scripting
       scripting-other t b c k l m n e =
           rw (

@@ -14,6 +14,7 @@ use borrow.Author.Tests.{eqb-true, ne-eqb, leb-true, lt-leb, ltb-true, lt-ltb, l
 use Rattle.state.specs.Bounds.{isScripting}
 use Rattle.byte.specs.Words.{if_then_else_, run, every}
 use Rattle.byte.specs.Bytes.{isDigit, isStart, isLetter, isIdentifier, isNoBreak, isNoneOf}
+use Rattle.byte.specs.declared.Octal.{Octal}
 use Rattle.source.specs.Code.{RunEnd, Unbroken, LineStart}
 use Rattle.source.specs.Cursor.{passedByte, passed}
 use Rattle.source.specs.declared.Span.{Span}
@@ -87,10 +88,10 @@ module _ (b : ℕ) (single : b ≡ 39 → ⊥) (double : b ≡ 34 → ⊥) (tick
 pub ruleset others = (isOther-arm, isOther-none)
 
 -- the last row
-scripting-last : (depth : ℕ) (end : Bool) (n b : ℕ) (rest : List ℕ) → isStart b ≡ false → isOther b ≡ true
-    → scripting depth end n (b ∷ rest) ≡ goes (suc n) Change.Keep
+scripting-last : (octals : Octal) (depth : ℕ) (end : Bool) (n b : ℕ) (rest : List ℕ) → isStart b ≡ false
+    → isOther b ≡ true → scripting octals depth end n (b ∷ rest) ≡ goes (suc n) Change.Keep
 unfolding scripting isOther
-scripting-last depth end n b rest s e =
+scripting-last octals depth end n b rest s e =
     let signs = isNoneOf 39 34 96 46 b in
     let brackets = isNoneOf 123 125 63 60 b in
     let comments = isNoneOf 47 35 47 35 b in
@@ -120,10 +121,10 @@ start-digit b s = go (leb b 57) refl
         let none = rw (lt-leb 65 b (omega arith), lt-leb 97 b (omega arith), ne-eqb b 95 other, lt-leb 128 b (omega arith)) at s in
         absurd (false≢true none)
 
-scripting-start : (depth : ℕ) (end : Bool) (n b : ℕ) (rest : List ℕ) → isStart b ≡ true
-    → scripting depth end n (b ∷ rest) ≡ word n (named end 1 rest)
+scripting-start : (octals : Octal) (depth : ℕ) (end : Bool) (n b : ℕ) (rest : List ℕ) → isStart b ≡ true
+    → scripting octals depth end n (b ∷ rest) ≡ word n (named end 1 rest)
 unfolding scripting isStart isLetter
-scripting-start depth end n b rest s =
+scripting-start octals depth end n b rest s =
     rw (start-other b 39 s refl, start-other b 34 s refl, start-other b 96 s refl, start-digit b s, start-other b 46 s refl, s)
 
 -- an identifier holds no LF
@@ -155,7 +156,8 @@ run-line (b ∷ rest) = go (isIdentifier b) refl (run-line rest)
 record Facts (n : ℕ) (xs : List ℕ) (k : ℕ) : Type 0 where
   inside : k ≤ length xs
   line : (k ≡ 1 → ⊥) → every isNoBreak (take k xs) ≡ true
-  told : (k ≡ 0 → ⊥) → (depth : ℕ) (end : Bool) → scripting depth end n xs ≡ goes (n + k) Change.Keep
+  told : (k ≡ 0 → ⊥) → (octals : Octal) (depth : ℕ) (end : Bool)
+      → scripting octals depth end n xs ≡ goes (n + k) Change.Keep
 
 facts-none : (n : ℕ) (xs : List ℕ) → Facts n xs 0
 unfolding every
@@ -171,14 +173,14 @@ module _ (n b : ℕ) (rest : List ℕ) where
       record {
         inside = omega (arith, ltb-true size (length rest) h);
         line = λ k. &&-both (isNoBreak b) _ (start-line b s) (run-line rest);
-        told = λ k depth end. rw (scripting-start depth end n b rest s, named-run end 1 rest, h, next);
+        told = λ k octals depth end. rw (scripting-start octals depth end n b rest s, named-run end 1 rest, h, next);
       }
 
   facts-other : isStart b ≡ false → isOther b ≡ true → Facts n (b ∷ rest) 1
   facts-other s o = record {
     inside = omega arith;
     line = λ k. absurd (k refl);
-    told = λ k depth end. rw (add-one n) (scripting-last depth end n b rest s o);
+    told = λ k octals depth end. rw (add-one n) (scripting-last octals depth end n b rest s o);
   }
 
 quickAt-facts : (n : ℕ) (xs : List ℕ) → Facts n xs (quickAt xs)
@@ -309,5 +311,6 @@ quick-passes call src f p h =
           high = omega (arith, facts .inside, length-drop (p .position) src);
           span = rw count;
           step = λ n. same;
-          told = λ n choices depth end. rw (same, frame, place) (facts .told (λ z. n (omega arith)) depth end);
+          told = λ n choices depth end.
+              rw (same, frame, place) (facts .told (λ z. n (omega arith)) (choices .octals) depth end);
         }

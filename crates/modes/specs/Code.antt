@@ -25,6 +25,7 @@ use lib.Dec.{eqb, ltb}
 use lib.ListN.{length, getD, take, drop}
 use Rattle.byte.specs.Words.{if_then_else_, run}
 use Rattle.byte.specs.Bytes.{isDigit, isStart, isIdentifier, isNoneOf}
+use Rattle.byte.specs.declared.Octal.{Octal}
 use Rattle.byte.specs.Refusals.{outOfPlace}
 use Rattle.source.specs.Cursor.{passed}
 use Rattle.source.specs.declared.Span.{Span}
@@ -59,7 +60,7 @@ unfoldable pub nowdocWay : Reading → Way
 nowdocWay Reading.Ported = Way.Text
 nowdocWay Reading.Sheet = Way.Sheet
 
--- the row's routine, from `at` on
+-- the row's routine, from `at` on; at Scripting no literal starts, and the choice for octal escapes does not matter
 unfoldable pub wayOutcome : Way → Row → List ℕ → ℕ → ℕ → Bool → Outcome
 wayOutcome Way.Number row src at depth end = numbered at (numberAt end at (drop at src))
 wayOutcome Way.Text row src at depth end =
@@ -67,7 +68,7 @@ wayOutcome Way.Text row src at depth end =
     (textAt (row .mode) (labelBytes src (row .label)) end (row .start) (drop (row .start) src))
 wayOutcome Way.Sheet row src at depth end = nowdoc Reading.Sheet (labelBytes src (row .label)) end at (drop at src)
 wayOutcome Way.Initial row src at depth end = initial end at (drop at src)
-wayOutcome Way.Scripting row src at depth end = scripting depth end at (drop at src)
+wayOutcome Way.Scripting row src at depth end = scripting Octal.Rust depth end at (drop at src)
 wayOutcome Way.Varname row src at depth end = lookingForVarname end at (drop at src)
 wayOutcome Way.Property row src at depth end = lookingForProperty end at (drop at src)
 wayOutcome Way.Offset row src at depth end = varOffset end at (drop at src)
@@ -91,8 +92,8 @@ Asked Way.Offset src at = Unit {0}
 Asked Way.Refused src at = Unit {0}
 
 -- what Scripting, a step and a call come to from a place on, by the depth and by whether the end is announced
-unfoldable pub scripts : List ℕ → ℕ → ℕ → Bool → Outcome
-scripts src at depth end = scripting depth end at (drop at src)
+unfoldable pub scripts : Octal → List ℕ → ℕ → ℕ → Bool → Outcome
+scripts octals src at depth end = scripting octals depth end at (drop at src)
 
 unfoldable pub steps : Frame → List ℕ → Choices → ℕ → ℕ → Bool → Outcome
 steps f src choices at depth end = framed f src choices depth end at (drop at src)

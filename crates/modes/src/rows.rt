@@ -1,5 +1,6 @@
 // What a call reads: which routine is asked, and of which text, by one look at the call, the frame and the byte there.
 use crate::passing;
+use byte::Octal;
 use outcome::Call;
 use state::Choices;
 use state::Frame;
@@ -74,9 +75,9 @@ fn point_way(src: &[u8], i: usize) -> Way
 }
 
 // At Scripting: a literal, a number, or another row of the table.
-fn script_row(src: &[u8], at: usize) -> Row
+fn script_row(octals: Octal, src: &[u8], at: usize) -> Row
     requires { ⌜ Here (now src) at ⌝ }
-    ensures { λ r. ⌜ Reads (scripts (now (src .entry)) at) (now (src .entry)) at r ⌝ }
+    ensures { λ r. ⌜ Reads (scripts octals (now (src .entry)) at) (now (src .entry)) at r ⌝ }
 {
     if src.len() <= at {
         return plain(Way::Scripting, Mode::Nowdoc, at);
@@ -84,7 +85,7 @@ fn script_row(src: &[u8], at: usize) -> Row
     let b = src[at];
     match b {
         b'\'' => plain(Way::Text, Mode::Single, at + 1),
-        b'"' => plain(Way::Text, Mode::Double, at + 1),
+        b'"' => plain(Way::Text, Mode::Double(octals), at + 1),
         b'.' => plain(point_way(src, at + 1), Mode::Nowdoc, at),
         _ => plain(digit_way(b), Mode::Nowdoc, at),
     }
@@ -106,14 +107,15 @@ fn step_row(src: &[u8], f: Frame, choices: Choices, at: usize) -> Row
     ensures { λ r. ⌜ Reads (steps f (now (src .entry)) choices at) (now (src .entry)) at r ⌝ }
 {
     let nowdocs = choices.nowdocs;
+    let octals = choices.octals;
     match f {
         Frame::Initial => plain(Way::Initial, Mode::Nowdoc, at),
-        Frame::Scripting => script_row(src, at),
-        Frame::DoubleQuote => plain(Way::Text, Mode::DoubleQuote, at),
+        Frame::Scripting => script_row(octals, src, at),
+        Frame::DoubleQuote => plain(Way::Text, Mode::DoubleQuote(octals), at),
         Frame::ShellExec => plain(Way::Text, Mode::ShellExec, at),
         Frame::Heredoc(label) => Row {
             way: Way::Text,
-            mode: Mode::Heredoc,
+            mode: Mode::Heredoc(octals),
             label,
             start: at,
         },
@@ -144,10 +146,11 @@ pub fn row_of(call: Call, src: &[u8], f: Frame, choices: Choices, at: usize) -> 
     requires { ⌜ Here (now src) at × (isFrame (now src) f ≡ true) ⌝ }
     ensures { λ r. ⌜ Reads (calls call f (now (src .entry)) choices at) (now (src .entry)) at r ⌝ }
 {
+    let octals = choices.octals;
     match call {
         Call::Step => step_row(src, f, choices, at),
         Call::Number => reading_row(f, Way::Number, Mode::Nowdoc, at),
         Call::Single => reading_row(f, Way::Text, Mode::Single, at),
-        Call::Double => reading_row(f, Way::Text, Mode::Double, at),
+        Call::Double => reading_row(f, Way::Text, Mode::Double(octals), at),
     }
 }

@@ -14,6 +14,7 @@ ghost use lib.Dec.{ltb};
 ghost use lib.ListN.{length, getD, drop};
 ghost use Rattle.byte.specs.Words.{if_then_else_};
 ghost use Rattle.byte.specs.Bytes.{isDigit};
+ghost use Rattle.byte.specs.declared.Octal.{Octal};
 ghost use Rattle.outcome.specs.declared.Change.{Change};
 ghost use Rattle.outcome.specs.Lookings.{named};
 ghost use Rattle.outcome.specs.Scripts.{point, word, closeTag, scripting};
@@ -81,10 +82,11 @@ fn finished(at: usize) -> Plan
     })
 }
 
-// The step of the mode Scripting in a session of this depth, where no literal and no number starts.
+// The step of the mode Scripting in a session of this depth, where no literal and no number starts: so the choice for
+// octal escapes does not matter.
 pub fn scripting(src: &[u8], at: usize, end: bool, depth: u32) -> Plan
     requires { ⌜ Here (now src) at × NoLiteral (now src) at ⌝ }
-    ensures { λ r. ⌜ Plans (now (src .entry)) end (scripting depth end at (drop at (now (src .entry)))) r ⌝ }
+    ensures { λ r. ⌜ Plans (now (src .entry)) end (scripting Octal.Rust depth end at (drop at (now (src .entry)))) r ⌝ }
 {
     if src.len() <= at {
         return plan::ending(end, finished(at));

@@ -18,12 +18,13 @@ use native.Mathlib.Nat.{zero-add}
 use lib.ListN.{length, take, drop, getD, length-append}
 use lib.Seq.{length-take-le, take-length, take-all, take-append-add}
 use borrow.Author.Tests.{eq-eqb, not-true}
+use Rattle.byte.specs.declared.Octal.{Octal}
 use Rattle.byte.specs.Words.{every}
 use Rattle.byte.specs.Bytes.{isDigit}
 use Rattle.byte.specs.Refusals.{isAmong}
 use Rattle.byte.proofs.Tests.{choice, &&-left}
-use Rattle.state.specs.declared.Choices.{Choices}
 use Rattle.state.specs.declared.Frame.{Frame}
+use Rattle.state.specs.declared.Reading.{Reading}
 use Rattle.token.specs.Kinds.{comment}
 use Rattle.token.specs.Kinds.{literalSingleQuotedString, literalDoubleQuotedString}
 use Rattle.unit.specs.declared.Mode.{Mode}
@@ -53,40 +54,42 @@ use Rattle.outcome.proofs.Others.{NoLiteral, TellsNone}
 
 -- the pieces of an outcome told at n, where xs is what is left: a literal or a comment is the only one; it bears the
 -- place n and stands as written from there up to the place after
-abbrev pub PiecesWritten : Call → ℕ → List ℕ → ℕ → List Piece → Type 0
-PiecesWritten call n xs after [] = Unit {0}
-PiecesWritten call n xs after (p ∷ []) =
-    isLiteral (p .kind) ≡ true → (p .place ≡ n) × AsWritten call (p .kind) (p .value) (take (after - n) xs)
-PiecesWritten call n xs after (p ∷ q ∷ more) = every (λ r. not (isLiteral (r .kind))) (p ∷ q ∷ more) ≡ true
+abbrev pub PiecesWritten : Call → Octal → ℕ → List ℕ → ℕ → List Piece → Type 0
+PiecesWritten call octals n xs after [] = Unit {0}
+PiecesWritten call octals n xs after (p ∷ []) =
+    isLiteral (p .kind) ≡ true → (p .place ≡ n) × AsWritten call octals (p .kind) (p .value) (take (after - n) xs)
+PiecesWritten call octals n xs after (p ∷ q ∷ more) = every (λ r. not (isLiteral (r .kind))) (p ∷ q ∷ more) ≡ true
 
-abbrev pub OutcomeWritten : Call → ℕ → List ℕ → Outcome → Type 0
-OutcomeWritten call n xs (Outcome.Told pieces after change finished) = PiecesWritten call n xs after pieces
-OutcomeWritten call n xs (Outcome.Refused number place) = Unit {0}
-OutcomeWritten call n xs Outcome.Wait = Unit {0}
+abbrev pub OutcomeWritten : Call → Octal → ℕ → List ℕ → Outcome → Type 0
+OutcomeWritten call octals n xs (Outcome.Told pieces after change finished) =
+    PiecesWritten call octals n xs after pieces
+OutcomeWritten call octals n xs (Outcome.Refused number place) = Unit {0}
+OutcomeWritten call octals n xs Outcome.Wait = Unit {0}
 
-pub others-written : (call : Call) (n : ℕ) (xs : List ℕ) (o : Outcome) → TellsNone o → OutcomeWritten call n xs o
+pub others-written : (call : Call) (octals : Octal) (n : ℕ) (xs : List ℕ) (o : Outcome) → TellsNone o
+    → OutcomeWritten call octals n xs o
 unfolding every
-others-written call n xs (Outcome.Told pieces after change finished) e = go pieces e
+others-written call octals n xs (Outcome.Told pieces after change finished) e = go pieces e
   where
-    go : (pieces : List Piece) → NoLiteral pieces → PiecesWritten call n xs after pieces
+    go : (pieces : List Piece) → NoLiteral pieces → PiecesWritten call octals n xs after pieces
     go [] z = tt
     go (p ∷ []) z = λ l. absurd (false≢true (sym (not-true (isLiteral (p .kind)) (&&-left _ true z)) ∙ l))
     go (p ∷ q ∷ more) z = z
-others-written call n xs (Outcome.Refused number place) e = tt
-others-written call n xs Outcome.Wait e = tt
+others-written call octals n xs (Outcome.Refused number place) e = tt
+others-written call octals n xs Outcome.Wait e = tt
 
 -- ---- what a literal and a comment ask
 
 -- the text alone, at any depth
-abbrev pub Alone : Call → ℕ → List ℕ → List ℕ → Type 0
-Alone call kind value text =
-    (src : List ℕ) (choices : Choices) (depth : ℕ)
-    → callAt call Frame.Scripting src choices depth true 0 text
+abbrev pub Alone : Call → Octal → ℕ → List ℕ → List ℕ → Type 0
+Alone call octals kind value text =
+    (src : List ℕ) (nowdocs : Reading) (depth : ℕ)
+    → callAt call Frame.Scripting src (record { nowdocs = nowdocs; octals = octals }) depth true 0 text
     ≡ Outcome.Told (piece kind 0 value ∷ []) (length text) Change.Keep false
 
-module _ (call : Call) (value text : List ℕ) where
-  pub single-as : Alone call literalSingleQuotedString value text → isQuoted call "'" text ≡ true
-      → AsWritten call literalSingleQuotedString value text
+module _ (octals : Octal) (call : Call) (value text : List ℕ) where
+  pub single-as : Alone call octals literalSingleQuotedString value text → isQuoted call "'" text ≡ true
+      → AsWritten call octals literalSingleQuotedString value text
   single-as a q =
       record {
         alone = a;
@@ -96,8 +99,8 @@ module _ (call : Call) (value text : List ℕ) where
         comment = λ e. absurd (false≢true e);
       }
 
-  pub double-as : Alone call literalDoubleQuotedString value text → isQuoted call "\"" text ≡ true
-      → AsWritten call literalDoubleQuotedString value text
+  pub double-as : Alone call octals literalDoubleQuotedString value text → isQuoted call "\"" text ≡ true
+      → AsWritten call octals literalDoubleQuotedString value text
   double-as a q =
       record {
         alone = a;
@@ -107,8 +110,8 @@ module _ (call : Call) (value text : List ℕ) where
         comment = λ e. absurd (false≢true e);
       }
 
-  number-as : (literal : Literal) → Alone call (numberKind literal) value text
-      → value ≡ number.spelled (number.baseOf text) text → AsWritten call (numberKind literal) value text
+  number-as : (literal : Literal) → Alone call octals (numberKind literal) value text
+      → value ≡ number.spelled (number.baseOf text) text → AsWritten call octals (numberKind literal) value text
   unfolding numberKind
   number-as Literal.Integer a s =
       record {
@@ -127,8 +130,9 @@ module _ (call : Call) (value text : List ℕ) where
         comment = λ e. absurd (false≢true e);
       }
 
-comment-as : (call : Call) (text : List ℕ) → Alone call comment text text → AsWritten call comment text text
-comment-as call text a =
+comment-as : (octals : Octal) (call : Call) (text : List ℕ) → Alone call octals comment text text
+    → AsWritten call octals comment text text
+comment-as octals call text a =
     record {
       alone = a;
       single = λ e. absurd (false≢true e);
@@ -156,14 +160,17 @@ single-quoting end n xs value stop from after e l =
     let (q, cut) = single-cut end n xs value stop from after e in
     record { closed = single-closed end n xs value from after (rw q at e); cut = cut }
 
-pub double-quoting : Quoting Mode.Double "\""
+pub double-quoting : (octals : Octal) → Quoting (Mode.Double octals) "\""
 unfolding isLeft
-double-quoting end n xs value stop from after e l = go (double-ended end n xs value stop from after e)
+double-quoting octals end n xs value stop from after e l = go (double-ended end n xs value stop from after octals e)
   where
-    go : (stop ≡ Stop.Quote) ⊎ (stop ≡ Stop.Interpolation) → Quoted Mode.Double "\"" n xs value from after
+    go : (stop ≡ Stop.Quote) ⊎ (stop ≡ Stop.Interpolation) → Quoted (Mode.Double octals) "\"" n xs value from after
     go (inl q) =
-        let f : unit.textAt Mode.Double [] end n xs ≡ unit.Text value Stop.Quote from after = rw q at e in
-        record { closed = double-closed end n xs value from after f; cut = double-cut end n xs value from after f }
+        let f : unit.textAt (Mode.Double octals) [] end n xs ≡ unit.Text value Stop.Quote from after = rw q at e in
+        record {
+          closed = double-closed end n xs value from after octals f;
+          cut = double-cut end n xs value from after octals f;
+        }
     go (inr i) = absurd (false≢true (sym l ∙ ap isLeft i))
 
 isClosed-take : (c : Char) (j : ℕ) (xs : List ℕ) → j < length xs → getD xs j 0 ≡ code c
@@ -191,28 +198,29 @@ module _ (m : Mode) (c : Char) (n : ℕ) (xs value : List ℕ) (from after : ℕ
       let place : k + (after - n) ≡ size = omega arith in
       rw (x .cut k, place)
 
-module _ (m : Mode) (c : Char) (kind : ℕ) (quoting : Quoting m c)
-    (makes : (call : Call) (value text : List ℕ) → Alone call kind value text → isQuoted call c text ≡ true
-    → AsWritten call kind value text) (end : Bool) (n : ℕ) where
+module _ (octals : Octal) (m : Mode) (c : Char) (kind : ℕ) (quoting : Quoting m c)
+    (makes : (call : Call) (value text : List ℕ) → Alone call octals kind value text → isQuoted call c text ≡ true
+    → AsWritten call octals kind value text) (end : Bool) (n : ℕ) where
   -- read from p on, where ys stands
   read-written : (call : Call) (xs : List ℕ) (p : ℕ) (ys : List ℕ)
       → ((value : List ℕ) (from after : ℕ) → Quoted m c p ys value from after
-      → AsWritten call kind value (take (after - n) xs))
-      → OutcomeWritten call n xs (literal kind n (unit.textAt m [] end p ys))
+      → AsWritten call octals kind value (take (after - n) xs))
+      → OutcomeWritten call octals n xs (literal kind n (unit.textAt m [] end p ys))
   unfolding literal isLiteral isAmong
   read-written call xs p ys w = go (unit.textAt m [] end p ys) refl
     where
-      go : (r : unit.Reading) → unit.textAt m [] end p ys ≡ r → OutcomeWritten call n xs (literal kind n r)
+      go : (r : unit.Reading) → unit.textAt m [] end p ys ≡ r → OutcomeWritten call octals n xs (literal kind n r)
       go (unit.Text value stop from after) e =
-          choice (OutcomeWritten call n xs) (isLeft stop) _ _ (λ l. λ z. absurd (false≢true z))
+          choice (OutcomeWritten call octals n xs) (isLeft stop) _ _ (λ l. λ z. absurd (false≢true z))
           (λ l. λ z. (refl, w value from after (quoting end p ys value stop from after e l)))
       go (unit.Refused number place) e = tt
       go unit.Wait e = tt
 
   -- a step, from its quote on
   pub step-written : ((depth : ℕ) (ys : List ℕ)
-      → scripting depth true 0 (code c ∷ ys) ≡ literal kind 0 (unit.textAt m [] true 1 ys))
-      → (ys : List ℕ) → OutcomeWritten Call.Step n (code c ∷ ys) (literal kind n (unit.textAt m [] end (suc n) ys))
+      → scripting octals depth true 0 (code c ∷ ys) ≡ literal kind 0 (unit.textAt m [] true 1 ys))
+      → (ys : List ℕ)
+      → OutcomeWritten Call.Step octals n (code c ∷ ys) (literal kind n (unit.textAt m [] end (suc n) ys))
   unfolding callAt framed isQuoted isOpened
   step-written row ys =
       read-written Call.Step (code c ∷ ys) (suc n) ys
@@ -220,19 +228,20 @@ module _ (m : Mode) (c : Char) (kind : ℕ) (quoting : Quoting m c)
       let z : after - n ≡ suc (after - suc n) = omega (arith, x .closed .last, x .closed .on) in
       rw z
       (makes Call.Step value (code c ∷ take (after - suc n) ys)
-      (λ src choices depth. row depth _ ∙ quoted-alone m c (suc n) ys value from after x kind 1 _ (omega arith))
+      (λ src nowdocs depth. row depth _ ∙ quoted-alone m c (suc n) ys value from after x kind 1 _ (omega arith))
       (rw (eq-eqb (code c) (code c) refl) (quoted-closed m c (suc n) ys value from after x))))
 
   -- a reading, after the quote
   pub reading-written : (call : Call) → ((text : List ℕ) → isQuoted call c text ≡ isClosed c text)
-      → ((src : List ℕ) (choices : Choices) (depth : ℕ) (text : List ℕ)
-      → callAt call Frame.Scripting src choices depth true 0 text ≡ literal kind 0 (unit.textAt m [] true 0 text))
-      → (xs : List ℕ) → OutcomeWritten call n xs (literal kind n (unit.textAt m [] end n xs))
+      → ((src : List ℕ) (nowdocs : Reading) (depth : ℕ) (text : List ℕ)
+      → callAt call Frame.Scripting src (record { nowdocs = nowdocs; octals = octals }) depth true 0 text
+      ≡ literal kind 0 (unit.textAt m [] true 0 text))
+      → (xs : List ℕ) → OutcomeWritten call octals n xs (literal kind n (unit.textAt m [] end n xs))
   reading-written call quoted row xs =
       read-written call xs n xs
       (λ value from after x.
       makes call value (take (after - n) xs)
-      (λ src choices depth. row src choices depth _ ∙ quoted-alone m c n xs value from after x kind 0 _ (omega arith))
+      (λ src nowdocs depth. row src nowdocs depth _ ∙ quoted-alone m c n xs value from after x kind 0 _ (omega arith))
       (quoted _ ∙ quoted-closed m c n xs value from after x))
 
 -- ---- numbers
@@ -258,25 +267,25 @@ point-two end n b rest f =
     go (Digits.Read ds after) next = first ds (next after)
     go Digits.Undecided next = tt
 
-module _ (call : Call) (end : Bool) (n : ℕ) (xs : List ℕ) where
+module _ (octals : Octal) (call : Call) (end : Bool) (n : ℕ) (xs : List ℕ) where
   pub numbered-written : ((literal : Literal) (value : List ℕ) (after : ℕ)
       → numberAt end n xs ≡ number.Reading.Number literal value after
-      → (src : List ℕ) (choices : Choices) (depth : ℕ)
-      → callAt call Frame.Scripting src choices depth true 0 (take (after - n) xs)
+      → (src : List ℕ) (nowdocs : Reading) (depth : ℕ)
+      → callAt call Frame.Scripting src (record { nowdocs = nowdocs; octals = octals }) depth true 0 (take (after - n) xs)
       ≡ numbered 0 (numberAt true 0 (take (after - n) xs)))
-      → OutcomeWritten call n xs (numbered n (numberAt end n xs))
+      → OutcomeWritten call octals n xs (numbered n (numberAt end n xs))
   unfolding numbered
   numbered-written row = go (numberAt end n xs) refl
     where
-      go : (r : number.Reading) → numberAt end n xs ≡ r → OutcomeWritten call n xs (numbered n r)
+      go : (r : number.Reading) → numberAt end n xs ≡ r → OutcomeWritten call octals n xs (numbered n r)
       go (number.Reading.Number literal value after) e = λ l.
           let size : length (take (after - n) xs) ≡ 0 + (after - n) =
           length-take-le (after - n) xs (omega (arith, numberAt-inside end n xs literal value after e .1))
           ∙ omega arith in (
             refl,
-            number-as call value (take (after - n) xs) literal
-                (λ src choices depth.
-                row literal value after e src choices depth
+            number-as octals call value (take (after - n) xs) literal
+                (λ src nowdocs depth.
+                row literal value after e src nowdocs depth
                 ∙ ap (numbered 0) (number-cut end n xs literal value after e 0)
                 ∙ rw (← size))
                 (number-spelled end n xs literal value after e),
@@ -298,8 +307,8 @@ cutEnd-told CommentKind.SingleLine j text h = over-told text
 cutEnd-told CommentKind.MultiLine j text h = rw (← h, take-length text, zero-add (length text))
 
 -- `head` was passed, and `rest` is after it
-module _ (kind : CommentKind) (end : Bool) (n : ℕ) (head rest : List ℕ)
-    (row : (i depth : ℕ) → scripting depth true 0 (head ++ take i rest)
+module _ (octals : Octal) (kind : CommentKind) (end : Bool) (n : ℕ) (head rest : List ℕ)
+    (row : (i depth : ℕ) → scripting octals depth true 0 (head ++ take i rest)
     ≡ commentAt kind (length head) true 0 (head ++ take i rest) (take i rest)) where
   abbrev whole : List ℕ
   whole = head ++ rest
@@ -308,7 +317,7 @@ module _ (kind : CommentKind) (end : Bool) (n : ℕ) (head rest : List ℕ)
   taken-written : (s : ℕ) → length head ≤ s
       → commented kind 0 (take s whole) (commentEnd kind true (length head) (take (s - length head) rest))
       ≡ Outcome.Told (piece comment 0 (take s whole) ∷ []) (length (take s whole)) Change.Keep false
-      → OutcomeWritten Call.Step n whole (token comment n whole s Change.Keep)
+      → OutcomeWritten Call.Step octals n whole (token comment n whole s Change.Keep)
   unfolding callAt framed
   taken-written s h e = λ l.
       let z : n + s - n ≡ s = omega arith in
@@ -316,12 +325,13 @@ module _ (kind : CommentKind) (end : Bool) (n : ℕ) (head rest : List ℕ)
       let text : take s whole ≡ head ++ take (s - length head) rest =
       rw k at (take-append-add head rest (s - length head)) in (
         refl,
-        rw z (comment-as Call.Step (take s whole)
-            (λ src choices depth. ap (scripting depth true 0) text ∙ row (s - length head) depth ∙ rw (← text) e)),
+        rw z (comment-as octals Call.Step (take s whole)
+            (λ src nowdocs depth.
+            ap (scripting octals depth true 0) text ∙ row (s - length head) depth ∙ rw (← text) e)),
       )
 
   over-written : (k : CommentKind) → kind ≡ k → commentEnd kind end (length head) rest ≡ CommentEnd.Over
-      → OutcomeWritten Call.Step n whole (endless k n whole)
+      → OutcomeWritten Call.Step octals n whole (endless k n whole)
   unfolding endless commented
   over-written CommentKind.SingleLine h e =
       let long : length whole ≡ length head + length rest = length-append head rest in
@@ -331,12 +341,12 @@ module _ (kind : CommentKind) (end : Bool) (n : ℕ) (head rest : List ℕ)
       taken-written (length whole) (omega arith) (rw (all, ← announced, e, h) (over-told (take (length whole) whole)))
   over-written CommentKind.MultiLine h e = tt
 
-  pub comment-written : OutcomeWritten Call.Step n whole (commentAt kind (length head) end n whole rest)
+  pub comment-written : OutcomeWritten Call.Step octals n whole (commentAt kind (length head) end n whole rest)
   unfolding commented
   comment-written = go (commentEnd kind end (length head) rest) refl
     where
       go : (r : CommentEnd) → commentEnd kind end (length head) rest ≡ r
-          → OutcomeWritten Call.Step n whole (commented kind n whole r)
+          → OutcomeWritten Call.Step octals n whole (commented kind n whole r)
       go (CommentEnd.At j) e =
           let long : length whole ≡ length head + length rest = length-append head rest in
           let inside : (length head ≤ j) × (j + endTaken kind ≤ length whole) =

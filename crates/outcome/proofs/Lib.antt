@@ -9,6 +9,7 @@ pub mod StepWays
 pub mod Others
 pub mod Alone
 pub mod Written
+pub mod Octals
 pub mod Demand
 pub mod TextDemand
 pub mod LookingDemand

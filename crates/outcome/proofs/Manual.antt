@@ -10,6 +10,7 @@ use mathlib.Core.List.{List, [], _∷_}
 use native.Mathlib.Omega.{arith}
 use lib.ListN.{length, take, length-take}
 use borrow.Author.Tests.{eqb-true}
+use Rattle.byte.specs.declared.Octal.{Octal}
 use Rattle.byte.specs.Words.{if_then_else_, _is_, every, run}
 use Rattle.byte.specs.Bytes.{isDigit, isStart, isLetter}
 use Rattle.byte.proofs.Tests.{choice, &&-left, &&-right, if-both}
@@ -84,14 +85,14 @@ hash-whole n (c ∷ rest) =
     (λ e. refl)
     (λ e. line-whole n (code "#" ∷ c ∷ rest) 1 (c ∷ rest) (omega arith))
 
-pub comment-whole : (depth n : ℕ) (xs : List ℕ) → (isNext (code "/") xs || isNext (code "#") xs) ≡ true
-    → scripting depth true n xs ≡ outcomeOf n xs (commentOf false xs)
+pub comment-whole : (octals : Octal) (depth n : ℕ) (xs : List ℕ) → (isNext (code "/") xs || isNext (code "#") xs) ≡ true
+    → scripting octals depth true n xs ≡ outcomeOf n xs (commentOf false xs)
 unfolding isNext scripting isDigit isStart isLetter
-comment-whole depth n [] h = clash cc
-comment-whole depth n (b ∷ rest) h = go (b is "/") (b is "#") (eqb-true b (code "/")) (eqb-true b (code "#")) h
+comment-whole octals depth n [] h = clash cc
+comment-whole octals depth n (b ∷ rest) h = go (b is "/") (b is "#") (eqb-true b (code "/")) (eqb-true b (code "#")) h
   where
     go : (t s : Bool) → (t ≡ true → b ≡ code "/") → (s ≡ true → b ≡ code "#") → (t || s) ≡ true
-        → scripting depth true n (b ∷ rest) ≡ outcomeOf n (b ∷ rest) (commentOf false (b ∷ rest))
+        → scripting octals depth true n (b ∷ rest) ≡ outcomeOf n (b ∷ rest) (commentOf false (b ∷ rest))
     go true s f g h = rw (f refl) (slash-whole n rest)
     go false true f g h = rw (g refl) (hash-whole n rest)
     go false false f g h = clash cc

@@ -36,10 +36,10 @@ TellsNone Outcome.Wait = Unit {0}
 stopKind-other : (m : Mode) (stop : Stop) → isLiteral (stopKind m stop) ≡ false
 unfolding isLiteral isAmong stopKind quoteKind docKind
 stopKind-other Mode.Single Stop.Quote = refl
-stopKind-other Mode.Double Stop.Quote = refl
-stopKind-other Mode.DoubleQuote Stop.Quote = refl
+stopKind-other (Mode.Double octals) Stop.Quote = refl
+stopKind-other (Mode.DoubleQuote octals) Stop.Quote = refl
 stopKind-other Mode.ShellExec Stop.Quote = refl
-stopKind-other Mode.Heredoc Stop.Quote = refl
+stopKind-other (Mode.Heredoc octals) Stop.Quote = refl
 stopKind-other Mode.Nowdoc Stop.Quote = refl
 stopKind-other m Stop.Interpolation = refl
 stopKind-other m Stop.DollarLeftBrace = refl

@@ -6,6 +6,7 @@ use Prim.Native.Nat.{ℕ, suc, _+_}
 use Prim.Native.Char.{code}
 use native.Mathlib.Omega.{arith}
 use lib.ListN.{length}
+use Rattle.byte.specs.declared.Octal.{Octal}
 use Rattle.byte.specs.Words.{_is_, every, bytes}
 use Rattle.byte.specs.Bytes.{isStart, isIdentifier, isLetter, isDigit}
 use Rattle.state.specs.declared.Frame.{Frame}
@@ -80,19 +81,21 @@ module _ (n p : ℕ) where
       if-answers p (b is ">") (settled p (goes (suc (suc n)) (Change.Swap Frame.Initial)) told-waits)
       (settled p (goes (suc n) Change.Keep) told-waits)
 
-  module _ (depth : ℕ) where
-    scripting-answers : (xs : List ℕ) → Answers p (scripting depth false n xs) (λ c. scripting depth true n (xs ++ c))
+  module _ (octals : Octal) (depth : ℕ) where
+    scripting-answers : (xs : List ℕ)
+        → Answers p (scripting octals depth false n xs) (λ c. scripting octals depth true n (xs ++ c))
     unfolding scripting every limited bytes isStart isLetter isDigit
     scripting-answers [] =
-        unseen p (scripting depth true n)
-        (splits p (scripting depth true n) (bytes " ") (Outcome.Told [] n Change.Keep true) (goes (suc n) Change.Keep) refl refl refl
+        unseen p (scripting octals depth true n)
+        (splits p (scripting octals depth true n) (bytes " ") (Outcome.Told [] n Change.Keep true)
+        (goes (suc n) Change.Keep) refl refl refl
         (after-apart (λ (e : n ≡ suc n). omega arith)))
         told-waits
     scripting-answers (b ∷ xs) =
         if-answers p (b is "'")
         (demands-answers p _ (literal-demands literalSingleQuotedString n Mode.Single refl tt (suc n) p) xs)
         (if-answers p (b is "\"")
-        (demands-answers p _ (literal-demands literalDoubleQuotedString n Mode.Double refl tt (suc n) p) xs)
+        (demands-answers p _ (literal-demands literalDoubleQuotedString n (Mode.Double octals) refl tt (suc n) p) xs)
         (if-answers p (b is "`") (settled p (goes (suc n) (Change.Swap Frame.ShellExec)) told-waits)
         (if-answers p (isDigit b) (demands-answers p _ (numbered-demands n n p) (b ∷ xs))
         (if-answers p (b is ".") (point-answers xs)
@@ -104,5 +107,5 @@ module _ (n p : ℕ) where
         (if-answers p (b is "/") (slash-answers n p (b ∷ xs) xs (omega arith))
         (if-answers p (b is "#") (hash-answers n p (b ∷ xs) xs (omega arith)) (settled p (goes (suc n) Change.Keep) told-waits))))))))))))
 
-    pub scripting-demands : Demands p (λ end. scripting depth end n)
-    scripting-demands = answers-demands p (λ end. scripting depth end n) scripting-answers
+    pub scripting-demands : Demands p (λ end. scripting octals depth end n)
+    scripting-demands = answers-demands p (λ end. scripting octals depth end n) scripting-answers

@@ -10,6 +10,7 @@ use lib.Dec.{ltb}
 use lib.ListN.{length, take, drop, length-drop}
 use lib.Seq.{drop-drop}
 use borrow.Author.Tests.{ltb-true, le-leb}
+use Rattle.byte.specs.declared.Octal.{Octal}
 use Rattle.byte.specs.Refusals.{isAmong}
 use Rattle.byte.specs.Words.{if_then_else_, _is_, every}
 use Rattle.byte.specs.Bytes.{isDigit, isStart, isIdentifier}
@@ -42,7 +43,7 @@ use Rattle.outcome.proofs.Pieces.{take-length, goes-inside, one-inside,
 use Rattle.outcome.proofs.Comments.{CommentInside, commentEnd-inside}
 use Rattle.outcome.proofs.Openings.{LabelInside, OpeningInside, opening-inside}
 use Rattle.outcome.proofs.Initials.{TaggedInside, tagged-within}
-use Rattle.outcome.proofs.Ways.{Welcome, ChangeGood, Asked, stepNumbers, Ways, if-ways, waits, ending-ways}
+use Rattle.outcome.proofs.Ways.{Welcome, ChangeGood, Asked, stepNumbers, quoted-may, Ways, if-ways, waits, ending-ways}
 use Rattle.outcome.proofs.Ways.{fault-ways, told-ways, goes-ways, token-ways, scripting-in, literal-ways}
 use Rattle.outcome.proofs.Ways.{numbered-ways, RunInside, named-inside}
 
@@ -107,7 +108,7 @@ module _ {src : List ℕ} {n : ℕ} (a : Asked src n) (end : Bool) where
       go Tagged.Undecided i = waits a
 
 module _ {src : List ℕ} {n : ℕ} (a : Asked src n) (top : isScripting (a .top) ≡ true)
-    (step : a .numbers ≡ stepNumbers) (end : Bool) where
+    (octals : Octal) (step : a .numbers ≡ stepNumbers octals) (end : Bool) where
   abbrev Way : Outcome → Type 0
   Way o = Ways a o
 
@@ -180,7 +181,7 @@ module _ {src : List ℕ} {n : ℕ} (a : Asked src n) (top : isScripting (a .top
 
   -- ---- the table
 
-  quoted-ways : (m : Mode) → every (λ k. isAmong k stepNumbers) (faults m) ≡ true → (kind : ℕ) (xs : List ℕ)
+  quoted-ways : (m : Mode) → every (λ k. isAmong k (stepNumbers octals)) (faults m) ≡ true → (kind : ℕ) (xs : List ℕ)
       → suc n + length xs ≡ length src
       → Way (literal kind n (unit.textAt m [] end (suc n) xs))
   quoted-ways m may kind xs h =
@@ -189,7 +190,7 @@ module _ {src : List ℕ} {n : ℕ} (a : Asked src n) (top : isScripting (a .top
       (rw h at (unit-inside.text-inside m [] end (suc n) xs))
 
   pub scripting-ways : (xs : List ℕ) → drop n src ≡ xs → n + length xs ≡ length src
-      → Way (scripting (a .depth) end n xs)
+      → Way (scripting octals (a .depth) end n xs)
   unfolding scripting isFrame isBottom isScripting isAmong every
   scripting-ways [] e y =
       ending-ways a end
@@ -203,7 +204,7 @@ module _ {src : List ℕ} {n : ℕ} (a : Asked src n) (top : isScripting (a .top
       })
   scripting-ways (b ∷ xs) e y =
       if-ways a (b is "'") _ _ (quoted-ways Mode.Single refl _ xs (omega arith))
-      (if-ways a (b is "\"") _ _ (quoted-ways Mode.Double refl _ xs (omega arith))
+      (if-ways a (b is "\"") _ _ (quoted-ways (Mode.Double octals) (quoted-may octals) _ xs (omega arith))
       (if-ways a (b is "`") _ _
       (goes-ways a (omega arith) (omega arith) (λ g. record { good = refl; bottom = refl; other = rw top }))
       (choice Way (isDigit b) _ _ (λ f. numbered-ways a end (b ∷ xs) (omega arith) (λ g. digit-passes end n b xs f))

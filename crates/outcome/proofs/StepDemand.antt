@@ -46,11 +46,12 @@ framed-demands : (f : Frame) (src : List ℕ) → every isByte src ≡ true → 
     → Demands p (λ end. framed f src choices depth end n)
 unfolding framed isFrame
 framed-demands Frame.Initial src b e choices depth n p = initial-demands n p
-framed-demands Frame.Scripting src b e choices depth n p = scripting-demands n p depth
-framed-demands Frame.DoubleQuote src b e choices depth n p = textMode-demands Mode.DoubleQuote [] tt n p
+framed-demands Frame.Scripting src b e choices depth n p = scripting-demands n p (choices .octals) depth
+framed-demands Frame.DoubleQuote src b e choices depth n p =
+    textMode-demands (Mode.DoubleQuote (choices .octals)) [] tt n p
 framed-demands Frame.ShellExec src b e choices depth n p = textMode-demands Mode.ShellExec [] tt n p
 framed-demands (Frame.Heredoc l) src b e choices depth n p =
-    textMode-demands Mode.Heredoc (labelBytes src l) (label-taken src l b e) n p
+    textMode-demands (Mode.Heredoc (choices .octals)) (labelBytes src l) (label-taken src l b e) n p
 framed-demands (Frame.Nowdoc l) src b e choices depth n p = nowdoc-demands (labelBytes src l) (label-taken src l b e) n p (choices .nowdocs)
 framed-demands Frame.LookingForVarname src b e choices depth n p = lookingForVarname-demands n p
 framed-demands Frame.LookingForProperty src b e choices depth n p = lookingForProperty-demands n p
@@ -86,7 +87,7 @@ callAt-demands Call.Number f src b e choices depth n p = scripted-demands f n p 
 callAt-demands Call.Single f src b e choices depth n p =
     scripted-demands f n p _ (literal-demands literalSingleQuotedString n Mode.Single refl tt n p)
 callAt-demands Call.Double f src b e choices depth n p =
-    scripted-demands f n p _ (literal-demands literalDoubleQuotedString n Mode.Double refl tt n p)
+    scripted-demands f n p _ (literal-demands literalDoubleQuotedString n (Mode.Double (choices .octals)) refl tt n p)
 
 callAt-append : (call : Call) (f : Frame) (part more : List ℕ) → isFrame part f ≡ true → (choices : Choices) (depth : ℕ) (end : Bool)
     (n : ℕ) (xs : List ℕ) → callAt call f (part ++ more) choices depth end n xs ≡ callAt call f part choices depth end n xs

@@ -14,7 +14,8 @@ use native.Mathlib.Omega.{arith}
 use lib.Dec.{eqb, ltb}
 use lib.ListN.{length, drop, length-take, length-drop}
 use borrow.Author.Tests.{ltb-true}
-use Rattle.byte.specs.Refusals.{unexpectedEndOfFile, invalidUnicodeEscape, invalidOctalEscape, wait}
+use Rattle.byte.specs.declared.Octal.{Octal}
+use Rattle.byte.specs.Refusals.{unexpectedEndOfFile, invalidUnicodeEscape, octalRefusals, wait}
 use Rattle.byte.specs.Refusals.{stackFull, outOfPlace, isAmong}
 use Rattle.byte.specs.Words.{every}
 use Rattle.byte.proofs.Tests.{choice}
@@ -38,7 +39,7 @@ use Rattle.outcome.specs.Outcomes.{Outcome, limited}
 use Rattle.outcome.specs.Insides.{Inside}
 use Rattle.outcome.specs.Texts.{isLeft, literal, numbered}
 use Rattle.outcome.specs.Steps.{textMode, nowdoc, framed, topFrame, scripted, callAt, rest, callOutcome}
-use Rattle.outcome.proofs.Ways.{Asked, stepNumbers, Ways, fault-ways, texted-ways, literal-ways}
+use Rattle.outcome.proofs.Ways.{Asked, stepNumbers, quoted-may, heredoc-may, Ways, fault-ways, texted-ways, literal-ways}
 use Rattle.outcome.proofs.Ways.{numbered-ways, lookingForVarname-ways, lookingForProperty-ways, varOffset-ways}
 use Rattle.outcome.proofs.ScriptWays.{initial-ways, scripting-ways}
 
@@ -61,22 +62,31 @@ Moving Call.Number src f depth = ⊥
 Moving Call.Single src f depth = ⊥
 Moving Call.Double src f depth = ⊥
 
--- what a call may refuse of itself
-abbrev pub callNumbers : Call → List ℕ
-callNumbers Call.Step = stepNumbers
-callNumbers Call.Number = outOfPlace ∷ []
-callNumbers Call.Single = outOfPlace ∷ unexpectedEndOfFile ∷ []
-callNumbers Call.Double = outOfPlace ∷ unexpectedEndOfFile ∷ invalidUnicodeEscape ∷ invalidOctalEscape ∷ []
+-- what a call may refuse of itself, octal escapes by this choice
+abbrev pub callNumbers : Octal → Call → List ℕ
+callNumbers octals Call.Step = stepNumbers octals
+callNumbers octals Call.Number = outOfPlace ∷ []
+callNumbers octals Call.Single = outOfPlace ∷ unexpectedEndOfFile ∷ []
+callNumbers octals Call.Double = outOfPlace ∷ unexpectedEndOfFile ∷ invalidUnicodeEscape ∷ octalRefusals octals
 
 -- the wait is none of them
-pub callNumbers-others : (call : Call) → every (λ k. not (eqb k wait)) (callNumbers call) ≡ true
-unfolding every
-callNumbers-others Call.Step = refl
-callNumbers-others Call.Number = refl
-callNumbers-others Call.Single = refl
-callNumbers-others Call.Double = refl
+pub callNumbers-others : (octals : Octal) (call : Call) → every (λ k. not (eqb k wait)) (callNumbers octals call) ≡ true
+unfolding every octalRefusals
+callNumbers-others Octal.Rust Call.Step = refl
+callNumbers-others Octal.Rust Call.Double = refl
+callNumbers-others Octal.Manual Call.Step = refl
+callNumbers-others Octal.Manual Call.Double = refl
+callNumbers-others octals Call.Number = refl
+callNumbers-others octals Call.Single = refl
 
-module _ (src : List ℕ) (depth n : ℕ) (h : n ≤ length src) (f : Frame) where
+-- those of a double-quoted literal are among the reading's
+double-may : (octals : Octal)
+    → every (λ k. isAmong k (callNumbers octals Call.Double)) (faults (Mode.Double octals)) ≡ true
+unfolding isAmong every octalRefusals
+double-may Octal.Rust = refl
+double-may Octal.Manual = refl
+
+module _ (octals : Octal) (src : List ℕ) (depth n : ℕ) (h : n ≤ length src) (f : Frame) where
   abbrev pub calledBy : Call → Asked src n
   calledBy call =
       record {
@@ -85,8 +95,8 @@ module _ (src : List ℕ) (depth n : ℕ) (h : n ≤ length src) (f : Frame) whe
         depth = depth;
         Good = TopGood src f depth;
         Moving = Moving call src f depth;
-        numbers = callNumbers call;
-        others = callNumbers-others call;
+        numbers = callNumbers octals call;
+        others = callNumbers-others octals call;
       }
 
 -- ---- any frame
@@ -94,15 +104,15 @@ module _ (src : List ℕ) (depth n : ℕ) (h : n ≤ length src) (f : Frame) whe
 whole : (src : List ℕ) (n : ℕ) → n ≤ length src → n + length (drop n src) ≡ length src
 whole src n h = omega (arith, length-drop n src)
 
-module _ (src : List ℕ) (depth n : ℕ) (end : Bool) (h : n ≤ length src) where
+module _ (choices : Choices) (src : List ℕ) (depth n : ℕ) (end : Bool) (h : n ≤ length src) where
   abbrev left : List ℕ
   left = drop n src
 
   abbrev pub asked : Frame → Asked src n
-  asked f = calledBy src depth n h f Call.Step
+  asked f = calledBy (choices .octals) src depth n h f Call.Step
 
   textMode-ways : (f : Frame) → isScripting f ≡ false → (m : Mode) → isLiteral m ≡ false
-      → every (λ k. isAmong k stepNumbers) (faults m) ≡ true
+      → every (λ k. isAmong k (stepNumbers (choices .octals))) (faults m) ≡ true
       → (label : List ℕ) → Ways (asked f) (textMode m label end n left)
   unfolding textMode
   textMode-ways f e m moving may label =
@@ -111,15 +121,18 @@ module _ (src : List ℕ) (depth n : ℕ) (end : Bool) (h : n ≤ length src) wh
       (unit-inside.text-stops m label end n left moving)
       (λ g. unit-inside.text-moves m label end n left moving)
 
-  pub framed-ways : (f : Frame) (choices : Choices) → Ways (asked f) (framed f src choices depth end n left)
+  pub framed-ways : (f : Frame) → Ways (asked f) (framed f src choices depth end n left)
   unfolding framed nowdoc isBottom isFrame isScripting isAmong every
-  framed-ways Frame.Initial choices = initial-ways (asked Frame.Initial) end refl left (whole src n h)
-  framed-ways Frame.Scripting choices = scripting-ways (asked Frame.Scripting) refl refl end left refl (whole src n h)
-  framed-ways Frame.DoubleQuote choices = textMode-ways Frame.DoubleQuote refl Mode.DoubleQuote refl refl []
-  framed-ways Frame.ShellExec choices = textMode-ways Frame.ShellExec refl Mode.ShellExec refl refl []
-  framed-ways (Frame.Heredoc label) choices =
-      textMode-ways (Frame.Heredoc label) refl Mode.Heredoc refl refl (labelBytes src label)
-  framed-ways (Frame.Nowdoc label) choices = nowdoc-ways (choices .nowdocs)
+  framed-ways Frame.Initial = initial-ways (asked Frame.Initial) end refl left (whole src n h)
+  framed-ways Frame.Scripting =
+      scripting-ways (asked Frame.Scripting) refl (choices .octals) refl end left refl (whole src n h)
+  framed-ways Frame.DoubleQuote =
+      textMode-ways Frame.DoubleQuote refl (Mode.DoubleQuote (choices .octals)) refl (quoted-may (choices .octals)) []
+  framed-ways Frame.ShellExec = textMode-ways Frame.ShellExec refl Mode.ShellExec refl refl []
+  framed-ways (Frame.Heredoc label) =
+      textMode-ways (Frame.Heredoc label) refl (Mode.Heredoc (choices .octals)) refl (heredoc-may (choices .octals))
+      (labelBytes src label)
+  framed-ways (Frame.Nowdoc label) = nowdoc-ways (choices .nowdocs)
     where
       nowdoc-ways : (reading : Reading) → Ways (asked (Frame.Nowdoc label)) (nowdoc reading (labelBytes src label) end n left)
       nowdoc-ways Reading.Ported = textMode-ways (Frame.Nowdoc label) refl Mode.Nowdoc refl refl (labelBytes src label)
@@ -128,13 +141,14 @@ module _ (src : List ℕ) (depth n : ℕ) (end : Bool) (h : n ≤ length src) wh
           (rw (whole src n h) at (sheet-inside (labelBytes src label) end n left))
           (sheet-stops (labelBytes src label) end n left)
           (λ g. sheet-moves (labelBytes src label) end n left (label-some src label (g .frame)))
-  framed-ways Frame.LookingForVarname choices =
+  framed-ways Frame.LookingForVarname =
       lookingForVarname-ways (asked Frame.LookingForVarname) end refl left (omega (arith, whole src n h))
-  framed-ways Frame.LookingForProperty choices =
-      lookingForProperty-ways (asked Frame.LookingForProperty) end refl (λ g. g .deep refl) left
+  framed-ways Frame.LookingForProperty =
+      lookingForProperty-ways (asked Frame.LookingForProperty) end (choices .octals) refl (λ g. g .deep refl) left
       (omega (arith, whole src n h))
-  framed-ways Frame.VarOffset choices =
-      varOffset-ways (asked Frame.VarOffset) end refl (λ g. g .deep refl) left (omega (arith, whole src n h))
+  framed-ways Frame.VarOffset =
+      varOffset-ways (asked Frame.VarOffset) end (choices .octals) refl (λ g. g .deep refl) left
+      (omega (arith, whole src n h))
 
 -- ---- the limit of 64 frames
 
@@ -167,32 +181,36 @@ limited-room depth n o = limited-either (Limited depth) depth n o tt (λ r. r)
 
 -- ---- the step and the readings
 
-module _ (src : List ℕ) (depth n : ℕ) (end : Bool) (h : n ≤ length src) (f : Frame) where
-  abbrev by : Call → Asked src n
-  by call = calledBy src depth n h f call
+module _ (choices : Choices) (src : List ℕ) (depth n : ℕ) (end : Bool) (h : n ≤ length src) (f : Frame) where
+  abbrev octals : Octal
+  octals = choices .octals
 
-  scripted-ways : (call : Call) → isAmong outOfPlace (callNumbers call) ≡ true → (o : Outcome)
+  abbrev by : Call → Asked src n
+  by call = calledBy octals src depth n h f call
+
+  scripted-ways : (call : Call) → isAmong outOfPlace (callNumbers octals call) ≡ true → (o : Outcome)
       → (isScripting f ≡ true → Ways (by call) o) → Ways (by call) (scripted f n o)
   scripted-ways call e o w = choice (Ways (by call)) (isScripting f) o _ w (λ t. fault-ways _ e (omega arith) h)
 
   string-ways : (call : Call) → (Moving call src f depth → ⊥) → (kind : ℕ) (m : Mode)
-      → every (λ k. isAmong k (callNumbers call)) (faults m) ≡ true → isScripting f ≡ true
+      → every (λ k. isAmong k (callNumbers octals call)) (faults m) ≡ true → isScripting f ≡ true
       → Ways (by call) (literal kind n (unit.textAt m [] end n (drop n src)))
   string-ways call stays kind m may top =
       literal-ways (by call) top kind n (faults m) may (unit.textAt m [] end n (drop n src)) (omega arith)
       (λ g. absurd (stays g)) (rw (whole src n h) at (unit-inside.text-inside m [] end n (drop n src)))
 
-  pub callAt-ways : (call : Call) (choices : Choices)
-      → Ways (calledBy src depth n h f call) (callAt call f src choices depth end n (drop n src))
+  pub callAt-ways : (call : Call)
+      → Ways (calledBy (choices .octals) src depth n h f call) (callAt call f src choices depth end n (drop n src))
   unfolding callAt isAmong every
-  callAt-ways Call.Step choices = framed-ways src depth n end h f choices
-  callAt-ways Call.Number choices =
+  callAt-ways Call.Step = framed-ways choices src depth n end h f
+  callAt-ways Call.Number =
       scripted-ways Call.Number refl _
       (λ t. numbered-ways (by Call.Number) end (drop n src) (omega (arith, length-drop n src)) (λ g. absurd g))
-  callAt-ways Call.Single choices =
+  callAt-ways Call.Single =
       scripted-ways Call.Single refl _ (string-ways Call.Single (λ g. g) literalSingleQuotedString Mode.Single refl)
-  callAt-ways Call.Double choices =
-      scripted-ways Call.Double refl _ (string-ways Call.Double (λ g. g) literalDoubleQuotedString Mode.Double refl)
+  callAt-ways Call.Double =
+      scripted-ways Call.Double refl _
+      (string-ways Call.Double (λ g. g) literalDoubleQuotedString (Mode.Double octals) (double-may octals))
 
 -- a reading enters no frame, so the limit says nothing of it
 module _ (depth n : ℕ) where
@@ -221,24 +239,25 @@ module _ (src : List ℕ) (end : Bool) (s : Session) (h : s .position ≤ length
 
   abbrev LimitedWays : Call → Type 0
   LimitedWays call =
-      Ways (calledBy src (s .depth) (s .position) h (topFrame s) call) (callOutcome call src end s)
+      Ways (calledBy (s .choices .octals) src (s .depth) (s .position) h (topFrame s) call) (callOutcome call src end s)
 
   free-ways : (call : Call) → Free (s .depth) (s .position) (before call) → LimitedWays call
   unfolding callOutcome
-  free-ways call e = rw e (callAt-ways src (s .depth) (s .position) end h (topFrame s) call (s .choices))
+  free-ways call e = rw e (callAt-ways (s .choices) src (s .depth) (s .position) end h (topFrame s) call)
 
   limited-ways : (call : Call) → LimitedWays call
   unfolding callOutcome callAt isAmong
   limited-ways Call.Step =
-      limited-either (Ways (calledBy src (s .depth) (s .position) h (topFrame s) Call.Step)) (s .depth) (s .position) _
+      limited-either (Ways (calledBy (s .choices .octals) src (s .depth) (s .position) h (topFrame s) Call.Step))
+      (s .depth) (s .position) _
       (fault-ways _ refl (omega arith) h)
-      (λ r. callAt-ways src (s .depth) (s .position) end h (topFrame s) Call.Step (s .choices))
+      (λ r. callAt-ways (s .choices) src (s .depth) (s .position) end h (topFrame s) Call.Step)
   limited-ways Call.Number = free-ways Call.Number (scripted-free _ _ _ _ (numbered-free _ _ _ _))
   limited-ways Call.Single = free-ways Call.Single (scripted-free _ _ _ _ (literal-free _ _ _ _ _))
   limited-ways Call.Double = free-ways Call.Double (scripted-free _ _ _ _ (literal-free _ _ _ _ _))
 
 module _ (call : Call) (src : List ℕ) (end : Bool) (s : Session) (h : s .position ≤ length src) where
-  pub call-ways : Ways (calledBy src (s .depth) (s .position) h (topFrame s) call) (callOutcome call src end s)
+  pub call-ways : Ways (calledBy (s .choices .octals) src (s .depth) (s .position) h (topFrame s) call) (callOutcome call src end s)
   call-ways = limited-ways src end s h call
 
   pub call-inside : Inside (s .position) (length src) (callOutcome call src end s)

@@ -19,8 +19,9 @@ use native.Mathlib.Omega.{arith}
 use lib.Dec.{eqb}
 use lib.ListN.{length, take, drop}
 use borrow.Author.Tests.{eqb-true, not-true}
+use Rattle.byte.specs.declared.Octal.{Octal}
 use Rattle.byte.specs.Words.{if_then_else_, _is_, every}
-use Rattle.byte.specs.Refusals.{unexpectedEndOfFile, invalidUnicodeEscape, invalidOctalEscape, invalidDocIndentation}
+use Rattle.byte.specs.Refusals.{unexpectedEndOfFile, invalidUnicodeEscape, octalRefusals, invalidDocIndentation}
 use Rattle.byte.specs.Refusals.{noProperty, wait, stackFull, strayIndentation, isAmong}
 use Rattle.byte.specs.Bytes.{isStart, isIdentifier}
 use Rattle.byte.proofs.Tests.{choice, &&-left, &&-right}
@@ -32,7 +33,7 @@ use Rattle.unit.specs.declared.Mode.{Mode}
 use Rattle.unit.specs.declared.Stop.{Stop}
 use Rattle.unit.specs.Readings as unit
 use Rattle.unit.proofs.Inside as unit-inside
-use Rattle.unit.proofs.Stands.{isInterpolation}
+use Rattle.unit.proofs.Stands.{faults, isInterpolation}
 use Rattle.number.specs.Numbers as number
 use Rattle.number.proofs.Values.{Passes, numberAt-inside, numberAt-shorter}
 use Rattle.outcome.specs.declared.Change.{Change}
@@ -102,10 +103,21 @@ pub record Asked (src : List ℕ) (n : ℕ) : Type 1 where
   pub others : every (λ k. not (eqb k wait)) numbers ≡ true
 
 -- what a step may refuse of itself
-abbrev pub stepNumbers : List ℕ
-stepNumbers =
-    unexpectedEndOfFile ∷ invalidUnicodeEscape ∷ invalidOctalEscape ∷ invalidDocIndentation ∷ noProperty ∷ stackFull
-    ∷ strayIndentation ∷ []
+abbrev pub stepNumbers : Octal → List ℕ
+stepNumbers octals =
+    unexpectedEndOfFile ∷ invalidUnicodeEscape ∷ invalidDocIndentation ∷ noProperty ∷ stackFull ∷ strayIndentation
+    ∷ octalRefusals octals
+
+-- those of texts with escapes are among them
+pub quoted-may : (octals : Octal) → every (λ k. isAmong k (stepNumbers octals)) (faults (Mode.Double octals)) ≡ true
+unfolding isAmong every octalRefusals
+quoted-may Octal.Rust = refl
+quoted-may Octal.Manual = refl
+
+pub heredoc-may : (octals : Octal) → every (λ k. isAmong k (stepNumbers octals)) (faults (Mode.Heredoc octals)) ≡ true
+unfolding isAmong every octalRefusals
+heredoc-may Octal.Rust = refl
+heredoc-may Octal.Manual = refl
 
 pub record Ways {src : List ℕ} {n : ℕ} (a : Asked src n) (o : Outcome) : Type 0 where
   pub lies : Inside n (length src) o
@@ -324,7 +336,7 @@ module _ {src : List ℕ} {n : ℕ} (a : Asked src n) (end : Bool) where
         (varname-ways (b ∷ xs) (named end 1 xs) h (named-inside end 1 (suc (length xs)) xs (omega arith)))
         stays-ways
 
-  module _ (step : a .numbers ≡ stepNumbers) where
+  module _ (octals : Octal) (step : a .numbers ≡ stepNumbers octals) where
     none-ways : Ways a (Outcome.Refused noProperty n)
     unfolding isAmong
     none-ways = fault-ways a (rw step refl) (omega arith) (a .inside)

@@ -13,6 +13,7 @@ use mathlib.Core.List.{List, [], _∷_}
 use native.Mathlib.Omega.{arith}
 use lib.ListN.{length, take}
 use borrow.Author.Tests.{eqb-true}
+use Rattle.byte.specs.declared.Octal.{Octal}
 use Rattle.byte.specs.Words.{if_then_else_, _is_}
 use Rattle.byte.specs.Bytes.{isDigit, isStart, isLetter}
 use Rattle.byte.proofs.Tests.{choice}
@@ -53,19 +54,19 @@ pub use Rattle.outcome.proofs.Alone.{PiecesWritten, OutcomeWritten}
 -- ---- Scripting
 
 -- the rows of the table that begin a literal or a comment
-module _ (depth : ℕ) where
-  single-row : (ys : List ℕ) → scripting depth true 0 (code "'" ∷ ys)
+module _ (octals : Octal) (depth : ℕ) where
+  single-row : (ys : List ℕ) → scripting octals depth true 0 (code "'" ∷ ys)
       ≡ literal literalSingleQuotedString 0 (unit.textAt Mode.Single [] true 1 ys)
   unfolding scripting
   single-row ys = refl
 
-  double-row : (ys : List ℕ) → scripting depth true 0 (code "\"" ∷ ys)
-      ≡ literal literalDoubleQuotedString 0 (unit.textAt Mode.Double [] true 1 ys)
+  double-row : (ys : List ℕ) → scripting octals depth true 0 (code "\"" ∷ ys)
+      ≡ literal literalDoubleQuotedString 0 (unit.textAt (Mode.Double octals) [] true 1 ys)
   unfolding scripting
   double-row ys = refl
 
   digit-row : (b : ℕ) (ys : List ℕ) → isDigit b ≡ true
-      → scripting depth true 0 (b ∷ ys) ≡ numbered 0 (numberAt true 0 (b ∷ ys))
+      → scripting octals depth true 0 (b ∷ ys) ≡ numbered 0 (numberAt true 0 (b ∷ ys))
   unfolding scripting isDigit
   digit-row b ys f =
       let single = other-byte isDigit (code "'") b refl f in
@@ -74,28 +75,28 @@ module _ (depth : ℕ) where
       rw (single, double, tick, f)
 
   point-row : (b : ℕ) (ys : List ℕ) → isDigit b ≡ true
-      → scripting depth true 0 (code "." ∷ b ∷ ys) ≡ numbered 0 (numberAt true 0 (code "." ∷ b ∷ ys))
+      → scripting octals depth true 0 (code "." ∷ b ∷ ys) ≡ numbered 0 (numberAt true 0 (code "." ∷ b ∷ ys))
   unfolding scripting point isDigit
   point-row b ys f = rw f
 
-  line-row : (ys : List ℕ) → scripting depth true 0 (code "/" ∷ code "/" ∷ ys)
+  line-row : (ys : List ℕ) → scripting octals depth true 0 (code "/" ∷ code "/" ∷ ys)
       ≡ commentAt CommentKind.SingleLine 2 true 0 (code "/" ∷ code "/" ∷ ys) ys
   unfolding scripting slash isDigit isStart isLetter
   line-row ys = refl
 
-  block-row : (ys : List ℕ) → scripting depth true 0 (code "/" ∷ code "*" ∷ ys)
+  block-row : (ys : List ℕ) → scripting octals depth true 0 (code "/" ∷ code "*" ∷ ys)
       ≡ commentAt CommentKind.MultiLine 2 true 0 (code "/" ∷ code "*" ∷ ys) ys
   unfolding scripting slash isDigit isStart isLetter
   block-row ys = refl
 
   hash-row : (ys : List ℕ) → isNext (code "[") ys ≡ false
-      → scripting depth true 0 (code "#" ∷ ys) ≡ commentAt CommentKind.SingleLine 1 true 0 (code "#" ∷ ys) ys
+      → scripting octals depth true 0 (code "#" ∷ ys) ≡ commentAt CommentKind.SingleLine 1 true 0 (code "#" ∷ ys) ys
   unfolding scripting hash isDigit isStart isLetter
   hash-row ys e = rw e
 
-module _ (end : Bool) (n : ℕ) where
+module _ (octals : Octal) (end : Bool) (n : ℕ) where
   abbrev Step : List ℕ → Outcome → Type 0
-  Step xs o = OutcomeWritten Call.Step n xs o
+  Step xs o = OutcomeWritten Call.Step octals n xs o
 
   if-written : (xs : List ℕ) (t : Bool) (o p : Outcome) → Step xs o → Step xs p → Step xs (if t then o else p)
   if-written xs t o p x y = choice (Step xs) t o p (λ e. x) (λ e. y)
@@ -103,23 +104,23 @@ module _ (end : Bool) (n : ℕ) where
   digit-written : (b : ℕ) (rest : List ℕ) → isDigit b ≡ true → Step (b ∷ rest) (numbered n (numberAt end n (b ∷ rest)))
   unfolding callAt framed
   digit-written b rest f =
-      numbered-written Call.Step end n (b ∷ rest)
-      (λ literal value after e src choices depth.
+      numbered-written octals Call.Step end n (b ∷ rest)
+      (λ literal value after e src nowdocs depth.
       let on : n < after = rw e at (digit-passes end n b rest f) in
       let z : after - n ≡ suc (after - suc n) = omega arith in
-      rw z (digit-row depth b (take (after - suc n) rest) f))
+      rw z (digit-row octals depth b (take (after - suc n) rest) f))
 
   point-written : (rest : List ℕ) → Step (code "." ∷ rest) (point end n rest)
   unfolding point callAt framed
   point-written [] = if-written (code "." ∷ []) end _ _ tt tt
   point-written (b ∷ rest) =
       choice (Step (code "." ∷ b ∷ rest)) (isDigit b) _ _
-      (λ f. numbered-written Call.Step end n (code "." ∷ b ∷ rest)
-      (λ literal value after e src choices depth.
+      (λ f. numbered-written octals Call.Step end n (code "." ∷ b ∷ rest)
+      (λ literal value after e src nowdocs depth.
       let two : 2 ≤ length value = rw e at (point-two end n b rest f) in
       let shorter = numberAt-shorter end n (code "." ∷ b ∷ rest) literal value after e in
       let z : after - n ≡ suc (suc (after - suc (suc n))) = omega arith in
-      rw z (point-row depth b (take (after - suc (suc n)) rest) f)))
+      rw z (point-row octals depth b (take (after - suc (suc n)) rest) f)))
       (λ f. tt)
 
   word-written : (xs : List ℕ) (r : Run) → Step xs (word n r)
@@ -145,32 +146,36 @@ module _ (end : Bool) (n : ℕ) where
       choice (Step (code "/" ∷ b ∷ rest)) (b is "/") _ _
       (λ e.
       rw (eqb-true b (code "/") e)
-      (comment-written CommentKind.SingleLine end n (code "/" ∷ code "/" ∷ []) rest
-      (λ i depth. line-row depth (take i rest))))
+      (comment-written octals CommentKind.SingleLine end n (code "/" ∷ code "/" ∷ []) rest
+      (λ i depth. line-row octals depth (take i rest))))
       (λ e. choice (Step (code "/" ∷ b ∷ rest)) (b is "*") _ _
       (λ f.
       rw (eqb-true b (code "*") f)
-      (comment-written CommentKind.MultiLine end n (code "/" ∷ code "*" ∷ []) rest
-      (λ i depth. block-row depth (take i rest))))
+      (comment-written octals CommentKind.MultiLine end n (code "/" ∷ code "*" ∷ []) rest
+      (λ i depth. block-row octals depth (take i rest))))
       (λ f. tt))
 
   hash-written : (rest : List ℕ) → Step (code "#" ∷ rest) (hash end n (code "#" ∷ rest) rest)
   unfolding hash
   hash-written rest =
       choice (Step (code "#" ∷ rest)) (isNext (code "[") rest) _ _ (λ e. tt)
-      (λ e. comment-written CommentKind.SingleLine end n (code "#" ∷ []) rest
-      (λ i depth. hash-row depth (take i rest) (isNext-take (code "[") i rest e)))
+      (λ e. comment-written octals CommentKind.SingleLine end n (code "#" ∷ []) rest
+      (λ i depth. hash-row octals depth (take i rest) (isNext-take (code "[") i rest e)))
 
-  scripting-written : (depth : ℕ) (xs : List ℕ) → Step xs (scripting depth end n xs)
+  scripting-written : (depth : ℕ) (xs : List ℕ) → Step xs (scripting octals depth end n xs)
   unfolding scripting
   scripting-written depth [] = if-written [] end _ _ tt tt
   scripting-written depth (b ∷ rest) =
       choice W (b is "'") _ _
       (λ e. rw (eqb-true b (code "'") e)
-      (step-written Mode.Single "'" literalSingleQuotedString single-quoting single-as end n single-row rest))
+      (step-written octals Mode.Single "'" literalSingleQuotedString single-quoting (single-as octals) end n
+      (single-row octals)
+      rest))
       (λ e. choice W (b is "\"") _ _
       (λ e. rw (eqb-true b (code "\"") e)
-      (step-written Mode.Double "\"" literalDoubleQuotedString double-quoting double-as end n double-row rest))
+      (step-written octals (Mode.Double octals) "\"" literalDoubleQuotedString (double-quoting octals)
+      (double-as octals) end n
+      (double-row octals) rest))
       (λ e. ifs (b is "`") _ _ tt
       (choice W (isDigit b) _ _ (λ f. digit-written b rest f)
       (λ e. choice W (b is ".") _ _ (λ e. rw (eqb-true b (code ".") e) (point-written rest))
@@ -191,54 +196,62 @@ module _ (end : Bool) (n : ℕ) where
 -- ---- every call
 
 framed-written : (f : Frame) (src : List ℕ) (choices : Choices) (depth : ℕ) (end : Bool) (n : ℕ) (xs : List ℕ)
-    → OutcomeWritten Call.Step n xs (framed f src choices depth end n xs)
+    → OutcomeWritten Call.Step (choices .octals) n xs (framed f src choices depth end n xs)
 unfolding framed textMode nowdoc
 framed-written f src choices depth end n xs = go f
   where
-    none : (o : Outcome) → TellsNone o → OutcomeWritten Call.Step n xs o
-    none o = others-written Call.Step n xs o
+    none : (o : Outcome) → TellsNone o → OutcomeWritten Call.Step (choices .octals) n xs o
+    none o = others-written Call.Step (choices .octals) n xs o
 
-    text : (m : Mode) (r : unit.Reading) → OutcomeWritten Call.Step n xs (texted m n xs r)
+    text : (m : Mode) (r : unit.Reading) → OutcomeWritten Call.Step (choices .octals) n xs (texted m n xs r)
     text m r = none (texted m n xs r) (texted-none m n xs r)
 
-    block : (reading : Reading) (label : List ℕ) → OutcomeWritten Call.Step n xs (nowdoc reading label end n xs)
+    block : (reading : Reading) (label : List ℕ)
+        → OutcomeWritten Call.Step (choices .octals) n xs (nowdoc reading label end n xs)
     block Reading.Ported label = text Mode.Nowdoc (unit.textAt Mode.Nowdoc label end n xs)
     block Reading.Sheet label = text Mode.Nowdoc (sheetAt label end n xs)
 
-    go : (f : Frame) → OutcomeWritten Call.Step n xs (framed f src choices depth end n xs)
+    go : (f : Frame) → OutcomeWritten Call.Step (choices .octals) n xs (framed f src choices depth end n xs)
     go Frame.Initial = none (initial end n xs) (initial-none end n xs)
-    go Frame.Scripting = scripting-written end n depth xs
-    go Frame.DoubleQuote = text Mode.DoubleQuote (unit.textAt Mode.DoubleQuote [] end n xs)
+    go Frame.Scripting = scripting-written (choices .octals) end n depth xs
+    go Frame.DoubleQuote =
+        text (Mode.DoubleQuote (choices .octals)) (unit.textAt (Mode.DoubleQuote (choices .octals)) [] end n xs)
     go Frame.ShellExec = text Mode.ShellExec (unit.textAt Mode.ShellExec [] end n xs)
-    go (Frame.Heredoc label) = text Mode.Heredoc (unit.textAt Mode.Heredoc (labelBytes src label) end n xs)
+    go (Frame.Heredoc label) =
+        text (Mode.Heredoc (choices .octals))
+        (unit.textAt (Mode.Heredoc (choices .octals)) (labelBytes src label) end n xs)
     go (Frame.Nowdoc label) = block (choices .nowdocs) (labelBytes src label)
     go Frame.LookingForVarname = none (lookingForVarname end n xs) (lookingForVarname-none end n xs)
     go Frame.LookingForProperty = none (lookingForProperty end n xs) (lookingForProperty-none end n xs)
     go Frame.VarOffset = none (varOffset end n xs) (varOffset-none end n xs)
 
-scripted-written : (call : Call) (f : Frame) (n : ℕ) (xs : List ℕ) (o : Outcome) → OutcomeWritten call n xs o
-    → OutcomeWritten call n xs (scripted f n o)
-scripted-written call f n xs o x = choice (OutcomeWritten call n xs) (isScripting f) o _ (λ e. x) (λ e. tt)
+scripted-written : (call : Call) (octals : Octal) (f : Frame) (n : ℕ) (xs : List ℕ) (o : Outcome)
+    → OutcomeWritten call octals n xs o
+    → OutcomeWritten call octals n xs (scripted f n o)
+scripted-written call octals f n xs o x =
+    choice (OutcomeWritten call octals n xs) (isScripting f) o _ (λ e. x) (λ e. tt)
 
 pub call-written : (call : Call) (f : Frame) (src : List ℕ) (choices : Choices) (depth : ℕ) (end : Bool) (n : ℕ)
-    (xs : List ℕ) → OutcomeWritten call n xs (callAt call f src choices depth end n xs)
+    (xs : List ℕ) → OutcomeWritten call (choices .octals) n xs (callAt call f src choices depth end n xs)
 unfolding callAt isScripting isQuoted
 call-written Call.Step f src choices depth end n xs = framed-written f src choices depth end n xs
 call-written Call.Number f src choices depth end n xs =
-    scripted-written Call.Number f n xs _
-    (numbered-written Call.Number end n xs (λ literal value after e src choices depth. refl))
+    scripted-written Call.Number (choices .octals) f n xs _
+    (numbered-written (choices .octals) Call.Number end n xs (λ literal value after e src nowdocs depth. refl))
 call-written Call.Single f src choices depth end n xs =
-    scripted-written Call.Single f n xs _
-    (reading-written Mode.Single "'" literalSingleQuotedString single-quoting single-as end n Call.Single
-    (λ text. refl) (λ src choices depth text. refl) xs)
+    scripted-written Call.Single (choices .octals) f n xs _
+    (reading-written (choices .octals) Mode.Single "'" literalSingleQuotedString single-quoting
+    (single-as (choices .octals)) end n Call.Single
+    (λ text. refl) (λ src nowdocs depth text. refl) xs)
 call-written Call.Double f src choices depth end n xs =
-    scripted-written Call.Double f n xs _
-    (reading-written Mode.Double "\"" literalDoubleQuotedString double-quoting double-as end n Call.Double
-    (λ text. refl) (λ src choices depth text. refl) xs)
+    scripted-written Call.Double (choices .octals) f n xs _
+    (reading-written (choices .octals) (Mode.Double (choices .octals)) "\"" literalDoubleQuotedString
+    (double-quoting (choices .octals)) (double-as (choices .octals)) end n Call.Double
+    (λ text. refl) (λ src nowdocs depth text. refl) xs)
 
 pub outcome-written : (call : Call) (src : List ℕ) (end : Bool) (s : Session)
-    → OutcomeWritten call (s .position) (rest src s) (callOutcome call src end s)
+    → OutcomeWritten call (s .choices .octals) (s .position) (rest src s) (callOutcome call src end s)
 unfolding callOutcome
 outcome-written call src end s =
-    limited-either (OutcomeWritten call (s .position) (rest src s)) (s .depth) (s .position) _ tt
+    limited-either (OutcomeWritten call (s .choices .octals) (s .position) (rest src s)) (s .depth) (s .position) _ tt
     (λ r. call-written call (topFrame s) src (s .choices) (s .depth) end (s .position) (rest src s))

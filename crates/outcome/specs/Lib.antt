@@ -7,5 +7,6 @@ pub mod Comments
 pub mod Scripts
 pub mod Steps
 pub mod Written
+pub mod Octals
 pub mod Insides
 pub mod Manual

@@ -1,5 +1,5 @@
 -- The mode Scripting: document 01's table, row by row, with the comments of document 02's P2 before its last row. n is the position of the
--- text's head, `end` says that the text is all there.
+-- text's head, `end` says that the text is all there; `octals` is the session's choice.
 --   point        `.` and a digit: a number
 --   word         an identifier start: the whole run is passed
 --   closeTag     `?>`: passed, and the top becomes Initial
@@ -11,6 +11,7 @@ use mathlib.Core.List.{List, [], _∷_}
 use lib.Dec.{ltb}
 use Rattle.byte.specs.Words.{if_then_else_, _is_}
 use Rattle.byte.specs.Bytes.{isDigit, isStart}
+use Rattle.byte.specs.declared.Octal.{Octal}
 use Rattle.state.specs.declared.Frame.{Frame}
 use Rattle.token.specs.Kinds.{literalSingleQuotedString, literalDoubleQuotedString}
 use Rattle.unit.specs.declared.Mode.{Mode}
@@ -38,11 +39,11 @@ closeTag end n [] = ending end (goes (suc n) Change.Keep)
 closeTag end n (b ∷ rest) =
     if b is ">" then goes (suc (suc n)) (Change.Swap Frame.Initial) else goes (suc n) Change.Keep
 
-unfoldable pub scripting : ℕ → Bool → ℕ → List ℕ → Outcome
-scripting depth end n [] = ending end (Outcome.Told [] n Change.Keep true)
-scripting depth end n (b ∷ rest) =
+unfoldable pub scripting : Octal → ℕ → Bool → ℕ → List ℕ → Outcome
+scripting octals depth end n [] = ending end (Outcome.Told [] n Change.Keep true)
+scripting octals depth end n (b ∷ rest) =
     if b is "'" then literal literalSingleQuotedString n (textAt Mode.Single [] end (suc n) rest)
-    else if b is "\"" then literal literalDoubleQuotedString n (textAt Mode.Double [] end (suc n) rest)
+    else if b is "\"" then literal literalDoubleQuotedString n (textAt (Mode.Double octals) [] end (suc n) rest)
     else if b is "`" then goes (suc n) (Change.Swap Frame.ShellExec)
     else if isDigit b then numbered n (numberAt end n (b ∷ rest))
     else if b is "." then point end n rest

@@ -42,10 +42,11 @@ nowdoc Reading.Sheet label end n xs = texted Mode.Nowdoc n xs (sheetAt label end
 
 unfoldable pub framed : Frame → List ℕ → Choices → ℕ → Bool → ℕ → List ℕ → Outcome
 framed Frame.Initial src choices depth end n xs = initial end n xs
-framed Frame.Scripting src choices depth end n xs = scripting depth end n xs
-framed Frame.DoubleQuote src choices depth end n xs = textMode Mode.DoubleQuote [] end n xs
+framed Frame.Scripting src choices depth end n xs = scripting (choices .octals) depth end n xs
+framed Frame.DoubleQuote src choices depth end n xs = textMode (Mode.DoubleQuote (choices .octals)) [] end n xs
 framed Frame.ShellExec src choices depth end n xs = textMode Mode.ShellExec [] end n xs
-framed (Frame.Heredoc label) src choices depth end n xs = textMode Mode.Heredoc (labelBytes src label) end n xs
+framed (Frame.Heredoc label) src choices depth end n xs =
+    textMode (Mode.Heredoc (choices .octals)) (labelBytes src label) end n xs
 framed (Frame.Nowdoc label) src choices depth end n xs = nowdoc (choices .nowdocs) (labelBytes src label) end n xs
 framed Frame.LookingForVarname src choices depth end n xs = lookingForVarname end n xs
 framed Frame.LookingForProperty src choices depth end n xs = lookingForProperty end n xs
@@ -60,7 +61,7 @@ callAt Call.Number f src choices depth end n xs = scripted f n (numbered n (numb
 callAt Call.Single f src choices depth end n xs =
     scripted f n (literal literalSingleQuotedString n (textAt Mode.Single [] end n xs))
 callAt Call.Double f src choices depth end n xs =
-    scripted f n (literal literalDoubleQuotedString n (textAt Mode.Double [] end n xs))
+    scripted f n (literal literalDoubleQuotedString n (textAt (Mode.Double (choices .octals)) [] end n xs))
 
 -- what is left to read
 abbrev pub rest : List ℕ → Session → List ℕ

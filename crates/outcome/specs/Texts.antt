@@ -38,9 +38,9 @@ docKind Indentation.Mixed = endDocStringNone
 unfoldable pub quoteKind : Mode → ℕ
 quoteKind Mode.ShellExec = backtick
 quoteKind Mode.Single = doubleQuote
-quoteKind Mode.Double = doubleQuote
-quoteKind Mode.DoubleQuote = doubleQuote
-quoteKind Mode.Heredoc = doubleQuote
+quoteKind (Mode.Double octals) = doubleQuote
+quoteKind (Mode.DoubleQuote octals) = doubleQuote
+quoteKind (Mode.Heredoc octals) = doubleQuote
 quoteKind Mode.Nowdoc = doubleQuote
 
 -- an interpolation that is left is a literal's alone; no mode has it
@@ -106,10 +106,10 @@ literal kind place unit.Wait = Outcome.Wait
 -- a text that is read from n on: a literal, whose token bears the span of `place`, or a mode's
 unfoldable pub textRead : Mode → ℕ → ℕ → List ℕ → unit.Reading → Outcome
 textRead Mode.Single place n xs r = literal literalSingleQuotedString place r
-textRead Mode.Double place n xs r = literal literalDoubleQuotedString place r
-textRead Mode.DoubleQuote place n xs r = texted Mode.DoubleQuote n xs r
+textRead (Mode.Double octals) place n xs r = literal literalDoubleQuotedString place r
+textRead (Mode.DoubleQuote octals) place n xs r = texted (Mode.DoubleQuote octals) n xs r
 textRead Mode.ShellExec place n xs r = texted Mode.ShellExec n xs r
-textRead Mode.Heredoc place n xs r = texted Mode.Heredoc n xs r
+textRead (Mode.Heredoc octals) place n xs r = texted (Mode.Heredoc octals) n xs r
 textRead Mode.Nowdoc place n xs r = texted Mode.Nowdoc n xs r
 
 unfoldable pub numberKind : Literal → ℕ

@@ -4,8 +4,8 @@
 --   isClosed    a text whose last byte is this quote
 --   isOpened    a text that begins with this quote and is then closed by another one like it
 --   isQuoted    both for a step; the public readings begin after the opening quote
---   AsWritten   a call of this kind that has the text alone, with the end announced, gives the same token and passes
---               the whole text; its quotes, its digits, its bytes are in it
+--   AsWritten   a call of this kind that has the text alone, with the end announced and octal escapes read by the same
+--               choice, gives the same token and passes the whole text; its quotes, its digits, its bytes are in it
 -- `call-written` (proofs/Written.antt) says that every call's literals and comments are.
 use Prim.Native.Nat.{ℕ}
 use Prim.Native.Char.{Char}
@@ -16,7 +16,8 @@ use lib.Dec.{eqb}
 use lib.ListN.{length}
 use Rattle.byte.specs.Words.{_is_}
 use Rattle.byte.specs.Refusals.{isAmong}
-use Rattle.state.specs.declared.Choices.{Choices}
+use Rattle.byte.specs.declared.Octal.{Octal}
+use Rattle.state.specs.declared.Reading.{Reading}
 use Rattle.state.specs.declared.Frame.{Frame}
 use Rattle.token.specs.Kinds.{literalSingleQuotedString, literalDoubleQuotedString, literalInteger, literalFloat}
 use Rattle.token.specs.Kinds.{comment}
@@ -46,9 +47,9 @@ isQuoted Call.Number quote text = isClosed quote text
 isQuoted Call.Single quote text = isClosed quote text
 isQuoted Call.Double quote text = isClosed quote text
 
-pub record AsWritten (call : Call) (kind : ℕ) (value text : List ℕ) : Type 0 where
-  pub alone : (src : List ℕ) (choices : Choices) (depth : ℕ)
-      → callAt call Frame.Scripting src choices depth true 0 text
+pub record AsWritten (call : Call) (octals : Octal) (kind : ℕ) (value text : List ℕ) : Type 0 where
+  pub alone : (src : List ℕ) (nowdocs : Reading) (depth : ℕ)
+      → callAt call Frame.Scripting src (record { nowdocs = nowdocs; octals = octals }) depth true 0 text
       ≡ Outcome.Told (piece kind 0 value ∷ []) (length text) Change.Keep false
   pub single : eqb kind literalSingleQuotedString ≡ true → isQuoted call "'" text ≡ true
   pub double : eqb kind literalDoubleQuotedString ≡ true → isQuoted call "\"" text ≡ true

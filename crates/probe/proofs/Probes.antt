@@ -26,9 +26,12 @@ use Rattle.probe.specs.Probes.{modeOf, asked, stopNumber, amountOf, numb
 pub mode-arm : (n key : ℕ) (r : Mode) → n ≡ key → r ≡ modeOf key → r ≡ modeOf n
 mode-arm n key r e h = rw e h
 
-pub mode-rest : (n : ℕ) → (n ≡ 0 → ⊥) → (n ≡ 1 → ⊥) → (n ≡ 2 → ⊥) → (n ≡ 3 → ⊥) → (n ≡ 4 → ⊥) → Mode.Nowdoc ≡ modeOf n
+pub mode-rest : (n : ℕ) → (n ≡ 0 → ⊥) → (n ≡ 1 → ⊥) → (n ≡ 2 → ⊥) → (n ≡ 3 → ⊥) → (n ≡ 4 → ⊥) → (n ≡ 6 → ⊥)
+    → (n ≡ 7 → ⊥)
+    → (n ≡ 8 → ⊥) → Mode.Nowdoc ≡ modeOf n
 unfolding modeOf
-mode-rest n a b c d e = rw (ne-eqb n 0 a, ne-eqb n 1 b, ne-eqb n 2 c, ne-eqb n 3 d, ne-eqb n 4 e)
+mode-rest n a b c d e f g h =
+    rw (ne-eqb n 0 a, ne-eqb n 1 b, ne-eqb n 2 c, ne-eqb n 3 d, ne-eqb n 4 e, ne-eqb n 6 f, ne-eqb n 7 g, ne-eqb n 8 h)
 
 pub ruleset modes = (mode-arm, mode-rest)
 
@@ -64,24 +67,33 @@ module _ (mode : ℕ) (src label : List ℕ) (at end : ℕ) (r : Scanned) where
   asked-large h e = e ∙ rw (lt-leb (length src) 65536 h)
 
   module _ (short : length src ≤ 65536) where
-    pub asked-mode : 5 < mode → r ≡ Scanned.Refused 10 0 → r ≡ measured (asked mode src label at end)
+    pub asked-mode : 8 < mode → r ≡ Scanned.Refused 10 0 → r ≡ measured (asked mode src label at end)
     unfolding asked measured
-    asked-mode h e = e ∙ rw (le-leb (length src) 65536 short, lt-leb mode 5 h)
+    asked-mode h e = e ∙ rw (le-leb (length src) 65536 short, lt-leb mode 8 h)
 
-    module _ (known : mode ≤ 5) where
+    module _ (known : mode ≤ 8) where
       pub asked-past : length src < at → r ≡ Scanned.Refused 10 0 → r ≡ measured (asked mode src label at end)
       unfolding asked measured
-      asked-past h e = e ∙ rw (le-leb (length src) 65536 short, le-leb mode 5 known, lt-leb at (length src) h)
+      asked-past h e = e ∙ rw (le-leb (length src) 65536 short, le-leb mode 8 known, lt-leb at (length src) h)
 
       module _ (start : at ≤ length src) where
         pub asked-label : 64 < length label → r ≡ Scanned.Refused 10 0 → r ≡ measured (asked mode src label at end)
         unfolding asked measured
-        asked-label h e = e ∙ rw (le-leb (length src) 65536 short, le-leb mode 5 known, le-leb at (length src) start, lt-leb (length label) 64 h)
+        asked-label h e =
+            e ∙ rw (
+              le-leb (length src) 65536 short,
+              le-leb mode 8 known,
+              le-leb at (length src) start,
+              lt-leb
+                  (length label) 64 h,
+            )
 
         pub asked-done : (m : Mode) (part after : List ℕ) → length label ≤ 64 → m ≡ modeOf mode
             → Scans m src label at (announced end) part r after → r ≡ measured (asked mode src label at end)
         unfolding asked
-        asked-done m part after h f p = p .told ∙ rw (f, le-leb (length src) 65536 short, le-leb mode 5 known, le-leb at (length src) start, le-leb (length label) 64 h)
+        asked-done m part after h f p =
+            p .told
+            ∙ rw (f, le-leb (length src) 65536 short, le-leb mode 8 known, le-leb at (length src) start, le-leb (length label) 64 h)
 
 pub ruleset askings = (asked-large, asked-mode, asked-past, asked-label, asked-done)
 
@@ -162,7 +174,7 @@ module _ (mode : ℕ) (src label : List ℕ) (at end : ℕ) where
   unfolding asked measured
   asked-bounds =
       choice Known (leb (length src) 65536) _ _
-      (λ a. choice Known (leb mode 5) _ _
+      (λ a. choice Known (leb mode 8) _ _
       (λ b. choice Known (leb at (length src)) _ _
       (λ c. choice Known (leb (length label) 64) _ _
       (λ d. λ t. record { start = leb-true at (length src) c; short = leb-true (length src) 65536 a; name = leb-true (length label) 64 d; same = refl })

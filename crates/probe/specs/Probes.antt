@@ -1,8 +1,8 @@
 -- The readings one at a time, as a host in C or Rust asks for them: by numbers alone.
---   modeOf       the mode of a number, 0 to 5
+--   modeOf       the mode of a number, 0 to 8; from 6 on, octal escapes are read as the manual has them
 --   announced    whether the end is announced
 --   asked        the reading asked for; what can't be taken is refused by its number: 11 for a source over 65,536 bytes, 10 for a
---                mode over 5, a position past the end or a label over 64 bytes
+--                mode over 8, a position past the end or a label over 64 bytes
 --   stopNumber, amountOf   what ended a text, and the amount of a label's indentation
 --   numbered     a reading without its bytes, in seven numbers
 --   valueRefusal, written  a value for a part with so much room: why it is not written, and what the part holds then
@@ -14,6 +14,7 @@ use lib.Dec.{leb, eqb}
 use lib.ListN.{length, drop}
 use Rattle.byte.specs.Words.{if_then_else_, announced}
 use Rattle.byte.specs.Laid.{laid}
+use Rattle.byte.specs.declared.Octal.{Octal}
 use Rattle.byte.specs.Refusals.{wait, poolFull, outOfPlace, tooLarge}
 use Rattle.unit.specs.declared.Follow.{Follow}
 use Rattle.unit.specs.declared.Indentation.{Indentation}
@@ -26,16 +27,19 @@ use Rattle.probe.specs.declared.Probed.{Probed}
 unfoldable pub modeOf : ℕ → Mode
 modeOf n =
     if eqb n 0 then Mode.Single
-    else if eqb n 1 then Mode.Double
-    else if eqb n 2 then Mode.DoubleQuote
+    else if eqb n 1 then Mode.Double Octal.Rust
+    else if eqb n 2 then Mode.DoubleQuote Octal.Rust
     else if eqb n 3 then Mode.ShellExec
-    else if eqb n 4 then Mode.Heredoc
+    else if eqb n 4 then Mode.Heredoc Octal.Rust
+    else if eqb n 6 then Mode.Double Octal.Manual
+    else if eqb n 7 then Mode.DoubleQuote Octal.Manual
+    else if eqb n 8 then Mode.Heredoc Octal.Manual
     else Mode.Nowdoc
 
 unfoldable pub asked : ℕ → List ℕ → List ℕ → ℕ → ℕ → Reading
 asked mode src label at end =
     if leb (length src) 65536 then
-    (if leb mode 5 then
+    (if leb mode 8 then
     (if leb at (length src) then
     (if leb (length label) 64 then textAt (modeOf mode) label (announced end) at (drop at src) else Refused outOfPlace 0)
     else Refused outOfPlace 0)

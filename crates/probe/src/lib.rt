@@ -1,6 +1,7 @@
 // The readings one at a time, as numbers, for the comparison with the Rust. A `&[u8]` crosses as a pointer and a length.
 // Any numbers at all may come in: what can't be taken is refused by its number, and nothing is written then.
 // In order: a mode and a stop as numbers; the scan asked for; the two functions for texts; the two for numbers.
+use byte::Octal;
 use number::Literal;
 use text::Scanned;
 use unit::Follow;
@@ -25,16 +26,19 @@ pub struct Probed {
     pub len: usize,
 }
 
-// The mode of a number, 0 to 5.
+// The mode of a number, 0 to 8; from 6 on, octal escapes are read as the manual has them.
 fn mode_of(n: u32) -> Mode
     ensures { λ r. ⌜ r ≡ modeOf n ⌝ }
 {
     match n {
         0 => Mode::Single,
-        1 => Mode::Double,
-        2 => Mode::DoubleQuote,
+        1 => Mode::Double(Octal::Rust),
+        2 => Mode::DoubleQuote(Octal::Rust),
         3 => Mode::ShellExec,
-        4 => Mode::Heredoc,
+        4 => Mode::Heredoc(Octal::Rust),
+        6 => Mode::Double(Octal::Manual),
+        7 => Mode::DoubleQuote(Octal::Manual),
+        8 => Mode::Heredoc(Octal::Manual),
         _ => Mode::Nowdoc,
     }
 }
@@ -146,7 +150,7 @@ fn scanned(mode: u32, src: &[u8], label: &[u8], at: usize, end: u32) -> Scanned
     if 65536 < src.len() {
         return refused(byte::TOO_LARGE);
     }
-    if 5 < mode {
+    if 8 < mode {
         return refused(byte::OUT_OF_PLACE);
     }
     if src.len() < at {

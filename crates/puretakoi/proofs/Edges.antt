@@ -18,6 +18,7 @@ use Rattle.lexer.specs.Turns.{After}
 use Rattle.lexer.specs.Calls.{called}
 use Rattle.demands.specs.Walks.{walked, calledOn}
 use Rattle.demands.specs.Edges.{Literally, IsNew, StepOf}
+use Rattle.demands.proofs.Choices.{call-choices}
 use Rattle.demands.proofs.Edges.{call-new}
 use Rattle.demands.proofs.EdgeLists.{walk-new}
 use Rattle.layout.specs.Sessions.{sessionIn}
@@ -44,14 +45,15 @@ module _ (src : List ℕ) (end : ℕ) (session list pool answer : List ℕ) (r :
   pub host-call-edges : (c : Call) → Answered c src end session list pool answer r session′ list′ pool′ answer′
       → (getD list′ (i * 8 + 7) 0 ≡ getD session′ 0 0)
       × (0 < getD list′ (i * 8 + 6) 0 → 0 < getD list′ (i * 8 + 7) 0)
-      × Literally c src pool′ (tokenIn list′ i)
+      × Literally c (sessionIn session .choices .octals) src pool′ (tokenIn list′ i)
   host-call-edges c t =
       let a = called c src (announced end) (sessionIn session) list pool in
       let s = reading-stands src end session list pool answer r session′ list′ pool′ answer′ long c t in
       let count : getD session′ 4 0 ≡ a .turn .session .tokens = ap (λ (x : Session). x .tokens) (s .reads) in
       let there : getD session′ 0 0 ≡ a .turn .session .position = ap (λ (x : Session). x .position) (s .reads) in
       let new = call-new c src (sessionIn session) list pool (announced end) i (low, omega (arith, high, count)) in
-      rw (s .records, s .values) (new .ends ∙ sym there, new .stated, new .written)
+      let own = call-choices c src (announced end) (sessionIn session) list pool in
+      rw (s .records, s .values) (new .ends ∙ sym there, new .stated, rw own at (new .written))
 
   pub host-walk-edges : (most : ℕ) → Walked src end most session list pool answer r session′ list′ pool′ answer′
       → (list′ ≡ walked most src (announced end) (sessionIn session) list pool .list)

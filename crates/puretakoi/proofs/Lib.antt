@@ -8,3 +8,4 @@ pub mod WalkSteps
 pub mod Finds
 pub mod Filled
 pub mod Edges
+pub mod Octals

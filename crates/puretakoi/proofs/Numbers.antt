@@ -96,16 +96,20 @@ module _ (session answer : List ℕ) (r : ℕ) (numbers : List ℕ) (all : AreRe
 
 module _ (src : List ℕ) (end : ℕ) (session list pool answer : List ℕ) (r : ℕ) (session′ list′ pool′ answer′ : List ℕ) where
   pub host-call : (call : Call) → Answered call src end session list pool answer r session′ list′ pool′ answer′
-      → HostNumber (refusals call) (called call src (announced end) (sessionIn session) list pool .turn .answer) session answer r
+      → HostNumber (refusals (sessionIn session .choices .octals) call)
+      (called call src (announced end) (sessionIn session) list pool .turn .answer) session answer r
   host-call call c =
-      host-number session answer r (refusals call) (refusals-told call) _
+      host-number session answer r (refusals (sessionIn session .choices .octals) call)
+      (refusals-told (sessionIn session .choices .octals) call) _
       (call-refusals call src (announced end) (sessionIn session) list pool) (c .number)
 
   pub host-walk : (most : ℕ) → Walked src end most session list pool answer r session′ list′ pool′ answer′
-      → HostNumber (refusals Call.Step) (calledOn Call.Step most src (announced end) (sessionIn session) list pool .turn .answer)
+      → HostNumber (refusals (sessionIn session .choices .octals) Call.Step)
+      (calledOn Call.Step most src (announced end) (sessionIn session) list pool .turn .answer)
       session answer r
   host-walk most c =
-      host-number session answer r (refusals Call.Step) (refusals-told Call.Step) _
+      host-number session answer r (refusals (sessionIn session .choices .octals) Call.Step)
+      (refusals-told (sessionIn session .choices .octals) Call.Step) _
       (steps-refusals most src (announced end) (sessionIn session) list pool) (c .number)
 
 module _ (src session answer : List ℕ) (r : ℕ) (session′ answer′ : List ℕ) where

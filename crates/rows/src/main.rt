@@ -1,6 +1,7 @@
 // Reads a script from standard input and prints its tokens, a row each: kind, line, column, position, detail, value
 // length, and where the step ended that wrote it.
 // Then `end` and the position, or `refused`, the number and its line, column and position.
+use byte::Octal;
 use libc::STDERR_FILENO;
 use libc::STDIN_FILENO;
 use libc::STDOUT_FILENO;
@@ -68,6 +69,7 @@ fn print_script(src: &[u8]) {
     let mut pool = [0u8; 16384];
     let choices = Choices {
         nowdocs: Reading::Ported,
+        octals: Octal::Rust,
     };
     let mut s = state::fresh(choices);
     let mut left: u32 = 32770;

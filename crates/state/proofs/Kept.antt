@@ -1,7 +1,7 @@
 -- What the host's calls keep: a refusal gives back the session, and a good session stays good. Assumes nothing.
 --   Kept, skip-kept, push-kept, pop-kept            a refused call gives back the session that was passed (demand 1)
---   Stays, skip-stays, push-stays, pop-stays        what a call makes of a good session is good, its marks are the
---                                                   same, and the cursor does not go back
+--   Stays, skip-stays, push-stays, pop-stays        what a call makes of a good session is good, its marks and choices
+--                                                   are the same, and the cursor does not go back
 --   good-numbers, good-bottom, good-slots           what a good session is, fact by fact
 --   moved-good, entered-good, left-good             a good session at another place, with a frame more, with a frame less
 --   fresh-good                                      a fresh session is good, for every source
@@ -56,15 +56,17 @@ module _ (src : List ℕ) (s : Session) where
   unfolding popped
   pop-kept = gated-kept (gateRefusal src s) s _ (choice (Kept s) (ltb 1 (s .depth)) _ _ (λ e. done-kept s _) (λ e. refused-kept 10 (spanOf s) s))
 
--- what a turn makes of a session: a good one stays good, the marks are the same, and the cursor does not go back
+-- what a turn makes of a session: a good one stays good, the marks and the choices are the same, and the cursor does
+-- not go back
 pub record Stays (src : List ℕ) (s : Session) (t : Turn) : Type 0 where
   pub good : isGood src s ≡ true → isGood src (t .session) ≡ true
   pub tokens : t .session .tokens ≡ s .tokens
   pub bytes : t .session .bytes ≡ s .bytes
+  pub choices : t .session .choices ≡ s .choices
   pub onward : s .position ≤ t .session .position
 
 same-stays : (src : List ℕ) (s : Session) (answer : Answer) → Stays src s (record { answer = answer; session = s })
-same-stays src s answer = record { good = λ e. e; tokens = refl; bytes = refl; onward = omega arith }
+same-stays src s answer = record { good = λ e. e; tokens = refl; bytes = refl; choices = refl; onward = omega arith }
 
 gated-stays : (src : List ℕ) (number : ℕ) (s : Session) (t : Turn) → Stays src s t → Stays src s (gated number s t)
 gated-stays src number s t k = choice (Stays src s) (eqb number 0) t (refused number origin s) (λ e. k) (λ e. same-stays src s _)
@@ -133,6 +135,7 @@ module _ (src : List ℕ) (s : Session) where
         good = λ g. moved-good src s g count (leb-true _ _ e);
         tokens = refl;
         bytes = refl;
+        choices = refl;
         onward = omega (arith, passed-position (spanOf s) (take count (drop (s .position) src)));
       })
       (λ e. same-stays src s _))
@@ -149,6 +152,7 @@ module _ (src : List ℕ) (s : Session) where
         good = λ g. entered-good src s g f e (ltb-true _ _ h);
         tokens = refl;
         bytes = refl;
+        choices = refl;
         onward = omega arith;
       })
       (λ h. same-stays src s _))
@@ -164,6 +168,7 @@ module _ (src : List ℕ) (s : Session) where
         good = λ g. left-good src s g (ltb-true _ _ e);
         tokens = refl;
         bytes = refl;
+        choices = refl;
         onward = omega arith;
       })
       (λ e. same-stays src s _))

@@ -1,6 +1,7 @@
 // The session and what a host may do to it without reading: a fresh one, skip, push and pop.
 // Of the Rust: state/mod.rs and error.rs. Numbers have 32 bits, and a label's 16: a source has at most 65,536 bytes.
 // A call takes the session by value and gives it back in its turn, the same one where it refuses.
+use byte::Octal;
 use source::Span;
 ghost use mathlib.Core.Path.{_≡_};
 ghost use Prim.Native.Nat.{_≤_};
@@ -44,6 +45,8 @@ pub enum Reading {
 // What the session's owner chose.
 pub struct Choices {
     pub nowdocs: Reading,
+    // What octal escapes over 255 stand for, in double quotes and heredocs.
+    pub octals: Octal,
 }
 
 // Where a host is in its script, and how full its tables are. Frames from the depth on mean nothing.

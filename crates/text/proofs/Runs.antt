@@ -35,16 +35,16 @@ unfolding unitAt isPlain isNoBreak
 plain-unit Mode.Single label end n b rest e =
     let h = none-of b 39 92 39 92 e in
     rw (h .first, h .second)
-plain-unit Mode.Double label end n b rest e =
+plain-unit (Mode.Double octals) label end n b rest e =
     let h = none-of b 34 92 36 123 e in
     rw (h .first, h .second, h .third, h .fourth)
-plain-unit Mode.DoubleQuote label end n b rest e =
+plain-unit (Mode.DoubleQuote octals) label end n b rest e =
     let h = none-of b 34 92 36 123 e in
     rw (h .first, h .second, h .third, h .fourth)
 plain-unit Mode.ShellExec label end n b rest e =
     let h = none-of b 96 36 123 96 e in
     rw (h .first, h .second, h .third)
-plain-unit Mode.Heredoc label end n b rest e =
+plain-unit (Mode.Heredoc octals) label end n b rest e =
     let h = none-of b 10 92 36 123 e in
     rw (h .first, h .second, h .third, h .fourth)
 plain-unit Mode.Nowdoc label end n b rest e = rw (not-true (b is "\n") e)

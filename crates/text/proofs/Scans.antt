@@ -17,7 +17,7 @@ use Rattle.unit.specs.declared.Stop.{Stop}
 use Rattle.unit.specs.declared.TextUnit.{TextUnit}
 use Rattle.unit.specs.Digits.{utf8}
 use Rattle.unit.specs.Units.{unitAt}
-use Rattle.unit.specs.Readings.{Reading, Text, Refused, Wait, onto, taken, afterOf, collected, trimmed, losesBreak, finished, textAt}
+use Rattle.unit.specs.Readings.{Reading, Text, Refused, Wait, onto, taken, afterOf, collected, trimmed, heredocLosesBreak, losesBreak, finished, textAt}
 use Rattle.unit.proofs.Stands.{Stands, utf8-length, unit-stands}
 use Rattle.unit.proofs.Readings.{collected-turn}
 use Rattle.text.specs.declared.Scanned.{Scanned}
@@ -52,7 +52,7 @@ width-four code r e = rw e (utf8-length code)
 
 pub ruleset widths = (width-arm, width-point, width-four)
 
-pub stop-arm : (stop arm : Stop) (r : Bool) → stop ≡ arm → r ≡ losesBreak Mode.Heredoc arm → r ≡ losesBreak Mode.Heredoc stop
+pub stop-arm : (stop arm : Stop) (r : Bool) → stop ≡ arm → r ≡ heredocLosesBreak arm → r ≡ heredocLosesBreak stop
 stop-arm stop arm r e h = rw e h
 
 pub mode-arm : (m arm : Mode) (stop : Stop) (r : Bool) → m ≡ arm → r ≡ losesBreak arm stop → r ≡ losesBreak m stop

@@ -42,10 +42,10 @@ pub record Here (src : List ℕ) (n : ℕ) : Type 0 where
 
 unfoldable pub isPlain : Mode → ℕ → Bool
 isPlain Mode.Single = isNoneOf (code "'") (code "\\") (code "'") (code "\\")
-isPlain Mode.Double = isNoneOf (code "\"") (code "\\") (code "$") (code "{")
-isPlain Mode.DoubleQuote = isNoneOf (code "\"") (code "\\") (code "$") (code "{")
+isPlain (Mode.Double octals) = isNoneOf (code "\"") (code "\\") (code "$") (code "{")
+isPlain (Mode.DoubleQuote octals) = isNoneOf (code "\"") (code "\\") (code "$") (code "{")
 isPlain Mode.ShellExec = isNoneOf (code "`") (code "$") (code "{") (code "`")
-isPlain Mode.Heredoc = isNoneOf (code "\n") (code "\\") (code "$") (code "{")
+isPlain (Mode.Heredoc octals) = isNoneOf (code "\n") (code "\\") (code "$") (code "{")
 isPlain Mode.Nowdoc = isNoBreak
 
 unfoldable pub bytesOf : TextUnit → List ℕ
@@ -118,10 +118,10 @@ pub record Reads (m : Mode) (src label : List ℕ) (at : ℕ) (end : Bool) (dst 
 -- the label has bytes, and the first is no LF
 unfoldable pub isSearched : Mode → List ℕ → Bool
 isSearched Mode.Single label = false
-isSearched Mode.Double label = false
-isSearched Mode.DoubleQuote label = false
+isSearched (Mode.Double octals) label = false
+isSearched (Mode.DoubleQuote octals) label = false
 isSearched Mode.ShellExec label = false
-isSearched Mode.Heredoc label = false
+isSearched (Mode.Heredoc octals) label = false
 isSearched Mode.Nowdoc [] = false
 isSearched Mode.Nowdoc (b ∷ rest) = not (b is "\n")
 

@@ -11,7 +11,7 @@ ghost use lib.ListN.{length, take, drop};
 ghost use Rattle.unit.specs.declared.Mode.{Mode};
 ghost use Rattle.unit.specs.declared.TextUnit.{TextUnit};
 ghost use Rattle.unit.specs.Digits.{utf8};
-ghost use Rattle.unit.specs.Readings.{afterOf, losesBreak, textAt};
+ghost use Rattle.unit.specs.Readings.{afterOf, heredocLosesBreak, losesBreak, textAt};
 ghost use Rattle.text.specs.Code.{bytesOf, isBreak, lastBreak, valueLength, ended, unclosed, measured};
 ghost use Rattle.text.specs.Code.{BeforeBlanks, Searchable, isWritable, clipped, Reads, isSearched, Scans};
 
@@ -94,7 +94,7 @@ fn is_break(u: TextUnit) -> bool
 
 // Whether the text before a stop of a heredoc loses its last break.
 fn heredoc_loses_break(stop: Stop) -> bool
-    ensures { λ r. ⌜ r ≡ losesBreak Mode.Heredoc stop ⌝ }
+    ensures { λ r. ⌜ r ≡ heredocLosesBreak stop ⌝ }
 {
     match stop {
         Stop::Quote => true,
@@ -114,10 +114,10 @@ fn loses_break(m: Mode, stop: Stop) -> bool
 {
     match m {
         Mode::Single => false,
-        Mode::Double => false,
-        Mode::DoubleQuote => false,
+        Mode::Double(_) => false,
+        Mode::DoubleQuote(_) => false,
         Mode::ShellExec => false,
-        Mode::Heredoc => heredoc_loses_break(stop),
+        Mode::Heredoc(_) => heredoc_loses_break(stop),
         Mode::Nowdoc => false,
     }
 }
@@ -344,10 +344,10 @@ pub fn scan_text(m: Mode, src: &[u8], label: &[u8], at: usize, end: bool, dst: &
 {
     match m {
         Mode::Single => read_text(m, src, label, at, end, dst),
-        Mode::Double => read_text(m, src, label, at, end, dst),
-        Mode::DoubleQuote => read_text(m, src, label, at, end, dst),
+        Mode::Double(_) => read_text(m, src, label, at, end, dst),
+        Mode::DoubleQuote(_) => read_text(m, src, label, at, end, dst),
         Mode::ShellExec => read_text(m, src, label, at, end, dst),
-        Mode::Heredoc => read_text(m, src, label, at, end, dst),
+        Mode::Heredoc(_) => read_text(m, src, label, at, end, dst),
         Mode::Nowdoc => scan_nowdoc(src, label, at, end, dst),
     }
 }

@@ -1,4 +1,5 @@
 // What stands at a place of a text, mode by mode, and how far the bytes that stand for themselves go.
+use byte::Octal;
 use unit::Mode;
 use unit::Stop;
 use unit::TextUnit;
@@ -48,28 +49,28 @@ fn single_at(src: &[u8], n: usize, end: bool) -> TextUnit
     }
 }
 
-fn double_at(src: &[u8], n: usize, end: bool) -> TextUnit
+fn double_at(octals: Octal, src: &[u8], n: usize, end: bool) -> TextUnit
     requires { ⌜ Here (now src) n ⌝ }
-    ensures { λ r. ⌜ r ≡ unitAt Mode.Double [] end n (getD (now (src .entry)) n 0) (drop (n + 1) (now (src .entry))) ⌝ }
+    ensures { λ r. ⌜ r ≡ unitAt (Mode.Double octals) [] end n (getD (now (src .entry)) n 0) (drop (n + 1) (now (src .entry))) ⌝ }
 {
     let b = src[n];
     match b {
         b'"' => quote_at(n),
-        b'\\' => escape::escape_at(src, n + 1, end),
+        b'\\' => escape::escape_at(octals, src, n + 1, end),
         b'$' => interpolation::find_dollar(src, n, end),
         b'{' => interpolation::find_brace(src, n, end),
         _ => plain_at(b, n),
     }
 }
 
-fn double_quote_at(src: &[u8], n: usize, end: bool) -> TextUnit
+fn double_quote_at(octals: Octal, src: &[u8], n: usize, end: bool) -> TextUnit
     requires { ⌜ Here (now src) n ⌝ }
-    ensures { λ r. ⌜ r ≡ unitAt Mode.DoubleQuote [] end n (getD (now (src .entry)) n 0) (drop (n + 1) (now (src .entry))) ⌝ }
+    ensures { λ r. ⌜ r ≡ unitAt (Mode.DoubleQuote octals) [] end n (getD (now (src .entry)) n 0) (drop (n + 1) (now (src .entry))) ⌝ }
 {
     let b = src[n];
     match b {
         b'"' => quote_at(n),
-        b'\\' => escape::escape_at(src, n + 1, end),
+        b'\\' => escape::escape_at(octals, src, n + 1, end),
         b'$' => interpolation::dollar_at(src, n, end),
         b'{' => interpolation::brace_at(src, n, end),
         _ => plain_at(b, n),
@@ -89,14 +90,14 @@ fn shell_exec_at(src: &[u8], n: usize, end: bool) -> TextUnit
     }
 }
 
-fn heredoc_at(src: &[u8], label: &[u8], n: usize, end: bool) -> TextUnit
+fn heredoc_at(octals: Octal, src: &[u8], label: &[u8], n: usize, end: bool) -> TextUnit
     requires { ⌜ Here (now src) n × (length (now label) ≤ 64) ⌝ }
-    ensures { λ r. ⌜ r ≡ unitAt Mode.Heredoc (now (label .entry)) end n (getD (now (src .entry)) n 0) (drop (n + 1) (now (src .entry))) ⌝ }
+    ensures { λ r. ⌜ r ≡ unitAt (Mode.Heredoc octals) (now (label .entry)) end n (getD (now (src .entry)) n 0) (drop (n + 1) (now (src .entry))) ⌝ }
 {
     let b = src[n];
     match b {
         b'\n' => closer::line_at(src, label, n, end),
-        b'\\' => escape::escape_at(src, n + 1, end),
+        b'\\' => escape::escape_at(octals, src, n + 1, end),
         b'$' => interpolation::dollar_at(src, n, end),
         b'{' => interpolation::brace_at(src, n, end),
         _ => plain_at(b, n),
@@ -121,10 +122,10 @@ pub fn unit_at(m: Mode, src: &[u8], label: &[u8], n: usize, end: bool) -> TextUn
 {
     match m {
         Mode::Single => single_at(src, n, end),
-        Mode::Double => double_at(src, n, end),
-        Mode::DoubleQuote => double_quote_at(src, n, end),
+        Mode::Double(octals) => double_at(octals, src, n, end),
+        Mode::DoubleQuote(octals) => double_quote_at(octals, src, n, end),
         Mode::ShellExec => shell_exec_at(src, n, end),
-        Mode::Heredoc => heredoc_at(src, label, n, end),
+        Mode::Heredoc(octals) => heredoc_at(octals, src, label, n, end),
         Mode::Nowdoc => nowdoc_at(src, label, n, end),
     }
 }
@@ -136,10 +137,10 @@ pub fn plain_end(m: Mode, src: &[u8], at: usize) -> usize
 {
     match m {
         Mode::Single => source::stop_end(src, at, b'\'', b'\\', b'\'', b'\\'),
-        Mode::Double => source::stop_end(src, at, b'"', b'\\', b'$', b'{'),
-        Mode::DoubleQuote => source::stop_end(src, at, b'"', b'\\', b'$', b'{'),
+        Mode::Double(_) => source::stop_end(src, at, b'"', b'\\', b'$', b'{'),
+        Mode::DoubleQuote(_) => source::stop_end(src, at, b'"', b'\\', b'$', b'{'),
         Mode::ShellExec => source::stop_end(src, at, b'`', b'$', b'{', b'`'),
-        Mode::Heredoc => source::stop_end(src, at, b'\n', b'\\', b'$', b'{'),
+        Mode::Heredoc(_) => source::stop_end(src, at, b'\n', b'\\', b'$', b'{'),
         Mode::Nowdoc => source::break_end(src, at),
     }
 }

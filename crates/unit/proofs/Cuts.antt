@@ -16,6 +16,7 @@ use native.Mathlib.Omega.{arith}
 use lib.Dec.{ltb}
 use lib.ListN.{length, take, drop, getD, length-take, take-append-drop}
 use borrow.Author.Tests.{eqb-true, eq-eqb}
+use Rattle.byte.specs.declared.Octal.{Octal}
 use Rattle.byte.specs.Words.{_is_}
 use Rattle.byte.specs.Bytes.{isStart}
 use Rattle.byte.proofs.Tests.{if-both}
@@ -23,7 +24,7 @@ use Rattle.unit.specs.declared.Mode.{Mode}
 use Rattle.unit.specs.declared.Stop.{Stop}
 use Rattle.unit.specs.declared.TextUnit.{TextUnit}
 use Rattle.unit.specs.Digits.{digitValue, isScalar, utf8}
-use Rattle.unit.specs.Escapes.{letterValue, fitted, digits, hex, codePoint, braced, escape, quoteEscape}
+use Rattle.unit.specs.Escapes.{letterValue, overflowing, fitted, digits, hex, codePoint, braced, escape, quoteEscape}
 use Rattle.unit.specs.Interpolations.{findDollar, findBrace}
 use Rattle.unit.specs.Labels.{Labelled}
 use Rattle.unit.specs.Units.{unitAt}
@@ -38,10 +39,10 @@ use Rattle.unit.proofs.Literals.{finished-whole}
 -- the quote of a literal
 abbrev quoteOf : Mode → Char
 quoteOf Mode.Single = "'"
-quoteOf Mode.Double = "\""
-quoteOf Mode.DoubleQuote = "\""
+quoteOf (Mode.Double octals) = "\""
+quoteOf (Mode.DoubleQuote octals) = "\""
 quoteOf Mode.ShellExec = "`"
-quoteOf Mode.Heredoc = "\""
+quoteOf (Mode.Heredoc octals) = "\""
 quoteOf Mode.Nowdoc = "\""
 
 -- a cut ys is enough where zs is left behind: it has this quote, or nothing is left
@@ -66,13 +67,14 @@ data Moved (m : Mode) (b n k : ℕ) : TextUnit → TextUnit → Type 0 where
       → Moved m b n k (TextUnit.Point value after) (TextUnit.Point value after′)
   quote : b is quoteOf m ≡ true
       → Moved m b n k (TextUnit.Ends Stop.Quote n (suc n)) (TextUnit.Ends Stop.Quote k (suc k))
-  found : m ≡ Mode.Double
+  found : {octals : Octal} → m ≡ Mode.Double octals
       → Moved m b n k (TextUnit.Ends Stop.Interpolation n n) (TextUnit.Ends Stop.Interpolation k k)
   fault : {number place place′ : ℕ} → Moved m b n k (TextUnit.Fault number place) (TextUnit.Fault number place′)
 
 -- ---- the units, in the definitions' order; p moves to q as n does to k
 
-module _ (b n k : ℕ) where
+-- under either choice
+module _ (octals : Octal) (b n k : ℕ) where
   -- one byte
   one : {m : Mode} {value : ℕ} → Moved m b n k (TextUnit.Byte value (suc n)) (TextUnit.Byte value (suc k))
   one =
@@ -80,15 +82,20 @@ module _ (b n k : ℕ) where
       byte z
 
   abbrev M : TextUnit → TextUnit → Type 0
-  M u v = Moved Mode.Double b n k u v
+  M u v = Moved (Mode.Double octals) b n k u v
 
-  fitted-moved : (value p q : ℕ) → p + k ≡ q + n → M (fitted value p) (fitted value q)
+  overflowing-moved : (o : Octal) (value p q : ℕ) → p + k ≡ q + n → M (overflowing o value p) (overflowing o value q)
+  unfolding overflowing
+  overflowing-moved Octal.Rust value p q h = fault
+  overflowing-moved Octal.Manual value p q h = byte h
+
+  fitted-moved : (value p q : ℕ) → p + k ≡ q + n → M (fitted octals value p) (fitted octals value q)
   unfolding fitted
-  fitted-moved value p q h = if-both M (ltb value 256) (λ e. byte h) (λ e. fault)
+  fitted-moved value p q h = if-both M (ltb value 256) (λ e. byte h) (λ e. overflowing-moved octals value p q h)
 
   digits-moved : (base : ℕ) → ((x : ℕ) → ltb (digitValue x) base ≡ true → Plainly x)
       → (left value p q : ℕ) (ys zs : List ℕ) → p + k ≡ q + n → Enough "\"" ys zs
-      → M (digits true base left value p (ys ++ zs)) (digits true base left value q ys)
+      → M (digits octals true base left value p (ys ++ zs)) (digits octals true base left value q ys)
   unfolding digits
   digits-moved base d zero value p q ys zs h f = fitted-moved value p q h
   digits-moved base d (suc left) value p q [] zs h f = rw f (fitted-moved value p q h)
@@ -99,7 +106,7 @@ module _ (b n k : ℕ) where
       (λ e. fitted-moved value p q h)
 
   hex-moved : (p q : ℕ) (ys zs : List ℕ) → p + k ≡ q + n → Enough "\"" ys zs
-      → M (hex true p (ys ++ zs)) (hex true q ys)
+      → M (hex octals true p (ys ++ zs)) (hex octals true q ys)
   unfolding hex
   hex-moved p q [] zs h f = rw f (byte h)
   hex-moved p q (x ∷ ys) zs h f =
@@ -133,7 +140,7 @@ module _ (b n k : ℕ) where
       (λ e. byte h)
 
   escape-moved : (p q : ℕ) (ys zs : List ℕ) → p + k ≡ q + n → Enough "\"" ys zs
-      → M (escape true p (ys ++ zs)) (escape true q ys)
+      → M (escape octals true p (ys ++ zs)) (escape octals true q ys)
   unfolding escape
   escape-moved p q [] zs h f = rw f (byte h)
   escape-moved p q (x ∷ ys) zs h f =
@@ -161,22 +168,25 @@ module _ (b n k : ℕ) where
   findBrace-moved [] zs f = rw f one
   findBrace-moved (x ∷ ys) zs f = if-both M (x is "$") (λ e. found refl) (λ e. one)
 
+module _ (b n k : ℕ) where
   unit-moved : (m : Mode) → isLiteral m ≡ true → (ys zs : List ℕ) → Enough (quoteOf m) (b ∷ ys) zs
       → Moved m b n k (unitAt m [] true n b (ys ++ zs)) (unitAt m [] true k b ys)
   unfolding unitAt
   unit-moved Mode.Single l ys zs f =
       if-both (Moved Mode.Single b n k) (b is "'") (λ e. quote e)
       (λ e. if-both (Moved Mode.Single b n k) (b is "\\")
-      (λ g. quoteEscape-moved (suc n) (suc k) ys zs (omega arith) (f e))
-      (λ g. one))
-  unit-moved Mode.Double l ys zs f =
-      if-both M (b is "\"") (λ e. quote e)
-      (λ e. if-both M (b is "\\") (λ g. escape-moved (suc n) (suc k) ys zs (omega arith) (f e))
-      (λ g. if-both M (b is "$") (λ d. findDollar-moved ys zs (f e))
-      (λ d. if-both M (b is "{") (λ o. findBrace-moved ys zs (f e)) (λ o. one))))
-  unit-moved Mode.DoubleQuote l ys zs f = absurd (false≢true l)
+      (λ g. quoteEscape-moved Octal.Rust b n k (suc n) (suc k) ys zs (omega arith) (f e))
+      (λ g. one Octal.Rust b n k))
+  unit-moved (Mode.Double octals) l ys zs f =
+      if-both (M octals b n k) (b is "\"") (λ e. quote e)
+      (λ e. if-both (M octals b n k) (b is "\\")
+      (λ g. escape-moved octals b n k (suc n) (suc k) ys zs (omega arith) (f e))
+      (λ g. if-both (M octals b n k) (b is "$") (λ d. findDollar-moved octals b n k ys zs (f e))
+      (λ d. if-both (M octals b n k) (b is "{") (λ o. findBrace-moved octals b n k ys zs (f e))
+      (λ o. one octals b n k))))
+  unit-moved (Mode.DoubleQuote octals) l ys zs f = absurd (false≢true l)
   unit-moved Mode.ShellExec l ys zs f = absurd (false≢true l)
-  unit-moved Mode.Heredoc l ys zs f = absurd (false≢true l)
+  unit-moved (Mode.Heredoc octals) l ys zs f = absurd (false≢true l)
   unit-moved Mode.Nowdoc l ys zs f = absurd (false≢true l)
 
 -- ---- where a literal ends
@@ -190,7 +200,7 @@ pub record ClosedText (c : Char) (n : ℕ) (xs : List ℕ) (from after : ℕ) : 
 
 data Ended (m : Mode) (n : ℕ) (xs : List ℕ) (from after : ℕ) : Stop → Type 0 where
   closed : ClosedText (quoteOf m) n xs from after → Ended m n xs from after Stop.Quote
-  left : m ≡ Mode.Double → Ended m n xs from after Stop.Interpolation
+  left : {octals : Octal} → m ≡ Mode.Double octals → Ended m n xs from after Stop.Interpolation
 
 abbrev EndedReading : Mode → ℕ → List ℕ → Reading → Type 0
 EndedReading m n xs (Text value stop from after) = Ended m n xs from after stop
@@ -356,21 +366,22 @@ module _ (end : Bool) (n : ℕ) (xs value : List ℕ) where
         go _ (closed x) = refl
         go _ (left d) = clash cc
 
-    pub double-ended : textAt Mode.Double [] end n xs ≡ Text value stop from after
+    pub double-ended : (octals : Octal) → textAt (Mode.Double octals) [] end n xs ≡ Text value stop from after
         → (stop ≡ Stop.Quote) ⊎ (stop ≡ Stop.Interpolation)
     unfolding losesBreak
-    double-ended e = go stop (text-ended Mode.Double refl tt (λ s. refl) end n xs value stop from after e)
+    double-ended octals e =
+        go stop (text-ended (Mode.Double octals) refl tt (λ s. refl) end n xs value stop from after e)
       where
-        go : (s : Stop) → Ended Mode.Double n xs from after s → (s ≡ Stop.Quote) ⊎ (s ≡ Stop.Interpolation)
+        go : (s : Stop) → Ended (Mode.Double octals) n xs from after s → (s ≡ Stop.Quote) ⊎ (s ≡ Stop.Interpolation)
         go _ (closed x) = inl refl
         go _ (left d) = inr refl
 
   module _ (from after : ℕ) where
-    pub double-cut : textAt Mode.Double [] end n xs ≡ Text value Stop.Quote from after
-        → (k : ℕ) → textAt Mode.Double [] true k (take (after - n) xs)
+    pub double-cut : (octals : Octal) → textAt (Mode.Double octals) [] end n xs ≡ Text value Stop.Quote from after
+        → (k : ℕ) → textAt (Mode.Double octals) [] true k (take (after - n) xs)
         ≡ Text value Stop.Quote (k + (from - n)) (k + (after - n))
     unfolding losesBreak
-    double-cut e = text-cut Mode.Double refl tt (λ s. refl) end n xs value Stop.Quote from after e refl
+    double-cut octals e = text-cut (Mode.Double octals) refl tt (λ s. refl) end n xs value Stop.Quote from after e refl
 
     pub single-closed : textAt Mode.Single [] end n xs ≡ Text value Stop.Quote from after
         → ClosedText "'" n xs from after
@@ -379,9 +390,9 @@ module _ (end : Bool) (n : ℕ) (xs value : List ℕ) where
         collected-closed Mode.Single refl 0 n xs value from after
         (text-whole Mode.Single refl tt (λ s. refl) end n xs value Stop.Quote from after e)
 
-    pub double-closed : textAt Mode.Double [] end n xs ≡ Text value Stop.Quote from after
+    pub double-closed : (octals : Octal) → textAt (Mode.Double octals) [] end n xs ≡ Text value Stop.Quote from after
         → ClosedText "\"" n xs from after
     unfolding losesBreak
-    double-closed e =
-        collected-closed Mode.Double refl 0 n xs value from after
-        (text-whole Mode.Double refl tt (λ s. refl) end n xs value Stop.Quote from after e)
+    double-closed octals e =
+        collected-closed (Mode.Double octals) refl 0 n xs value from after
+        (text-whole (Mode.Double octals) refl tt (λ s. refl) end n xs value Stop.Quote from after e)

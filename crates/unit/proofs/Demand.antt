@@ -92,10 +92,10 @@ pub unit-plain : (m : Mode) (label : List ℕ) (end : Bool) (n b : ℕ) (rest : 
     → unitAt m label end n b rest ≡ TextUnit.Byte b (suc n)
 unfolding unitAt
 unit-plain Mode.Single label end n b rest p = rw (p .apostrophe, p .slash)
-unit-plain Mode.Double label end n b rest p = rw (p .quote, p .slash, p .dollar, p .brace)
-unit-plain Mode.DoubleQuote label end n b rest p = rw (p .quote, p .slash, p .dollar, p .brace)
+unit-plain (Mode.Double octals) label end n b rest p = rw (p .quote, p .slash, p .dollar, p .brace)
+unit-plain (Mode.DoubleQuote octals) label end n b rest p = rw (p .quote, p .slash, p .dollar, p .brace)
 unit-plain Mode.ShellExec label end n b rest p = rw (p .tick, p .dollar, p .brace)
-unit-plain Mode.Heredoc label end n b rest p = rw (p .lf, p .slash, p .dollar, p .brace)
+unit-plain (Mode.Heredoc octals) label end n b rest p = rw (p .lf, p .slash, p .dollar, p .brace)
 unit-plain Mode.Nowdoc label end n b rest p = rw (p .lf)
 
 -- a refusal at q

@@ -1,7 +1,7 @@
 -- A heredoc beside a nowdoc and beside double quotes. Assumes nothing.
 --   heredoc-plain     where the nowdoc's text has only such bytes, the heredoc is read as the nowdoc
 --   plain-within      where all bytes are such, those of the nowdoc's text are
---   heredoc-double    every unit but a quote and a break is that of double quotes
+--   heredoc-double    every unit but a quote and a break is that of double quotes, octal escapes by the same choice
 --   heredoc-quoted    a quote needs no escape
 -- A nowdoc's reading is gone through once, with what it has in each place (`Beside`).
 use Prim.Native.Nat.{ℕ, zero, suc, _-_}
@@ -11,6 +11,7 @@ use mathlib.Core.Bool.{Bool, true, false, not, _&&_}
 use mathlib.Core.List.{List, [], _∷_}
 use lib.ListN.{length}
 use borrow.Author.Tests.{eqb-true, not-true}
+use Rattle.byte.specs.declared.Octal.{Octal}
 use Rattle.byte.specs.Words.{_is_, every}
 use Rattle.byte.specs.Bytes.{isBlank}
 use Rattle.byte.proofs.Tests.{choice, &&-left, &&-right, &&-both, if-both}
@@ -22,7 +23,7 @@ use Rattle.unit.specs.Interpolations.{plain}
 use Rattle.unit.specs.Closers.{matched, indented, closer, judged, line}
 use Rattle.unit.specs.Units.{unitAt}
 use Rattle.unit.specs.Heredocs.{isItself, textOf}
-use Rattle.unit.specs.Readings.{Reading, Text, Refused, Wait, onto, taken, afterOf, collected, losesBreak}
+use Rattle.unit.specs.Readings.{Reading, Text, Refused, Wait, onto, taken, afterOf, collected, losesBreak, heredocLosesBreak}
 use Rattle.unit.specs.Readings.{finished, textAt}
 use Rattle.unit.proofs.Literals.{finished-whole}
 
@@ -35,12 +36,12 @@ AllItself xs = every isItself xs ≡ true
 abbrev Kept : ℕ → TextUnit → Type 0
 Kept b (TextUnit.Byte value after) = value ≡ b
 Kept b (TextUnit.Point c after) = ⊥
-Kept b (TextUnit.Ends stop from after) = losesBreak Mode.Heredoc stop ≡ false
+Kept b (TextUnit.Ends stop from after) = heredocLosesBreak stop ≡ false
 Kept b (TextUnit.Fault number place) = Unit {0}
 Kept b TextUnit.Undecided = Unit {0}
 
 closer-kept : (b size : ℕ) (ind : Indentation) (amount n : ℕ) → Kept b (closer size ind amount n)
-unfolding closer losesBreak
+unfolding closer heredocLosesBreak
 closer-kept b size Indentation.None amount n = refl
 closer-kept b size Indentation.Space amount n = refl
 closer-kept b size Indentation.Tab amount n = refl
@@ -80,11 +81,11 @@ text-first b rest (Refused number place) e = &&-left (isItself b) _ e
 text-first b rest Wait e = &&-left (isItself b) _ e
 
 -- a break is the same unit in both, and so is such a byte
-unit-same : (label : List ℕ) (end : Bool) (n b : ℕ) (rest : List ℕ) (later : Reading)
+unit-same : (octals : Octal) (label : List ℕ) (end : Bool) (n b : ℕ) (rest : List ℕ) (later : Reading)
     → AllItself (textOf (b ∷ rest) (taken (unitAt Mode.Nowdoc label end n b rest) later))
-    → unitAt Mode.Heredoc label end n b rest ≡ unitAt Mode.Nowdoc label end n b rest
+    → unitAt (Mode.Heredoc octals) label end n b rest ≡ unitAt Mode.Nowdoc label end n b rest
 unfolding unitAt taken isItself
-unit-same label end n b rest later =
+unit-same octals label end n b rest later =
     if-both (λ u v. AllItself (textOf (b ∷ rest) (taken v later)) → u ≡ v) (b is "\n")
     (λ e h. refl)
     (λ e h.
@@ -98,7 +99,7 @@ unit-same label end n b rest later =
 -- ---- a heredoc's reading beside a nowdoc's
 
 abbrev Closes : Reading → Type 0
-Closes (Text text stop from after) = losesBreak Mode.Heredoc stop ≡ false
+Closes (Text text stop from after) = heredocLosesBreak stop ≡ false
 Closes (Refused number place) = Unit {0}
 Closes Wait = Unit {0}
 
@@ -132,9 +133,9 @@ beside-passed b xs h (Refused number place) x =
 beside-passed b xs h Wait x =
     record { same = λ e. x .same (&&-right (isItself b) _ e); within = λ e. e; closes = tt }
 
-module _ (label : List ℕ) (end : Bool) where
+module _ (octals : Octal) (label : List ℕ) (end : Bool) where
   abbrev heredoc : ℕ → ℕ → List ℕ → Reading
-  heredoc k n xs = collected Mode.Heredoc label end k n xs
+  heredoc k n xs = collected (Mode.Heredoc octals) label end k n xs
 
   abbrev nowdoc : ℕ → ℕ → List ℕ → Reading
   nowdoc k n xs = collected Mode.Nowdoc label end k n xs
@@ -149,7 +150,7 @@ module _ (label : List ℕ) (end : Bool) where
   collected-beside zero n (b ∷ xs) =
       let u = unitAt Mode.Nowdoc label end n b xs in
       let y = go u (nowdoc-kept label end n b xs) (λ k. collected-beside k (suc n) xs) in
-      record { same = λ e. rw (unit-same label end n b xs _ e) (y .same e); within = y .within; closes = y .closes }
+      record { same = λ e. rw (unit-same octals label end n b xs _ e) (y .same e); within = y .within; closes = y .closes }
     where
       go : (u : TextUnit) → Kept b u → ((k : ℕ) → Beside xs (heredoc k (suc n) xs) (nowdoc k (suc n) xs))
           → Beside (b ∷ xs) (taken u (heredoc (afterOf u - suc n) (suc n) xs))
@@ -160,11 +161,11 @@ module _ (label : List ℕ) (end : Bool) where
       go (TextUnit.Fault number place) x ih = record { same = λ e. refl; within = λ e. e; closes = tt }
       go TextUnit.Undecided x ih = record { same = λ e. refl; within = λ e. e; closes = tt }
 
-finished-closes : (r : Reading) → Closes r → finished Mode.Heredoc r ≡ r
-unfolding finished
-finished-closes (Text text stop from after) x = rw x
-finished-closes (Refused number place) x = refl
-finished-closes Wait x = refl
+finished-closes : (octals : Octal) (r : Reading) → Closes r → finished (Mode.Heredoc octals) r ≡ r
+unfolding finished losesBreak
+finished-closes octals (Text text stop from after) x = rw x
+finished-closes octals (Refused number place) x = refl
+finished-closes octals Wait x = refl
 
 -- ---- the theorems
 
@@ -173,24 +174,25 @@ nowdoc-text : (label : List ℕ) (end : Bool) (n : ℕ) (xs : List ℕ)
 unfolding textAt losesBreak
 nowdoc-text label end n xs = finished-whole Mode.Nowdoc _ (λ stop. refl)
 
-module _ (label : List ℕ) (end : Bool) (n : ℕ) where
+module _ (octals : Octal) (label : List ℕ) (end : Bool) (n : ℕ) where
   pub heredoc-plain : (xs : List ℕ) → every isItself (textOf xs (textAt Mode.Nowdoc label end n xs)) ≡ true
-      → textAt Mode.Heredoc label end n xs ≡ textAt Mode.Nowdoc label end n xs
+      → textAt (Mode.Heredoc octals) label end n xs ≡ textAt Mode.Nowdoc label end n xs
   unfolding textAt
   heredoc-plain xs e =
-      let x = collected-beside label end 0 n xs in
+      let x = collected-beside octals label end 0 n xs in
       let h = rw (nowdoc-text label end n xs) at e in
-      ap (finished Mode.Heredoc) (x .same h) ∙ finished-closes _ (x .closes) ∙ sym (nowdoc-text label end n xs)
+      ap (finished (Mode.Heredoc octals)) (x .same h) ∙ finished-closes octals _ (x .closes)
+      ∙ sym (nowdoc-text label end n xs)
 
   pub plain-within : (xs : List ℕ) → every isItself xs ≡ true
       → every isItself (textOf xs (textAt Mode.Nowdoc label end n xs)) ≡ true
-  plain-within xs e = rw (nowdoc-text label end n xs) (collected-beside label end 0 n xs .within e)
+  plain-within xs e = rw (nowdoc-text label end n xs) (collected-beside octals label end 0 n xs .within e)
 
   pub heredoc-double : (b : ℕ) (rest : List ℕ) → b is "\"" ≡ false → b is "\n" ≡ false
-      → unitAt Mode.Heredoc label end n b rest ≡ unitAt Mode.DoubleQuote [] end n b rest
+      → unitAt (Mode.Heredoc octals) label end n b rest ≡ unitAt (Mode.DoubleQuote octals) [] end n b rest
   unfolding unitAt
   heredoc-double b rest q l = rw (q, l)
 
-  pub heredoc-quoted : (rest : List ℕ) → unitAt Mode.Heredoc label end n (code "\"") rest ≡ plain (code "\"") n
+  pub heredoc-quoted : (rest : List ℕ) → unitAt (Mode.Heredoc octals) label end n (code "\"") rest ≡ plain (code "\"") n
   unfolding unitAt
   heredoc-quoted rest = refl

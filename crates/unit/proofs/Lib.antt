@@ -1,4 +1,5 @@
 pub mod Stays
+pub mod Digits
 pub mod Stands
 pub mod Readings
 pub mod Inside
@@ -6,6 +7,7 @@ pub mod Openings
 pub mod Opens
 pub mod Demand
 pub mod Manual
+pub mod Octals
 pub mod Differences
 pub mod Literals
 pub mod Cuts

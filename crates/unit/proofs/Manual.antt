@@ -1,82 +1,37 @@
 -- The reader of escapes says what the PHP manual's tables say:
---   escape-manual        in double quotes, where octal digits write less than 256 and a `\u{` is matched
---   escape-overflow      where they write more, it is refusal 3 after the digits: the manual lets the number overflow
+--   escape-manual        in double quotes, where the choice reads the octal number and a `\u{` is matched
+--   escape-manual-all    so under the manual's choice of any octal number
+--   escape-overflow      which unit a number over 255 is, after its digits: refusal 3 under the Rust's choice; under
+--                        the manual's the byte of its low eight bits, as the manual lets it overflow
 --   escape-unmatched     where a `\u{` is not matched, it is refusal 2 after its digits: to the manual it is text
 --   escape-open          where the manual does not say what a code point means, it is refusal 2 after its brace
 --   quoteEscape-manual   in single quotes
--- Digits and code points first, then the tables, entry by entry; `if-both` goes down a reader and an entry at once.
+-- Code points first (digits: Digits.antt), then the tables, entry by entry; `if-both` goes down a reader and an entry
+-- at once.
 -- Assumes nothing.
 use mathlib.Core.Path.{_≡_, refl, ap, _∙_}
 use mathlib.Core.Bool.{Bool, true, false, not, _&&_, _||_}
 use mathlib.Core.List.{List, [], _∷_}
-use Prim.Native.Nat.{ℕ, zero, suc, _+_, _-_, _*_, _%_, _<_, _≤_}
+use Prim.Native.Nat.{ℕ, suc, _+_, _-_, _*_, _%_, _<_, _≤_}
 use Prim.Native.Char.{Char, code}
 use native.Mathlib.Omega.{arith}
 use native.Mathlib.Nat.{mod-eq-of-lt}
 use lib.Dec.{ltb}
 use lib.ListN.{length, drop}
-use borrow.Author.Tests.{eqb-true, ltb-true, lt-ltb, le-ltb, not-true}
+use borrow.Author.Tests.{eqb-true, ltb-true, not-true}
+use Rattle.byte.specs.declared.Octal.{Octal}
 use Rattle.byte.specs.Words.{if_then_else_, _is_, every}
 use Rattle.byte.proofs.Tests.{choice, &&-left, &&-right, if-both}
 use Rattle.unit.specs.declared.TextUnit.{TextUnit}
 use Rattle.unit.specs.Digits.{digitValue, isScalar, utf8}
-use Rattle.unit.specs.Escapes.{letters, letterIn, letterValue, fitted, digits, hex, codePoint, braced, escape}
+use Rattle.unit.specs.Escapes.{letters, letterIn, letterValue, overflowing, digits, hex, codePoint, braced, escape}
 use Rattle.unit.specs.Escapes.{quoteEscape}
 use Rattle.unit.specs.Manual.{Said, Means, Open, Nothing, isOpen, isNothing, digitsOf, allDigits, number, single, octalOf, octal}
 use Rattle.unit.specs.Manual.{hexOf, hexadecimal, codeOf, unicode, unmatched, doubleQuoted, singleQuoted, orElse, saidBy}
-use Rattle.unit.specs.Manual.{says}
+use Rattle.unit.specs.Manual.{says, fits}
 use Rattle.unit.proofs.Openings.{other-byte}
 use Rattle.unit.proofs.Stays.{clash}
-
--- ---- digits
-
--- u says the number that ds write after the value, told at n
-abbrev Written : ℕ → ℕ → ℕ → ℕ → TextUnit → List ℕ → Type 0
-Written p base value n u ds = number base value ds < 256 → says p u ≡ Means (number base value ds ∷ []) (n - p + length ds)
-
--- u refuses it, after them
-abbrev Overflows : ℕ → ℕ → ℕ → TextUnit → List ℕ → Type 0
-Overflows base value n u ds = 256 ≤ number base value ds → u ≡ TextUnit.Fault 3 (n + length ds)
-
-fitted-written : (p base value n : ℕ) → Written p base value n (fitted value n) []
-unfolding says fitted number
-fitted-written p base value n h = rw (lt-ltb value 256 h) (ap (Means (value ∷ [])) (omega arith))
-
-fitted-overflows : (base value n : ℕ) → Overflows base value n (fitted value n) []
-unfolding fitted number
-fitted-overflows base value n h = rw (le-ltb value 256 h) (ap (TextUnit.Fault 3) (omega arith))
-
-digits-written : (p base left value n : ℕ) (xs : List ℕ) → p ≤ n
-    → Written p base value n (digits true base left value n xs) (digitsOf base left xs)
-unfolding digits digitsOf number
-digits-written p base zero value n xs l = fitted-written p base value n
-digits-written p base (suc left) value n [] l = fitted-written p base value n
-digits-written p base (suc left) value n (b ∷ xs) l =
-    if-both (Written p base value n) (ltb (digitValue b) base)
-    (λ e h. digits-written p base left (value * base + digitValue b) (suc n) xs (omega arith) h ∙ rw next)
-    (λ e. fitted-written p base value n)
-  where
-    next : suc n - p + length (digitsOf base left xs) ≡ n - p + suc (length (digitsOf base left xs))
-    next = omega arith
-
-digits-overflows : (base left value n : ℕ) (xs : List ℕ)
-    → Overflows base value n (digits true base left value n xs) (digitsOf base left xs)
-unfolding digits digitsOf number
-digits-overflows base zero value n xs = fitted-overflows base value n
-digits-overflows base (suc left) value n [] = fitted-overflows base value n
-digits-overflows base (suc left) value n (b ∷ xs) =
-    if-both (Overflows base value n) (ltb (digitValue b) base)
-    (λ e h. digits-overflows base left (value * base + digitValue b) (suc n) xs h ∙ ap (TextUnit.Fault 3) (omega arith))
-    (λ e. fitted-overflows base value n)
-
--- two hex digits write less than 256
-hex-fits : (d : ℕ) (xs : List ℕ) → d < 16 → number 16 d (digitsOf 16 1 xs) < 256
-unfolding number digitsOf
-hex-fits d [] h = omega arith
-hex-fits d (b ∷ xs) h =
-    choice (λ ds. number 16 d ds < 256) (ltb (digitValue b) 16) (digitValue b ∷ []) []
-    (λ e. omega (arith, ltb-true (digitValue b) 16 e))
-    (λ e. omega arith)
+use Rattle.unit.proofs.Digits.{fits-small, digits-written, digits-overflows, hex-fits}
 
 -- ---- code points
 
@@ -150,21 +105,24 @@ backslash-says : (p : ℕ) → says p (TextUnit.Byte (code "\\") p) ≡ itself
 unfolding says
 backslash-says p = ap (Means (code "\\" ∷ [])) (omega arith)
 
-hex-says : (p : ℕ) (xs : List ℕ) → says p (hex true p xs) ≡ orElse (hexOf (digitsOf 16 2 xs)) itself
+hex-says : (octals : Octal) (p : ℕ) (xs : List ℕ)
+    → says p (hex octals true p xs) ≡ orElse (hexOf (digitsOf 16 2 xs)) itself
 unfolding hex digitsOf hexOf orElse number
-hex-says p [] = backslash-says p
-hex-says p (b ∷ xs) =
+hex-says octals p [] = backslash-says p
+hex-says octals p (b ∷ xs) =
     if-both (λ u ds. says p u ≡ orElse (hexOf ds) itself) (ltb (digitValue b) 16)
     (λ e. written (ltb-true (digitValue b) 16 e))
     (λ e. backslash-says p)
   where
     written : digitValue b < 16
-        → says p (digits true 16 1 (digitValue b) (suc (suc p)) xs)
+        → says p (digits octals true 16 1 (digitValue b) (suc (suc p)) xs)
         ≡ Means (number 16 (0 * 16 + digitValue b) (digitsOf 16 1 xs) ∷ []) (1 + suc (length (digitsOf 16 1 xs)))
     written h =
         let z : 0 * 16 + digitValue b ≡ digitValue b = omega arith in
         let k : suc (suc p) - p + length (digitsOf 16 1 xs) ≡ 1 + suc (length (digitsOf 16 1 xs)) = omega arith in
-        digits-written p 16 1 (digitValue b) (suc (suc p)) xs (omega arith) (hex-fits (digitValue b) xs h) ∙ rw (k, z)
+        let small = hex-fits (digitValue b) xs h in
+        digits-written octals p 16 1 (digitValue b) (suc (suc p)) xs (omega arith) (fits-small octals _ small)
+        ∙ rw (mod-eq-of-lt small, k, z)
 
 unicode-other : (b : ℕ) (xs : List ℕ) → b is "u" ≡ false → unicode (b ∷ xs) ≡ Nothing
 unfolding unicode
@@ -192,20 +150,22 @@ braced-says p b (c ∷ xs) h m = rw h (go (c is "{") (rw h at m))
     go false e = backslash-says p
 
 -- after the letters
-numbers-say : (p b : ℕ) (xs : List ℕ) → unmatched (b ∷ xs) ≡ false → number 8 0 (digitsOf 8 3 (b ∷ xs)) < 256
+numbers-say : (octals : Octal) (p b : ℕ) (xs : List ℕ) → unmatched (b ∷ xs) ≡ false
+    → fits octals (number 8 0 (digitsOf 8 3 (b ∷ xs))) ≡ true
     → says p
-    (if ltb (digitValue b) 8 then digits true 8 2 (digitValue b) (suc p) xs
-    else if b is "x" then hex true p xs
+    (if ltb (digitValue b) 8 then digits octals true 8 2 (digitValue b) (suc p) xs
+    else if b is "x" then hex octals true p xs
     else if b is "u" then braced true p xs
     else TextUnit.Byte (code "\\") p)
     ≡ orElse (octal (b ∷ xs)) (orElse (hexadecimal (b ∷ xs)) (orElse (unicode (b ∷ xs)) itself))
 unfolding octal octalOf digitsOf hexadecimal orElse number
-numbers-say p b xs m =
-    if-both (λ u ds. number 8 0 ds < 256 → says p u ≡ orElse (octalOf ds) (orElse (hexadecimal (b ∷ xs)) last))
+numbers-say octals p b xs m =
+    if-both
+    (λ u ds. fits octals (number 8 0 ds) ≡ true → says p u ≡ orElse (octalOf ds) (orElse (hexadecimal (b ∷ xs)) last))
     (ltb (digitValue b) 8)
     (λ e h. written h)
     (λ e h. if-both (λ u s. says p u ≡ orElse s last) (b is "x")
-    (λ f. rw (unicode-other b xs (no-u f)) (hex-says p xs))
+    (λ f. rw (unicode-other b xs (no-u f)) (hex-says octals p xs))
     (λ f. choice (λ u. says p u ≡ last) (b is "u") _ _
     (λ g. braced-says p b xs g m)
     (λ g. rw (unicode-other b xs g) (backslash-says p))))
@@ -218,13 +178,13 @@ numbers-say p b xs m =
         let z : b ≡ code "x" = eqb-true b (code "x") h in
         rw z
 
-    written : number 8 (0 * 8 + digitValue b) (digitsOf 8 2 xs) < 256
-        → says p (digits true 8 2 (digitValue b) (suc p) xs)
+    written : fits octals (number 8 (0 * 8 + digitValue b) (digitsOf 8 2 xs)) ≡ true
+        → says p (digits octals true 8 2 (digitValue b) (suc p) xs)
         ≡ Means (number 8 (0 * 8 + digitValue b) (digitsOf 8 2 xs) % 256 ∷ []) (suc (length (digitsOf 8 2 xs)))
     written h =
         let z : 0 * 8 + digitValue b ≡ digitValue b = omega arith in
         let k : suc p - p + length (digitsOf 8 2 xs) ≡ suc (length (digitsOf 8 2 xs)) = omega arith in
-        digits-written p 8 2 (digitValue b) (suc p) xs (omega arith) (rw z at h) ∙ rw (mod-eq-of-lt h, k, z)
+        digits-written octals p 8 2 (digitValue b) (suc p) xs (omega arith) (rw z at h) ∙ rw (k, z)
 
 -- an entry for each of these letters, then the others
 singles : List (Char × Char) → List (List ℕ → Said) → List (List ℕ → Said)
@@ -252,11 +212,19 @@ letters-say (row ∷ rows) entries p b xs u h e =
 
 -- ---- the tables
 
-pub escape-manual : (p : ℕ) (xs : List ℕ) → number 8 0 (digitsOf 8 3 xs) < 256 → unmatched xs ≡ false
-    → says p (escape true p xs) ≡ saidBy doubleQuoted xs
+pub escape-manual : (octals : Octal) (p : ℕ) (xs : List ℕ) → fits octals (number 8 0 (digitsOf 8 3 xs)) ≡ true
+    → unmatched xs ≡ false
+    → says p (escape octals true p xs) ≡ saidBy doubleQuoted xs
 unfolding escape letterValue saidBy doubleQuoted singles single octal octalOf digitsOf hexadecimal unicode orElse every
-escape-manual p [] h m = backslash-says p
-escape-manual p (b ∷ xs) h m = letters-say letters (octal ∷ hexadecimal ∷ unicode ∷ []) p b xs _ refl (numbers-say p b xs m h)
+escape-manual octals p [] h m = backslash-says p
+escape-manual octals p (b ∷ xs) h m =
+    letters-say letters (octal ∷ hexadecimal ∷ unicode ∷ []) p b xs _ refl (numbers-say octals p b xs m h)
+
+-- under the manual's choice of any octal number
+pub escape-manual-all : (p : ℕ) (xs : List ℕ) → unmatched xs ≡ false
+    → says p (escape Octal.Manual true p xs) ≡ saidBy doubleQuoted xs
+unfolding fits
+escape-manual-all p xs m = escape-manual Octal.Manual p xs refl m
 
 -- an octal digit is none of the letters
 letterIn-other : (test : ℕ → Bool) (b : ℕ) → test b ≡ true → (rows : List (Char × Char))
@@ -267,52 +235,56 @@ letterIn-other test b h (row ∷ rows) e =
     rw (other-byte test (code (row .0)) b (not-true (test (code (row .0))) (&&-left (not (test (code (row .0)))) _ e)) h)
     (letterIn-other test b h rows (&&-right (not (test (code (row .0)))) _ e))
 
-pub escape-overflow : (p : ℕ) (xs : List ℕ) → 256 ≤ number 8 0 (digitsOf 8 3 xs)
-    → escape true p xs ≡ TextUnit.Fault 3 (p + length (digitsOf 8 3 xs))
+pub escape-overflow : (octals : Octal) (p : ℕ) (xs : List ℕ) → 256 ≤ number 8 0 (digitsOf 8 3 xs)
+    → escape octals true p xs ≡ overflowing octals (number 8 0 (digitsOf 8 3 xs)) (p + length (digitsOf 8 3 xs))
 unfolding escape letterValue digitsOf digitValue number every
-escape-overflow p [] h = absurd (omega arith)
-escape-overflow p (b ∷ xs) h = go (ltb (digitValue b) 8) refl h
+escape-overflow octals p [] h = absurd (omega arith)
+escape-overflow octals p (b ∷ xs) h = go (ltb (digitValue b) 8) refl h
   where
     go : (t : Bool) → ltb (digitValue b) 8 ≡ t → 256 ≤ number 8 0 (if t then digitValue b ∷ digitsOf 8 2 xs else [])
         → (if ltb (letterIn letters b) 256 then TextUnit.Byte (letterIn letters b) (suc p)
-        else if t then digits true 8 2 (digitValue b) (suc p) xs
-        else if b is "x" then hex true p xs
+        else if t then digits octals true 8 2 (digitValue b) (suc p) xs
+        else if b is "x" then hex octals true p xs
         else if b is "u" then braced true p xs
         else TextUnit.Byte (code "\\") p)
-        ≡ TextUnit.Fault 3 (p + length (if t then digitValue b ∷ digitsOf 8 2 xs else []))
+        ≡ overflowing octals (number 8 0 (if t then digitValue b ∷ digitsOf 8 2 xs else []))
+        (p + length (if t then digitValue b ∷ digitsOf 8 2 xs else []))
     go true e k =
         let z : 0 * 8 + digitValue b ≡ digitValue b = omega arith in
         let w : number 8 (0 * 8 + digitValue b) (digitsOf 8 2 xs) ≡ number 8 (digitValue b) (digitsOf 8 2 xs) =
         ap (λ v. number 8 v (digitsOf 8 2 xs)) z in
         rw (letterIn-other (λ x. ltb (digitValue x) 8) b e letters refl)
-        (digits-overflows 8 2 (digitValue b) (suc p) xs (omega arith) ∙ ap (TextUnit.Fault 3) (omega arith))
+        (digits-overflows octals 8 2 (digitValue b) (suc p) xs (omega arith)
+        ∙ rw w (ap (overflowing octals _) (omega arith)))
     go false e k = absurd (omega arith)
 
 -- ---- code points that the reader refuses
 
 -- after `u`
-escape-braced : (p b : ℕ) (xs : List ℕ) → b is "u" ≡ true → escape true p (b ∷ xs) ≡ braced true p xs
+escape-braced : (octals : Octal) (p b : ℕ) (xs : List ℕ) → b is "u" ≡ true
+    → escape octals true p (b ∷ xs) ≡ braced true p xs
 unfolding escape letterValue digitValue
-escape-braced p b xs h =
+escape-braced octals p b xs h =
     let z : b ≡ code "u" = eqb-true b (code "u") h in
     rw z
 
 -- after `u{`
-escape-point : (p b c : ℕ) (xs : List ℕ) → (b is "u" && c is "{") ≡ true
-    → escape true p (b ∷ c ∷ xs) ≡ pointOf p (allDigits 16 xs) (behind xs)
+escape-point : (octals : Octal) (p b c : ℕ) (xs : List ℕ) → (b is "u" && c is "{") ≡ true
+    → escape octals true p (b ∷ c ∷ xs) ≡ pointOf p (allDigits 16 xs) (behind xs)
 unfolding braced
-escape-point p b c xs h =
-    escape-braced p b (c ∷ xs) (&&-left (b is "u") (c is "{") h) ∙ rw (&&-right (b is "u") (c is "{") h) (codePoint-of p xs)
+escape-point octals p b c xs h =
+    escape-braced octals p b (c ∷ xs) (&&-left (b is "u") (c is "{") h)
+    ∙ rw (&&-right (b is "u") (c is "{") h) (codePoint-of p xs)
 
-pub escape-unmatched : (p : ℕ) (xs : List ℕ) → unmatched xs ≡ true
-    → escape true p xs ≡ TextUnit.Fault 2 (p + 2 + length (allDigits 16 (drop 2 xs)))
+pub escape-unmatched : (octals : Octal) (p : ℕ) (xs : List ℕ) → unmatched xs ≡ true
+    → escape octals true p xs ≡ TextUnit.Fault 2 (p + 2 + length (allDigits 16 (drop 2 xs)))
 unfolding unmatched unicode
-escape-unmatched p [] m = clash cc
-escape-unmatched p (b ∷ []) m = clash cc
-escape-unmatched p (b ∷ c ∷ xs) m =
+escape-unmatched octals p [] m = clash cc
+escape-unmatched octals p (b ∷ []) m = clash cc
+escape-unmatched octals p (b ∷ c ∷ xs) m =
     let h = &&-left (b is "u" && c is "{") _ m in
     let e : isNothing (codeOf (allDigits 16 xs) (behind xs)) ≡ true = rw h at m in
-    escape-point p b c xs h ∙ point-told p (allDigits 16 xs) (behind xs) .other e
+    escape-point octals p b c xs h ∙ point-told p (allDigits 16 xs) (behind xs) .other e
 
 -- the other entries leave nothing open
 pub single-open : (letter byte : Char) (xs : List ℕ) → isOpen (single letter byte xs) ≡ false
@@ -361,21 +333,21 @@ unicode-open xs e =
     (orElse-open _ _ (hexadecimal-open xs)
     (orElse-open _ _ (octal-open (digitsOf 8 3 xs)) (singles-open letters (octal ∷ hexadecimal ∷ unicode ∷ []) xs e)))
 
-unicode-refused : (p : ℕ) (xs : List ℕ) → unicode xs ≡ Open
-    → escape true p xs ≡ TextUnit.Fault 2 (p + 3 + length (allDigits 16 (drop 2 xs)))
+unicode-refused : (octals : Octal) (p : ℕ) (xs : List ℕ) → unicode xs ≡ Open
+    → escape octals true p xs ≡ TextUnit.Fault 2 (p + 3 + length (allDigits 16 (drop 2 xs)))
 unfolding unicode
-unicode-refused p [] h = clash cc
-unicode-refused p (b ∷ []) h = clash cc
-unicode-refused p (b ∷ c ∷ xs) h = go (b is "u" && c is "{") refl h
+unicode-refused octals p [] h = clash cc
+unicode-refused octals p (b ∷ []) h = clash cc
+unicode-refused octals p (b ∷ c ∷ xs) h = go (b is "u" && c is "{") refl h
   where
     go : (t : Bool) → (b is "u" && c is "{") ≡ t → (if t then codeOf (allDigits 16 xs) (behind xs) else Nothing) ≡ Open
-        → escape true p (b ∷ c ∷ xs) ≡ TextUnit.Fault 2 (p + 3 + length (allDigits 16 xs))
-    go true e h = escape-point p b c xs e ∙ point-told p (allDigits 16 xs) (behind xs) .unsaid h
+        → escape octals true p (b ∷ c ∷ xs) ≡ TextUnit.Fault 2 (p + 3 + length (allDigits 16 xs))
+    go true e h = escape-point octals p b c xs e ∙ point-told p (allDigits 16 xs) (behind xs) .unsaid h
     go false e h = clash cc
 
-pub escape-open : (p : ℕ) (xs : List ℕ) → saidBy doubleQuoted xs ≡ Open
-    → escape true p xs ≡ TextUnit.Fault 2 (p + 3 + length (allDigits 16 (drop 2 xs)))
-escape-open p xs e = unicode-refused p xs (unicode-open xs e)
+pub escape-open : (octals : Octal) (p : ℕ) (xs : List ℕ) → saidBy doubleQuoted xs ≡ Open
+    → escape octals true p xs ≡ TextUnit.Fault 2 (p + 3 + length (allDigits 16 (drop 2 xs)))
+escape-open octals p xs e = unicode-refused octals p xs (unicode-open xs e)
 
 pub quoteEscape-manual : (p : ℕ) (xs : List ℕ) → says p (quoteEscape true p xs) ≡ saidBy singleQuoted xs
 unfolding quoteEscape saidBy singleQuoted single orElse says

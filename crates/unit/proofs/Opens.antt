@@ -13,6 +13,7 @@ use native.Mathlib.Omega.{arith}
 use lib.Dec.{ltb, eqb}
 use lib.ListN.{length}
 use borrow.Author.Tests.{eqb-true, eq-eqb}
+use Rattle.byte.specs.declared.Octal.{Octal}
 use Rattle.byte.specs.Words.{if_then_else_, _is_, every}
 use Rattle.byte.specs.Bytes.{isStart, isIdentifier, isBlank, isLetter, isDigit}
 use Rattle.byte.specs.Demand.{isByte}
@@ -24,7 +25,7 @@ use Rattle.unit.specs.declared.Match.{Match}
 use Rattle.unit.specs.declared.Mode.{Mode}
 use Rattle.unit.specs.declared.TextUnit.{TextUnit}
 use Rattle.unit.specs.Digits.{digitValue, isScalar}
-use Rattle.unit.specs.Escapes.{letterValue, fitted, digits, hex, codePoint, braced, escape, quoteEscape}
+use Rattle.unit.specs.Escapes.{letterValue, overflowing, fitted, digits, hex, codePoint, braced, escape, quoteEscape}
 use Rattle.unit.specs.Interpolations.{property, arrow, questionArrow, follow, variable, name, dollar, brace}
 use Rattle.unit.specs.Interpolations.{findDollar, findBrace}
 use Rattle.unit.specs.Closers.{matched, indented, closer, judged, line}
@@ -40,42 +41,49 @@ use Rattle.unit.proofs.Openings.{faults-on, splits-on, opens-on}
 
 -- ---- escapes
 
-fitted-falls : (value n : ℕ) (ys : List ℕ) → Quiet ys → Falls ys (fitted value n) n
-unfolding fitted
-fitted-falls value n ys h = choice (λ u. Falls ys u n) (ltb value 256) _ _ (λ e. byte h) (λ e. fault)
+-- a byte or a fault, and so told
+fitted-falls : (octals : Octal) (value n : ℕ) (ys : List ℕ) → Quiet ys → Falls ys (fitted octals value n) n
+unfolding fitted overflowing
+fitted-falls Octal.Rust value n ys h = choice (λ u. Falls ys u n) (ltb value 256) _ _ (λ e. byte h) (λ e. fault)
+fitted-falls Octal.Manual value n ys h = choice (λ u. Falls ys u n) (ltb value 256) _ _ (λ e. byte h) (λ e. byte h)
 
-fitted-told : {A : Type 0} (value n : ℕ) → fitted value n ≡ TextUnit.Undecided → A
-unfolding fitted
-fitted-told {A} value n = choice (λ u. u ≡ TextUnit.Undecided → A) (ltb value 256) _ _ (λ e. byte-told) (λ e. fault-told)
+fitted-told : {A : Type 0} (octals : Octal) (value n : ℕ) → fitted octals value n ≡ TextUnit.Undecided → A
+unfolding fitted overflowing
+fitted-told {A} Octal.Rust value n =
+    choice (λ u. u ≡ TextUnit.Undecided → A) (ltb value 256) _ _ (λ e. byte-told) (λ e. fault-told)
+fitted-told {A} Octal.Manual value n =
+    choice (λ u. u ≡ TextUnit.Undecided → A) (ltb value 256) _ _ (λ e. byte-told) (λ e. byte-told)
 
-digits-end : (base left value n : ℕ) → digits true base left value n [] ≡ fitted value n
+digits-end : (octals : Octal) (base left value n : ℕ) → digits octals true base left value n [] ≡ fitted octals value n
 unfolding digits
-digits-end base zero value n = refl
-digits-end base (suc left) value n = refl
+digits-end octals base zero value n = refl
+digits-end octals base (suc left) value n = refl
 
-digits-waits : (base left value n : ℕ) (xs : List ℕ) → ltb 0 base ≡ true
+digits-waits : (octals : Octal) (base left value n : ℕ) (xs : List ℕ) → ltb 0 base ≡ true
     → ((b : ℕ) → ltb (digitValue b) base ≡ true → Plainly b)
-    → digits false base left value n xs ≡ TextUnit.Undecided → Opening n xs (digits true base left value n)
+    → digits octals false base left value n xs ≡ TextUnit.Undecided
+    → Opening n xs (digits octals true base left value n)
 unfolding digits digitValue
-digits-waits base zero value n xs z d k = fitted-told value n k
-digits-waits base (suc left) value n [] z d k =
-    falls (falls-at (omega arith) (fitted-falls value n [] tt))
-    (rw (z, digits-end base left (value * base + 0) (suc n))
-    (falls-at (omega arith) (fitted-falls (value * base + 0) (suc n) oneMore oneMore-quiet)))
-digits-waits base (suc left) value n (b ∷ xs) z d k =
+digits-waits octals base zero value n xs z d k = fitted-told octals value n k
+digits-waits octals base (suc left) value n [] z d k =
+    falls (falls-at (omega arith) (fitted-falls octals value n [] tt))
+    (rw (z, digits-end octals base left (value * base + 0) (suc n))
+    (falls-at (omega arith) (fitted-falls octals (value * base + 0) (suc n) oneMore oneMore-quiet)))
+digits-waits octals base (suc left) value n (b ∷ xs) z d k =
     opens-on b
     (if-waits (Passed b (suc n) xs) (ltb (digitValue b) base)
-    (λ e h. (d b e, digits-waits base left (value * base + digitValue b) (suc n) xs z d h))
-    (fitted-told value n)
+    (λ e h. (d b e, digits-waits octals base left (value * base + digitValue b) (suc n) xs z d h))
+    (fitted-told octals value n)
     k)
 
-hex-waits : (p : ℕ) (xs : List ℕ) → hex false p xs ≡ TextUnit.Undecided → Opening (suc p) xs (hex true p)
+hex-waits : (octals : Octal) (p : ℕ) (xs : List ℕ) → hex octals false p xs ≡ TextUnit.Undecided
+    → Opening (suc p) xs (hex octals true p)
 unfolding hex digits fitted digitValue
-hex-waits p [] k = falls (byte tt) (byte oneMore-quiet)
-hex-waits p (b ∷ xs) k =
+hex-waits octals p [] k = falls (byte tt) (byte oneMore-quiet)
+hex-waits octals p (b ∷ xs) k =
     opens-on b
     (if-waits (Passed b (suc (suc p)) xs) (ltb (digitValue b) 16)
-    (λ e h. (hex-plainly b e, digits-waits 16 1 (digitValue b) (suc (suc p)) xs refl hex-plainly h))
+    (λ e h. (hex-plainly b e, digits-waits octals 16 1 (digitValue b) (suc (suc p)) xs refl hex-plainly h))
     byte-told
     k)
 
@@ -99,15 +107,16 @@ braced-waits p (b ∷ xs) k =
     faults
     (faults-on b (if-waits (Faults (suc (suc p)) xs) (b is "{") (λ e. codePoint-waits false 0 (suc (suc p)) xs) byte-told k))
 
-pub escape-waits : (p : ℕ) (xs : List ℕ) → escape false p xs ≡ TextUnit.Undecided → Opening p xs (escape true p)
+pub escape-waits : (octals : Octal) (p : ℕ) (xs : List ℕ) → escape octals false p xs ≡ TextUnit.Undecided
+    → Opening p xs (escape octals true p)
 unfolding escape letterValue digits fitted digitValue
-escape-waits p [] k = falls (byte tt) (byte oneMore-quiet)
-escape-waits p (b ∷ xs) k =
+escape-waits octals p [] k = falls (byte tt) (byte oneMore-quiet)
+escape-waits octals p (b ∷ xs) k =
     opens-on b
     (if-waits (Passed b (suc p) xs) (ltb (letterValue b) 256) (λ e. byte-told)
     (if-waits (Passed b (suc p) xs) (ltb (digitValue b) 8)
-    (λ e h. (octal-plainly b e, digits-waits 8 2 (digitValue b) (suc p) xs refl octal-plainly h))
-    (if-waits (Passed b (suc p) xs) (b is "x") (λ e h. (x-plainly b e, hex-waits p xs h))
+    (λ e h. (octal-plainly b e, digits-waits octals 8 2 (digitValue b) (suc p) xs refl octal-plainly h))
+    (if-waits (Passed b (suc p) xs) (b is "x") (λ e h. (x-plainly b e, hex-waits octals p xs h))
     (if-waits (Passed b (suc p) xs) (b is "u") (λ e h. (u-plainly b e, braced-waits p xs h)) byte-told)))
     k)
 
@@ -323,23 +332,23 @@ unfolding unitAt
 unit-waits Mode.Single label h n b rest =
     if-waits (Opening (suc n) rest) (b is "'") (λ e. stop-told)
     (if-waits (Opening (suc n) rest) (b is "\\") (λ e. quoteEscape-waits (suc n) rest) byte-told)
-unit-waits Mode.Double label h n b rest =
+unit-waits (Mode.Double octals) label h n b rest =
     if-waits (Opening (suc n) rest) (b is "\"") (λ e. stop-told)
-    (if-waits (Opening (suc n) rest) (b is "\\") (λ e. escape-waits (suc n) rest)
+    (if-waits (Opening (suc n) rest) (b is "\\") (λ e. escape-waits octals (suc n) rest)
     (if-waits (Opening (suc n) rest) (b is "$") (λ e. findDollar-waits n rest)
     (if-waits (Opening (suc n) rest) (b is "{") (λ e. findBrace-waits n rest) byte-told)))
-unit-waits Mode.DoubleQuote label h n b rest =
+unit-waits (Mode.DoubleQuote octals) label h n b rest =
     if-waits (Opening (suc n) rest) (b is "\"") (λ e. stop-told)
-    (if-waits (Opening (suc n) rest) (b is "\\") (λ e. escape-waits (suc n) rest)
+    (if-waits (Opening (suc n) rest) (b is "\\") (λ e. escape-waits octals (suc n) rest)
     (if-waits (Opening (suc n) rest) (b is "$") (λ e. dollar-waits n rest)
     (if-waits (Opening (suc n) rest) (b is "{") (λ e. brace-waits n rest) byte-told)))
 unit-waits Mode.ShellExec label h n b rest =
     if-waits (Opening (suc n) rest) (b is "`") (λ e. stop-told)
     (if-waits (Opening (suc n) rest) (b is "$") (λ e. dollar-waits n rest)
     (if-waits (Opening (suc n) rest) (b is "{") (λ e. brace-waits n rest) byte-told))
-unit-waits Mode.Heredoc label h n b rest =
+unit-waits (Mode.Heredoc octals) label h n b rest =
     if-waits (Opening (suc n) rest) (b is "\n") (λ e. line-waits label h (suc n) n Indentation.None 0 rest)
-    (if-waits (Opening (suc n) rest) (b is "\\") (λ e. escape-waits (suc n) rest)
+    (if-waits (Opening (suc n) rest) (b is "\\") (λ e. escape-waits octals (suc n) rest)
     (if-waits (Opening (suc n) rest) (b is "$") (λ e. dollar-waits n rest)
     (if-waits (Opening (suc n) rest) (b is "{") (λ e. brace-waits n rest) byte-told)))
 unit-waits Mode.Nowdoc label h n b rest =

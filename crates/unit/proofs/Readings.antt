@@ -121,10 +121,10 @@ module _ (m : Mode) (hi : ℕ) where
 text-open : (m : Mode) → isAmong unexpectedEndOfFile (faults m) ≡ true
 unfolding isAmong
 text-open Mode.Single = refl
-text-open Mode.Double = refl
-text-open Mode.DoubleQuote = refl
+text-open (Mode.Double octals) = refl
+text-open (Mode.DoubleQuote octals) = refl
 text-open Mode.ShellExec = refl
-text-open Mode.Heredoc = refl
+text-open (Mode.Heredoc octals) = refl
 text-open Mode.Nowdoc = refl
 
 module _ (m : Mode) (label : List ℕ) (end : Bool) (hi : ℕ) where

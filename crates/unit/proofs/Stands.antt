@@ -9,14 +9,15 @@ use mathlib.Core.Path.{_≡_, refl, sym, _∙_}
 use mathlib.Core.Bool.{Bool, true, false, _&&_, _||_, false≢true}
 use mathlib.Core.List.{List, [], _∷_}
 use native.Mathlib.Omega.{arith}
-use lib.Dec.{ltb, leb, eqb}
+use lib.Dec.{ltb, eqb}
 use lib.ListN.{length}
-use borrow.Author.Tests.{eqb-true, ltb-true}
+use borrow.Author.Tests.{eqb-true}
+use Rattle.byte.specs.declared.Octal.{Octal}
 use Rattle.byte.specs.Refusals.{unexpectedEndOfFile, invalidUnicodeEscape, invalidOctalEscape, invalidDocIndentation}
-use Rattle.byte.specs.Refusals.{isAmong}
+use Rattle.byte.specs.Refusals.{octalRefusals, isAmong}
 use Rattle.byte.specs.Words.{if_then_else_, _is_}
 use Rattle.byte.specs.Bytes.{isStart, isIdentifier, isBlank}
-use Rattle.byte.proofs.Tests.{choice, &&-left, &&-right}
+use Rattle.byte.proofs.Tests.{choice, &&-left}
 use Rattle.unit.specs.declared.Follow.{Follow}
 use Rattle.unit.specs.declared.Indentation.{Indentation}
 use Rattle.unit.specs.declared.Look.{Look}
@@ -25,29 +26,31 @@ use Rattle.unit.specs.declared.Mode.{Mode}
 use Rattle.unit.specs.declared.Stop.{Stop}
 use Rattle.unit.specs.declared.TextUnit.{TextUnit}
 use Rattle.unit.specs.Digits.{digitValue, isScalar, utf8}
-use Rattle.unit.specs.Escapes.{letterValue, fitted, digits, hex, codePoint, braced, escape, quoteEscape}
+use Rattle.unit.specs.Escapes.{letterValue, overflowing, fitted, digits, hex, codePoint, braced, escape, quoteEscape}
 use Rattle.unit.specs.Interpolations.{follow, variable, name, dollar, brace, findDollar, findBrace}
 use Rattle.unit.specs.Closers.{matched, indented, closer, judged, line}
 use Rattle.unit.specs.Units.{unitAt}
 use Rattle.unit.specs.Readings.{gap}
 use Rattle.unit.proofs.Stays.{clash}
+use Rattle.unit.proofs.Digits.{scalar-small}
 
 -- a literal leaves its interpolations to `double_quote`: it enters no frame, and only it may end where it starts
 abbrev pub isLiteral : Mode → Bool
 isLiteral Mode.Single = true
-isLiteral Mode.Double = true
-isLiteral Mode.DoubleQuote = false
+isLiteral (Mode.Double octals) = true
+isLiteral (Mode.DoubleQuote octals) = false
 isLiteral Mode.ShellExec = false
-isLiteral Mode.Heredoc = false
+isLiteral (Mode.Heredoc octals) = false
 isLiteral Mode.Nowdoc = false
 
 -- every text may lack its end; escapes and closing lines may be faulty
 abbrev pub faults : Mode → List ℕ
 faults Mode.Single = unexpectedEndOfFile ∷ []
-faults Mode.Double = unexpectedEndOfFile ∷ invalidUnicodeEscape ∷ invalidOctalEscape ∷ []
-faults Mode.DoubleQuote = unexpectedEndOfFile ∷ invalidUnicodeEscape ∷ invalidOctalEscape ∷ []
+faults (Mode.Double octals) = unexpectedEndOfFile ∷ invalidUnicodeEscape ∷ octalRefusals octals
+faults (Mode.DoubleQuote octals) = unexpectedEndOfFile ∷ invalidUnicodeEscape ∷ octalRefusals octals
 faults Mode.ShellExec = unexpectedEndOfFile ∷ []
-faults Mode.Heredoc = unexpectedEndOfFile ∷ invalidUnicodeEscape ∷ invalidOctalEscape ∷ invalidDocIndentation ∷ []
+faults (Mode.Heredoc octals) =
+    unexpectedEndOfFile ∷ invalidUnicodeEscape ∷ invalidDocIndentation ∷ octalRefusals octals
 faults Mode.Nowdoc = unexpectedEndOfFile ∷ invalidDocIndentation ∷ []
 
 -- whether a frame is entered at a stop
@@ -115,14 +118,6 @@ utf8-length c =
     (λ e. choice AtMostFour (ltb c 0x800) _ _ (λ f. omega arith)
     (λ f. choice AtMostFour (ltb c 0x10000) _ _ (λ g. omega arith) (λ g. omega arith)))
 
-scalar-small : (c : ℕ) → isScalar c ≡ true → c < 0x110000
-unfolding isScalar
-scalar-small c e = go (ltb c 0xD800) refl e
-  where
-    go : (t : Bool) → ltb c 0xD800 ≡ t → (t || (leb 0xE000 c && ltb c 0x110000)) ≡ true → c < 0x110000
-    go true h f = omega (arith, ltb-true c 0xD800 h)
-    go false h f = ltb-true c 0x110000 (&&-right (leb 0xE000 c) (ltb c 0x110000) f)
-
 pub matched-length : (label ys : List ℕ) → matched label ys ≡ Match.Whole → length label ≤ length ys
 unfolding matched
 matched-length [] ys h = omega arith
@@ -155,13 +150,20 @@ module _ (m : Mode) (n b hi : ℕ) where
 
   -- of a mode that has them
   module _ (unicode : isAmong invalidUnicodeEscape (faults m) ≡ true)
-      (octal : isAmong invalidOctalEscape (faults m) ≡ true) where
-    fitted-stands : (value p : ℕ) → n + 2 ≤ p → p ≤ hi → Stands m n b hi (fitted value p)
+      (octals : Octal) (octal : octals ≡ Octal.Rust → isAmong invalidOctalEscape (faults m) ≡ true) where
+    overflowing-stands : (o : Octal) → octals ≡ o → (value p : ℕ) → n + 2 ≤ p → p ≤ hi
+        → Stands m n b hi (overflowing o value p)
+    unfolding overflowing
+    overflowing-stands Octal.Rust e value p x y = fault (octal e) (omega arith) y
+    overflowing-stands Octal.Manual e value p x y = passing x y
+
+    fitted-stands : (value p : ℕ) → n + 2 ≤ p → p ≤ hi → Stands m n b hi (fitted octals value p)
     unfolding fitted
-    fitted-stands value p x y = if-stands (ltb value 256) _ _ (passing x y) (fault octal (omega arith) y)
+    fitted-stands value p x y =
+        if-stands (ltb value 256) _ _ (passing x y) (overflowing-stands octals refl value p x y)
 
     digits-stands : (end : Bool) (base left value p : ℕ) (xs : List ℕ) → n + 2 ≤ p → p + length xs ≤ hi
-        → Stands m n b hi (digits end base left value p xs)
+        → Stands m n b hi (digits octals end base left value p xs)
     unfolding digits
     digits-stands end base zero value p xs x y = fitted-stands value p x (omega arith)
     digits-stands end base (suc left) value p [] x y = if-stands end _ _ (fitted-stands value p x (omega arith)) tt
@@ -193,7 +195,7 @@ module _ (m : Mode) (n b hi : ℕ) where
 
     -- the backslash, where it stands for itself
     module _ (end : Bool) (same : code "\\" ≡ b) where
-      hex-stands : (xs : List ℕ) → n + 2 + length xs ≤ hi → Stands m n b hi (hex end (suc n) xs)
+      hex-stands : (xs : List ℕ) → n + 2 + length xs ≤ hi → Stands m n b hi (hex octals end (suc n) xs)
       unfolding hex
       hex-stands [] y = if-stands end _ _ (itself same (omega arith)) tt
       hex-stands (c ∷ xs) y =
@@ -209,7 +211,7 @@ module _ (m : Mode) (n b hi : ℕ) where
           (codePoint-stands end false 0 (suc (suc (suc n))) xs (omega arith) (λ e. absurd (false≢true e)) (omega arith))
           (itself same (omega arith))
 
-      escape-stands : (xs : List ℕ) → suc n + length xs ≤ hi → Stands m n b hi (escape end (suc n) xs)
+      escape-stands : (xs : List ℕ) → suc n + length xs ≤ hi → Stands m n b hi (escape octals end (suc n) xs)
       unfolding escape
       escape-stands [] y = if-stands end _ _ (itself same (omega arith)) tt
       escape-stands (c ∷ xs) y =
@@ -355,9 +357,10 @@ module _ (n b : ℕ) (rest : List ℕ) (label : List ℕ) (end : Bool) where
   quoted : (m : Mode) → StopStands (isLiteral m) n hi Stop.Quote n (suc n)
   quoted m = quote-stands m n b hi (omega arith)
 
-  escaped : (m : Mode) → isAmong invalidUnicodeEscape (faults m) ≡ true → isAmong invalidOctalEscape (faults m) ≡ true
-      → code "\\" ≡ b → Stands m n b hi (escape end (suc n) rest)
-  escaped m unicode octal e = escape-stands m n b hi unicode octal end e rest (omega arith)
+  escaped : (m : Mode) (octals : Octal) → isAmong invalidUnicodeEscape (faults m) ≡ true
+      → (octals ≡ Octal.Rust → isAmong invalidOctalEscape (faults m) ≡ true)
+      → code "\\" ≡ b → Stands m n b hi (escape octals end (suc n) rest)
+  escaped m octals unicode octal e = escape-stands m n b hi unicode octals octal end e rest (omega arith)
 
   -- `$` and `{` of a mode that enters frames
   signs : (m : Mode) → isLiteral m ≡ false → Stands m n b hi
@@ -371,20 +374,23 @@ module _ (n b : ℕ) (rest : List ℕ) (label : List ℕ) (end : Bool) where
   lined m doc e = line-stands m n b hi doc label end e Indentation.None 0 rest (omega arith)
 
   pub unit-stands : (m : Mode) → Stands m n b hi (unitAt m label end n b rest)
-  unfolding unitAt isAmong
+  unfolding unitAt isAmong octalRefusals
   unit-stands Mode.Single =
       at-byte Mode.Single "'" _ _ (λ e. quoted Mode.Single)
       (at-byte Mode.Single "\\" _ _ (λ e. quoteEscape-stands Mode.Single n b hi end e rest (omega arith)) plain-stands)
-  unit-stands Mode.Double =
-      at-byte Mode.Double "\"" _ _ (λ e. quoted Mode.Double)
-      (at-byte Mode.Double "\\" _ _ (escaped Mode.Double refl refl)
-      (at-byte Mode.Double "$" _ _ (findDollar-stands Mode.Double n b hi end refl rest (omega arith))
-      (at-byte Mode.Double "{" _ _ (findBrace-stands Mode.Double n b hi end refl rest (omega arith)) plain-stands)))
-  unit-stands Mode.DoubleQuote =
-      at-byte Mode.DoubleQuote "\"" _ _ (λ e. quoted Mode.DoubleQuote)
-      (at-byte Mode.DoubleQuote "\\" _ _ (escaped Mode.DoubleQuote refl refl) (signs Mode.DoubleQuote refl))
+  unit-stands (Mode.Double octals) =
+      at-byte (Mode.Double octals) "\"" _ _ (λ e. quoted (Mode.Double octals))
+      (at-byte (Mode.Double octals) "\\" _ _ (escaped (Mode.Double octals) octals refl (λ e. rw e))
+      (at-byte (Mode.Double octals) "$" _ _ (findDollar-stands (Mode.Double octals) n b hi end refl rest (omega arith))
+      (at-byte (Mode.Double octals) "{" _ _ (findBrace-stands (Mode.Double octals) n b hi end refl rest (omega arith))
+      plain-stands)))
+  unit-stands (Mode.DoubleQuote octals) =
+      at-byte (Mode.DoubleQuote octals) "\"" _ _ (λ e. quoted (Mode.DoubleQuote octals))
+      (at-byte (Mode.DoubleQuote octals) "\\" _ _ (escaped (Mode.DoubleQuote octals) octals refl (λ e. rw e))
+      (signs (Mode.DoubleQuote octals) refl))
   unit-stands Mode.ShellExec = at-byte Mode.ShellExec "`" _ _ (λ e. quoted Mode.ShellExec) (signs Mode.ShellExec refl)
-  unit-stands Mode.Heredoc =
-      at-byte Mode.Heredoc "\n" _ _ (lined Mode.Heredoc refl)
-      (at-byte Mode.Heredoc "\\" _ _ (escaped Mode.Heredoc refl refl) (signs Mode.Heredoc refl))
+  unit-stands (Mode.Heredoc octals) =
+      at-byte (Mode.Heredoc octals) "\n" _ _ (lined (Mode.Heredoc octals) refl)
+      (at-byte (Mode.Heredoc octals) "\\" _ _ (escaped (Mode.Heredoc octals) octals refl (λ e. rw e))
+      (signs (Mode.Heredoc octals) refl))
   unit-stands Mode.Nowdoc = at-byte Mode.Nowdoc "\n" _ _ (lined Mode.Nowdoc refl) plain-stands

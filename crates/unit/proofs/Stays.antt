@@ -8,6 +8,7 @@ use Prim.Native.Nat.{ℕ, zero, suc, _+_, _*_, _<_}
 use native.Mathlib.Omega.{arith}
 use lib.Dec.{ltb, eqb}
 use lib.ListN.{length}
+use Rattle.byte.specs.declared.Octal.{Octal}
 use Rattle.byte.specs.Words.{if_then_else_, _is_}
 use Rattle.byte.specs.Bytes.{isStart, isIdentifier, isBlank}
 use Rattle.unit.specs.declared.Indentation.{Indentation}
@@ -47,19 +48,21 @@ clash e = absurd (omega arith)
 
 -- ---- escapes
 
-digits-stays : (base left value n : ℕ) (xs more : List ℕ)
-    → UnitStays (digits false base left value n xs) (digits true base left value n (xs ++ more))
+digits-stays : (octals : Octal) (base left value n : ℕ) (xs more : List ℕ)
+    → UnitStays (digits octals false base left value n xs) (digits octals true base left value n (xs ++ more))
 unfolding digits
-digits-stays base zero value n xs more k = refl
-digits-stays base (suc left) value n [] more k = absurd (k refl)
-digits-stays base (suc left) value n (b ∷ xs) more k =
-    if-stays (ltb (digitValue b) base) (digits-stays base left (value * base + digitValue b) (suc n) xs more) same k
+digits-stays octals base zero value n xs more k = refl
+digits-stays octals base (suc left) value n [] more k = absurd (k refl)
+digits-stays octals base (suc left) value n (b ∷ xs) more k =
+    if-stays (ltb (digitValue b) base)
+    (digits-stays octals base left (value * base + digitValue b) (suc n) xs more) same k
 
-hex-stays : (p : ℕ) (xs more : List ℕ) → UnitStays (hex false p xs) (hex true p (xs ++ more))
+hex-stays : (octals : Octal) (p : ℕ) (xs more : List ℕ)
+    → UnitStays (hex octals false p xs) (hex octals true p (xs ++ more))
 unfolding hex
-hex-stays p [] more k = absurd (k refl)
-hex-stays p (b ∷ xs) more k =
-    if-stays (ltb (digitValue b) 16) (digits-stays 16 1 (digitValue b) (suc (suc p)) xs more) same k
+hex-stays octals p [] more k = absurd (k refl)
+hex-stays octals p (b ∷ xs) more k =
+    if-stays (ltb (digitValue b) 16) (digits-stays octals 16 1 (digitValue b) (suc (suc p)) xs more) same k
 
 codePoint-stays : (some : Bool) (value n : ℕ) (xs more : List ℕ)
     → UnitStays (codePoint false some value n xs) (codePoint true some value n (xs ++ more))
@@ -73,13 +76,14 @@ unfolding braced
 braced-stays p [] more k = absurd (k refl)
 braced-stays p (b ∷ xs) more k = if-stays (b is "{") (codePoint-stays false 0 (suc (suc p)) xs more) same k
 
-pub escape-stays : (p : ℕ) (xs more : List ℕ) → UnitStays (escape false p xs) (escape true p (xs ++ more))
+pub escape-stays : (octals : Octal) (p : ℕ) (xs more : List ℕ)
+    → UnitStays (escape octals false p xs) (escape octals true p (xs ++ more))
 unfolding escape
-escape-stays p [] more k = absurd (k refl)
-escape-stays p (b ∷ xs) more k =
+escape-stays octals p [] more k = absurd (k refl)
+escape-stays octals p (b ∷ xs) more k =
     if-stays (ltb (letterValue b) 256) same
-    (if-stays (ltb (digitValue b) 8) (digits-stays 8 2 (digitValue b) (suc p) xs more)
-    (if-stays (b is "x") (hex-stays p xs more) (if-stays (b is "u") (braced-stays p xs more) same)))
+    (if-stays (ltb (digitValue b) 8) (digits-stays octals 8 2 (digitValue b) (suc p) xs more)
+    (if-stays (b is "x") (hex-stays octals p xs more) (if-stays (b is "u") (braced-stays p xs more) same)))
     k
 
 pub quoteEscape-stays : (p : ℕ) (xs more : List ℕ) → UnitStays (quoteEscape false p xs) (quoteEscape true p (xs ++ more))
@@ -175,20 +179,20 @@ unfolding unitAt
 unit-stays Mode.Single label h n b rest more =
     if-stays (b is "'") same
     (if-stays (b is "\\") (quoteEscape-stays (suc n) rest more) same)
-unit-stays Mode.Double label h n b rest more =
+unit-stays (Mode.Double octals) label h n b rest more =
     if-stays (b is "\"") same
-    (if-stays (b is "\\") (escape-stays (suc n) rest more)
+    (if-stays (b is "\\") (escape-stays octals (suc n) rest more)
     (if-stays (b is "$") (findDollar-stays n rest more) (if-stays (b is "{") (findBrace-stays n rest more) same)))
-unit-stays Mode.DoubleQuote label h n b rest more =
+unit-stays (Mode.DoubleQuote octals) label h n b rest more =
     if-stays (b is "\"") same
-    (if-stays (b is "\\") (escape-stays (suc n) rest more)
+    (if-stays (b is "\\") (escape-stays octals (suc n) rest more)
     (if-stays (b is "$") (dollar-stays n rest more) (if-stays (b is "{") (brace-stays n rest more) same)))
 unit-stays Mode.ShellExec label h n b rest more =
     if-stays (b is "`") same
     (if-stays (b is "$") (dollar-stays n rest more) (if-stays (b is "{") (brace-stays n rest more) same))
-unit-stays Mode.Heredoc label h n b rest more =
+unit-stays (Mode.Heredoc octals) label h n b rest more =
     if-stays (b is "\n") (line-stays label (h .some) n Indentation.None 0 rest more)
-    (if-stays (b is "\\") (escape-stays (suc n) rest more)
+    (if-stays (b is "\\") (escape-stays octals (suc n) rest more)
     (if-stays (b is "$") (dollar-stays n rest more) (if-stays (b is "{") (brace-stays n rest more) same)))
 unit-stays Mode.Nowdoc label h n b rest more =
     if-stays (b is "\n") (line-stays label (h .some) n Indentation.None 0 rest more) same

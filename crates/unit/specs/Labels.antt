@@ -20,10 +20,10 @@ pub record Label (label : List ℕ) : Type 0 where
 
 abbrev pub Labelled : Mode → List ℕ → Type 0
 Labelled Mode.Single label = Unit {0}
-Labelled Mode.Double label = Unit {0}
-Labelled Mode.DoubleQuote label = Unit {0}
+Labelled (Mode.Double octals) label = Unit {0}
+Labelled (Mode.DoubleQuote octals) label = Unit {0}
 Labelled Mode.ShellExec label = Unit {0}
-Labelled Mode.Heredoc label = Label label
+Labelled (Mode.Heredoc octals) label = Label label
 Labelled Mode.Nowdoc label = Label label
 
 end-of-text : Label (bytes "EOT")

@@ -4,6 +4,7 @@ pub mod Interpolations
 pub mod Closers
 pub mod Units
 pub mod Readings
+pub mod Octals
 pub mod Labels
 pub mod Manual
 pub mod Variables

@@ -13,14 +13,16 @@
 --   saidBy          the entry that applies; else the backslash stands for itself
 --   literal         a whole literal without variables: up to its closing quote, each backslash by its table
 --   isVariable      where a variable begins
+--   fits            an octal number that a choice reads
 --   isAgreed        an escape of which manual and reader say the same
 --   firstOther      in double quotes, the first place where a variable begins or an escape is not agreed on
 --   isOrdinary      a text that has no such place before its closing quote
 --   says            what a unit of the reader is in these words
 --   readingOf       what a literal is in the words of the readings
 --   EndsAt          a reading that ends at the first other place
--- `escape-manual`, `escape-overflow`, `escape-unmatched`, `escape-open` and `quoteEscape-manual` (proofs/Manual.antt) join the reader to
--- the tables, `single-whole`, `double-whole` and `double-otherwise` (proofs/Literals.antt) the readings to the literals.
+-- `escape-manual`, `escape-manual-all`, `escape-overflow`, `escape-unmatched`, `escape-open` and `quoteEscape-manual`
+-- (proofs/Manual.antt) join the reader to the tables; `single-whole`, `double-whole`, `double-otherwise`,
+-- `single-manual` and `double-manual` (proofs/Literals.antt) the readings to the literals.
 use Prim.Native.Nat.{ℕ, zero, suc, _+_, _-_, _*_, _%_, _≤_}
 use Prim.Native.Char.{Char, code}
 use mathlib.Core.Bool.{Bool, true, false, not, _&&_, _||_}
@@ -28,6 +30,7 @@ use mathlib.Core.List.{List, [], _∷_, _++_}
 use mathlib.Core.Path.{_≡_, refl}
 use lib.Dec.{eqb, ltb}
 use lib.ListN.{length, drop}
+use Rattle.byte.specs.declared.Octal.{Octal}
 use Rattle.byte.specs.Refusals.{unexpectedEndOfFile, invalidUnicodeEscape, invalidOctalEscape}
 use Rattle.byte.specs.Words.{if_then_else_, _is_, bytes}
 use Rattle.byte.specs.Bytes.{isStart, isLetter}
@@ -162,23 +165,30 @@ unfoldable pub isVariable : ℕ → List ℕ → Bool
 isVariable b [] = false
 isVariable b (c ∷ rest) = (b is "$" && (c is "{" || isStart c)) || (b is "{" && c is "$")
 
--- after a backslash: no octal number over 255, no `\u{` that is not matched, and none that is no code point
-unfoldable pub isAgreed : List ℕ → Bool
-isAgreed xs = (ltb (number 8 0 (digitsOf 8 3 xs)) 256 && not (unmatched xs)) && not (isOpen (saidBy doubleQuoted xs))
+-- the choice reads an octal number with this value: the manual's any, the Rust's one below 256
+unfoldable pub fits : Octal → ℕ → Bool
+fits Octal.Rust value = ltb value 256
+fits Octal.Manual value = true
+
+-- after a backslash: no octal number that the choice refuses, no `\u{` that is not matched, none without a code point
+unfoldable pub isAgreed : Octal → List ℕ → Bool
+isAgreed octals xs =
+    (fits octals (number 8 0 (digitsOf 8 3 xs)) && not (unmatched xs)) && not (isOpen (saidBy doubleQuoted xs))
 
 -- the text from the first place on, before its closing quote, where a variable begins or an escape is not agreed on; [] where
 -- there is none. `skip` as in `literal`
-unfoldable pub firstOther : ℕ → List ℕ → List ℕ
-firstOther skip [] = []
-firstOther (suc k) (b ∷ rest) = firstOther k rest
-firstOther zero (b ∷ rest) =
+unfoldable pub firstOther : Octal → ℕ → List ℕ → List ℕ
+firstOther octals skip [] = []
+firstOther octals (suc k) (b ∷ rest) = firstOther octals k rest
+firstOther octals zero (b ∷ rest) =
     if b is "\"" then []
-    else if b is "\\" then (if isAgreed rest then firstOther (takenOf (saidBy doubleQuoted rest)) rest else b ∷ rest)
+    else if b is "\\" then
+    (if isAgreed octals rest then firstOther octals (takenOf (saidBy doubleQuoted rest)) rest else b ∷ rest)
     else if isVariable b rest then b ∷ rest
-    else firstOther zero rest
+    else firstOther octals zero rest
 
-unfoldable pub isOrdinary : List ℕ → Bool
-isOrdinary xs = eqb (length (firstOther 0 xs)) 0
+unfoldable pub isOrdinary : Octal → List ℕ → Bool
+isOrdinary octals xs = eqb (length (firstOther octals 0 xs)) 0
 
 -- of a unit whose backslash stands before p
 unfoldable pub says : ℕ → TextUnit → Said
@@ -194,17 +204,18 @@ readingOf hi (Closed value after) = Text value Stop.Quote (after - 1) after
 readingOf hi Unsaid = Wait
 readingOf hi Unclosed = Refused unexpectedEndOfFile hi
 
--- a variable at the byte b; or a refusal: after an octal number over 255, after the digits of a `\u{` that is not matched, after the
--- brace of one that is no code point. The text ends at hi
-pub data EndsAt (hi : ℕ) : List ℕ → Reading → Type 0 where
+-- a variable at the byte b; or a refusal: after an octal number over 255 under the Rust's choice, after the digits of a
+-- `\u{` that is not matched, after the brace of one that is no code point. The text ends at hi
+pub data EndsAt (octals : Octal) (hi : ℕ) : List ℕ → Reading → Type 0 where
   variable : {b : ℕ} {rest value : List ℕ} → isVariable b rest ≡ true
-      → EndsAt hi (b ∷ rest) (Text value Stop.Interpolation (hi - suc (length rest)) (hi - suc (length rest)))
-  overflow : {b : ℕ} {rest : List ℕ} → b is "\\" ≡ true → 256 ≤ number 8 0 (digitsOf 8 3 rest)
-      → EndsAt hi (b ∷ rest) (Refused invalidOctalEscape (hi - length rest + length (digitsOf 8 3 rest)))
+      → EndsAt octals hi (b ∷ rest) (Text value Stop.Interpolation (hi - suc (length rest)) (hi - suc (length rest)))
+  overflow : {b : ℕ} {rest : List ℕ} → b is "\\" ≡ true → octals ≡ Octal.Rust
+      → 256 ≤ number 8 0 (digitsOf 8 3 rest)
+      → EndsAt octals hi (b ∷ rest) (Refused invalidOctalEscape (hi - length rest + length (digitsOf 8 3 rest)))
   unmatchedCode : {b : ℕ} {rest : List ℕ} → b is "\\" ≡ true → unmatched rest ≡ true
-      → EndsAt hi (b ∷ rest) (Refused invalidUnicodeEscape (hi - length rest + 2 + length (allDigits 16 (drop 2 rest))))
+      → EndsAt octals hi (b ∷ rest) (Refused invalidUnicodeEscape (hi - length rest + 2 + length (allDigits 16 (drop 2 rest))))
   noCodePoint : {b : ℕ} {rest : List ℕ} → b is "\\" ≡ true → saidBy doubleQuoted rest ≡ Open
-      → EndsAt hi (b ∷ rest) (Refused invalidUnicodeEscape (hi - length rest + 3 + length (allDigits 16 (drop 2 rest))))
+      → EndsAt octals hi (b ∷ rest) (Refused invalidUnicodeEscape (hi - length rest + 3 + length (allDigits 16 (drop 2 rest))))
 
 -- the table's own examples: `"\101" === "A"`, `"\400" === "\000"`, `"\u{41}" === "A"`
 octal-example : saidBy doubleQuoted (bytes "101") ≡ Means (bytes "A") 3
@@ -238,16 +249,24 @@ unfolding saidBy doubleQuoted orElse single octal octalOf digitsOf hexadecimal u
 open-example = refl
 
 -- ordinary: letters, a `$` before a digit, a `{` alone, whatever follows the quote
-ordinary-examples : (isOrdinary (bytes "\\n$1{ \"$a") ≡ true) × (isOrdinary (bytes "\\u{41}\\377") ≡ true)
-unfolding isOrdinary firstOther isAgreed isVariable unmatched isNothing isOpen takenOf saidBy doubleQuoted orElse single octal octalOf digitsOf hexadecimal unicode codeOf allDigits number isScalar digitValue isStart isLetter bytes
-ordinary-examples = (refl, refl)
+ordinary-examples : (octals : Octal)
+    → (isOrdinary octals (bytes "\\n$1{ \"$a") ≡ true) × (isOrdinary octals (bytes "\\u{41}\\377") ≡ true)
+unfolding isOrdinary firstOther isAgreed fits isVariable unmatched isNothing isOpen takenOf saidBy doubleQuoted orElse single octal octalOf digitsOf hexadecimal unicode codeOf allDigits number isScalar digitValue isStart isLetter bytes
+ordinary-examples Octal.Rust = (refl, refl)
+ordinary-examples Octal.Manual = (refl, refl)
 
-other-examples :
-    (firstOther 0 (bytes " $a\"") ≡ bytes "$a\"")
-    × (firstOther 0 (bytes " ${") ≡ bytes "${")
-    × (firstOther 0 (bytes "\\{$") ≡ bytes "{$")
-    × (firstOther 0 (bytes " \\400") ≡ bytes "\\400")
-    × (firstOther 0 (bytes " \\u{") ≡ bytes "\\u{")
-    × (firstOther 0 (bytes " \\u{D800}") ≡ bytes "\\u{D800}")
-unfolding firstOther isAgreed isVariable unmatched isNothing isOpen takenOf saidBy doubleQuoted orElse single octal octalOf digitsOf hexadecimal unicode codeOf allDigits number isScalar digitValue isStart isLetter bytes
-other-examples = (refl, refl, refl, refl, refl, refl)
+other-examples : (octals : Octal)
+    → (firstOther octals 0 (bytes " $a\"") ≡ bytes "$a\"")
+    × (firstOther octals 0 (bytes " ${") ≡ bytes "${")
+    × (firstOther octals 0 (bytes "\\{$") ≡ bytes "{$")
+    × (firstOther octals 0 (bytes " \\u{") ≡ bytes "\\u{")
+    × (firstOther octals 0 (bytes " \\u{D800}") ≡ bytes "\\u{D800}")
+unfolding firstOther isAgreed fits isVariable unmatched isNothing isOpen takenOf saidBy doubleQuoted orElse single octal octalOf digitsOf hexadecimal unicode codeOf allDigits number isScalar digitValue isStart isLetter bytes
+other-examples Octal.Rust = (refl, refl, refl, refl, refl)
+other-examples Octal.Manual = (refl, refl, refl, refl, refl)
+
+-- an octal number over 255 is another place under the Rust's choice alone
+overflow-examples :
+    (firstOther Octal.Rust 0 (bytes " \\400") ≡ bytes "\\400") × (firstOther Octal.Manual 0 (bytes " \\400") ≡ [])
+unfolding firstOther isAgreed fits isVariable unmatched isNothing isOpen takenOf saidBy doubleQuoted orElse single octal octalOf digitsOf hexadecimal unicode codeOf allDigits number isScalar digitValue isStart isLetter bytes
+overflow-examples = (refl, refl)

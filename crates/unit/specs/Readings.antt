@@ -8,6 +8,7 @@ use Prim.Native.Nat.{ℕ, zero, suc, _-_}
 use mathlib.Core.Bool.{Bool, true, false}
 use mathlib.Core.List.{List, [], _∷_, _++_}
 use mathlib.Core.Path.{_≡_, refl}
+use Rattle.byte.specs.declared.Octal.{Octal}
 use Rattle.byte.specs.Refusals.{unexpectedEndOfFile}
 use Rattle.byte.specs.Words.{if_then_else_, _is_, bytes}
 use Rattle.byte.specs.Bytes.{isBlank, isStart, isIdentifier, isLetter, isDigit}
@@ -17,7 +18,7 @@ use Rattle.unit.specs.declared.Mode.{Mode}
 use Rattle.unit.specs.declared.Stop.{Stop}
 use Rattle.unit.specs.declared.TextUnit.{TextUnit}
 use Rattle.unit.specs.Digits.{digitValue, isScalar, utf8}
-use Rattle.unit.specs.Escapes.{letterValue, fitted, digits, braced, codePoint, escape, quoteEscape}
+use Rattle.unit.specs.Escapes.{letterValue, overflowing, fitted, digits, braced, codePoint, escape, quoteEscape}
 use Rattle.unit.specs.Interpolations.{follow, variable, name, dollar}
 use Rattle.unit.specs.Closers.{matched, indented, closer, judged, line}
 use Rattle.unit.specs.Units.{unitAt}
@@ -62,17 +63,21 @@ trimmed [] = []
 trimmed (b ∷ []) = if b is "\n" then [] else b ∷ []
 trimmed (b ∷ c ∷ rest) = b ∷ trimmed (c ∷ rest)
 
--- whether the text before this stop loses its last break: in a heredoc, before all but its label
+-- whether a heredoc's text before this stop loses its last break: before all but its label
+unfoldable pub heredocLosesBreak : Stop → Bool
+heredocLosesBreak (Stop.Label ind amount) = false
+heredocLosesBreak Stop.Quote = true
+heredocLosesBreak Stop.Interpolation = true
+heredocLosesBreak Stop.DollarLeftBrace = true
+heredocLosesBreak Stop.LeftBrace = true
+heredocLosesBreak (Stop.Variable f) = true
+
+-- no other text does
 unfoldable pub losesBreak : Mode → Stop → Bool
-losesBreak Mode.Heredoc (Stop.Label ind amount) = false
-losesBreak Mode.Heredoc Stop.Quote = true
-losesBreak Mode.Heredoc Stop.Interpolation = true
-losesBreak Mode.Heredoc Stop.DollarLeftBrace = true
-losesBreak Mode.Heredoc Stop.LeftBrace = true
-losesBreak Mode.Heredoc (Stop.Variable f) = true
+losesBreak (Mode.Heredoc octals) stop = heredocLosesBreak stop
 losesBreak Mode.Single stop = false
-losesBreak Mode.Double stop = false
-losesBreak Mode.DoubleQuote stop = false
+losesBreak (Mode.Double octals) stop = false
+losesBreak (Mode.DoubleQuote octals) stop = false
 losesBreak Mode.ShellExec stop = false
 losesBreak Mode.Nowdoc stop = false
 
@@ -98,19 +103,33 @@ gap (Stop.Variable f) = 0
 unfoldable pub textEnd : Stop → ℕ → ℕ
 textEnd stop from = from - gap stop
 
--- worked sheets d to h, l, m and n
+-- worked sheets d to h, l, m and n; f, which hangs on the choice, stands after the others
 sheet-d : textAt Mode.Single [] true 0 (bytes "a\\'b\\n'") ≡ Text (bytes "a'b\\n") Stop.Quote 6 7
 unfolding textAt finished losesBreak collected taken onto afterOf unitAt quoteEscape bytes
 sheet-d = refl
 
-sheets-e-to-h :
-    (textAt Mode.Double [] true 0 (bytes "\\377\"") ≡ Text (255 ∷ []) Stop.Quote 4 5)
-    × (textAt Mode.Double [] true 0 (bytes "\\400\"") ≡ Refused 3 4)
-    × (textAt Mode.Double [] true 0 (bytes "\\u{20AC}\"") ≡ Text (0xE2 ∷ 0x82 ∷ 0xAC ∷ []) Stop.Quote 8 9)
-    × (textAt Mode.Double [] true 0 (bytes "\\u{}\"") ≡ Refused 2 3)
-    × (textAt Mode.Double [] true 0 (bytes "\\u{110000}\"") ≡ Refused 2 10)
+sheets-e-g-h : (octals : Octal) →
+    (textAt (Mode.Double octals) [] true 0 (bytes "\\377\"") ≡ Text (255 ∷ []) Stop.Quote 4 5)
+    × (textAt (Mode.Double octals) [] true 0 (bytes "\\u{20AC}\"") ≡ Text (0xE2 ∷ 0x82 ∷ 0xAC ∷ []) Stop.Quote 8 9)
+    × (textAt (Mode.Double octals) [] true 0 (bytes "\\u{}\"") ≡ Refused 2 3)
+    × (textAt (Mode.Double octals) [] true 0 (bytes "\\u{110000}\"") ≡ Refused 2 10)
 unfolding textAt finished losesBreak collected taken onto afterOf unitAt escape letterValue digits fitted braced codePoint isScalar digitValue utf8 bytes
-sheets-e-to-h = (refl, refl, refl, refl, refl)
+sheets-e-g-h octals = (refl, refl, refl, refl)
+
+-- sheet f, and the same legend as the manual has it (document 02, P5). The byte begins nothing: `\442` closes no
+-- string, `\444` begins no variable; in a heredoc an LF from `\412` is lost before a variable, as one from `\n` is
+sheet-f :
+    (textAt (Mode.Double Octal.Rust) [] true 0 (bytes "\\400\"") ≡ Refused 3 4)
+    × (textAt (Mode.Double Octal.Manual) [] true 0 (bytes "\\400\"") ≡ Text (0 ∷ []) Stop.Quote 4 5)
+    × (textAt (Mode.Double Octal.Manual) [] true 0 (bytes "\\777\"") ≡ Text (255 ∷ []) Stop.Quote 4 5)
+    × (textAt (Mode.Double Octal.Manual) [] true 0 (bytes "\\442\"") ≡ Text (bytes "\"") Stop.Quote 4 5)
+    × (textAt (Mode.Double Octal.Manual) [] true 0 (bytes "\\444a\"") ≡ Text (bytes "$a") Stop.Quote 5 6)
+    × (textAt (Mode.Heredoc Octal.Manual) (bytes "x") true 0 (bytes "a\\412$x;")
+    ≡ Text (bytes "a") (Stop.Variable Follow.Other) 5 7)
+    × (textAt (Mode.Double Octal.Rust) [] false 0 (bytes "\\400") ≡ Refused 3 4)
+    × (textAt (Mode.Double Octal.Manual) [] false 0 (bytes "\\400") ≡ Wait)
+unfolding textAt finished losesBreak heredocLosesBreak trimmed collected taken onto afterOf unitAt escape letterValue digits fitted overflowing digitValue dollar name variable follow isStart isIdentifier isLetter isDigit bytes
+sheet-f = (refl, refl, refl, refl, refl, refl, refl, refl)
 
 sheet-l : textAt Mode.Nowdoc (bytes "EOT") true 0 (bytes "a\n  EOTX") ≡ Text (bytes "a") (Stop.Label Indentation.Space 2) 4 7
 unfolding textAt finished losesBreak collected taken onto afterOf unitAt line judged matched indented closer isBlank bytes
@@ -120,6 +139,8 @@ sheet-m : textAt Mode.Nowdoc (bytes "EOT") true 0 (bytes "a\n \tEOT") ≡ Refuse
 unfolding textAt finished collected taken onto afterOf unitAt line judged matched indented closer isBlank bytes
 sheet-m = refl
 
-sheet-n : textAt Mode.Heredoc (bytes "x") true 0 (bytes "a\n$x;") ≡ Text (bytes "a") (Stop.Variable Follow.Other) 2 4
-unfolding textAt finished losesBreak trimmed collected taken onto afterOf unitAt line judged matched isBlank dollar name variable follow isStart isIdentifier isLetter isDigit bytes
-sheet-n = refl
+sheet-n : (octals : Octal)
+    → textAt (Mode.Heredoc octals) (bytes "x") true 0 (bytes "a\n$x;")
+    ≡ Text (bytes "a") (Stop.Variable Follow.Other) 2 4
+unfolding textAt finished losesBreak heredocLosesBreak trimmed collected taken onto afterOf unitAt line judged matched isBlank dollar name variable follow isStart isIdentifier isLetter isDigit bytes
+sheet-n octals = refl

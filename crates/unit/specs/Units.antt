@@ -20,15 +20,15 @@ unitAt Mode.Single label end n b rest =
     if b is "'" then quote n
     else if b is "\\" then quoteEscape end (suc n) rest
     else plain b n
-unitAt Mode.Double label end n b rest =
+unitAt (Mode.Double octals) label end n b rest =
     if b is "\"" then quote n
-    else if b is "\\" then escape end (suc n) rest
+    else if b is "\\" then escape octals end (suc n) rest
     else if b is "$" then findDollar end n rest
     else if b is "{" then findBrace end n rest
     else plain b n
-unitAt Mode.DoubleQuote label end n b rest =
+unitAt (Mode.DoubleQuote octals) label end n b rest =
     if b is "\"" then quote n
-    else if b is "\\" then escape end (suc n) rest
+    else if b is "\\" then escape octals end (suc n) rest
     else if b is "$" then dollar end n rest
     else if b is "{" then brace end n rest
     else plain b n
@@ -37,9 +37,9 @@ unitAt Mode.ShellExec label end n b rest =
     else if b is "$" then dollar end n rest
     else if b is "{" then brace end n rest
     else plain b n
-unitAt Mode.Heredoc label end n b rest =
+unitAt (Mode.Heredoc octals) label end n b rest =
     if b is "\n" then line label end n Indentation.None 0 rest
-    else if b is "\\" then escape end (suc n) rest
+    else if b is "\\" then escape octals end (suc n) rest
     else if b is "$" then dollar end n rest
     else if b is "{" then brace end n rest
     else plain b n

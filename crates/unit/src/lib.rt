@@ -1,13 +1,15 @@
 // What a text is made of: the words in which the six text readings, their units and what ends them are told.
 // The definitions and theorems over them stand in specs/ and proofs/; the code that follows them in the crates escape, interpolation, closer and text.
+use byte::Octal;
 
-// How a text is read: the Rust's two string routines, its four modes.
+// How a text is read: the Rust's two string routines, its four modes. Those with octal escapes bear the choice of what
+// one over 255 stands for.
 pub enum Mode {
     Single,
-    Double,
-    DoubleQuote,
+    Double(Octal),
+    DoubleQuote(Octal),
     ShellExec,
-    Heredoc,
+    Heredoc(Octal),
     Nowdoc,
 }
 

@@ -8,11 +8,11 @@ use Rattle.state.specs.Bounds.{isLabel, isFrame, isBottom, isStack, isWithin, i
 use Rattle.state.specs.Gates.{sourceFits, tablesFit, gateRefusal, lentRefusal}
 use Rattle.token.specs.Records.{roomRefusal}
 use Rattle.unit.specs.Digits.{digitValue, isScalar, utf8}
-use Rattle.unit.specs.Escapes.{letterValue, fitted, digits, hex, codePoint, braced, escape, quoteEscape}
+use Rattle.unit.specs.Escapes.{letterValue, overflowing, fitted, digits, hex, codePoint, braced, escape, quoteEscape}
 use Rattle.unit.specs.Interpolations as interpolations
 use Rattle.unit.specs.Closers.{matched, indented, closer, judged, line}
 use Rattle.unit.specs.Units.{unitAt}
-use Rattle.unit.specs.Readings.{onto, taken, afterOf, collected, trimmed, losesBreak, finished, textAt}
+use Rattle.unit.specs.Readings.{onto, taken, afterOf, collected, trimmed, losesBreak, heredocLosesBreak, finished, textAt}
 use Rattle.number.specs.Numbers as number
 use Rattle.sheet.specs.Bodies as bodies
 use Rattle.sheet.specs.Sheets.{closingLabel, judgedLine, lineKind, withLine, told, block, filled, stripped, answered, sheetAt}
@@ -42,11 +42,11 @@ unfolding bytes every run isDigit isOctal isHex isLetter isStart isIdentifier is
     isBracketed varname lookingForVarname property arrowHead questioned lookingForProperty varOffset point word
     closeTag scripting textMode nowdoc framed callAt callOutcome put
     framesAfter depthAfter reached isScripting lexer.called standing called tokensIn found table digitValue
-    isScalar utf8 letterValue fitted digits hex codePoint braced escape quoteEscape interpolations.property
+    isScalar utf8 letterValue overflowing fitted digits hex codePoint braced escape quoteEscape interpolations.property
     interpolations.arrow interpolations.questionArrow interpolations.follow interpolations.variable
     interpolations.name interpolations.dollar interpolations.brace interpolations.findDollar
     interpolations.findBrace matched indented closer judged line unitAt onto taken afterOf collected trimmed
-    losesBreak finished textAt number.isOne number.baseNamed number.baseOf number.isExponent number.isSign
+    losesBreak heredocLosesBreak finished textAt number.isOne number.baseNamed number.baseOf number.isExponent number.isSign
     number.before number.last number.digitsMore number.digits number.signed number.onto number.closing
     number.followed number.power number.exponent number.fraction number.digitAhead number.powerAhead
     number.decided number.marked number.tail number.decimal number.prefixed number.numberIn number.numberAt

@@ -11,6 +11,7 @@ use mathlib.Core.Bool.{Bool, true, false}
 use mathlib.Core.List.{List, [], _∷_}
 use mathlib.Core.Path.{_≡_}
 use lib.ListN.{getD, take, drop}
+use Rattle.byte.specs.declared.Octal.{Octal}
 use Rattle.byte.specs.Words.{bytes}
 use Rattle.state.specs.declared.Frame.{Frame}
 use Rattle.state.specs.declared.Reading.{Reading}
@@ -41,13 +42,14 @@ edges src a = edgesIn (a .turn .session .tokens) src (a .list)
 -- ---- the table
 
 abbrev ported : Choices
-ported = record { nowdocs = Reading.Ported }
+ported = record { nowdocs = Reading.Ported; octals = Octal.Rust }
 
 abbrev step : Frame → Call
 step f = Step f ported
 
 abbrev sheet : ℕ → ℕ → Call
-sheet start len = Step (Frame.Nowdoc (record { start = start; len = len })) (record { nowdocs = Reading.Sheet })
+sheet start len =
+    Step (Frame.Nowdoc (record { start = start; len = len })) (record { nowdocs = Reading.Sheet; octals = Octal.Rust })
 
 abbrev scripting : Call
 scripting = step Frame.Scripting
@@ -76,12 +78,12 @@ cases =
     ∷ case scripting true "\"a$b\"" (to 2 "\"a" ∷ [])
     -- the readings begin after the opening quote
     ∷ case Single true "a';" (to 2 "a'" ∷ [])
-    ∷ case Double true "\\101\"" (to 5 "\\101\"" ∷ [])
+    ∷ case (Double Octal.Rust) true "\\101\"" (to 5 "\\101\"" ∷ [])
     ∷ case Number false "1e+x" (to 1 "1" ∷ [])
     -- length 0 and end 0: an empty script, no number, nothing before an interpolation
     ∷ case (step Frame.Initial) true "" (to 0 "" ∷ [])
     ∷ case Number true "x" (to 0 "" ∷ [])
-    ∷ case Double true "$a\"" (to 0 "" ∷ [])
+    ∷ case (Double Octal.Rust) true "$a\"" (to 0 "" ∷ [])
     -- nothing is written: passed, refused, to be continued
     ∷ case scripting true "echo 1;" []
     ∷ case scripting true "'a" []

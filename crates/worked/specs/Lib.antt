@@ -1,3 +1,4 @@
 pub mod Sheets
 pub mod Lookups
 pub mod Ends
+pub mod Octals

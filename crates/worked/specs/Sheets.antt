@@ -17,6 +17,7 @@ use mathlib.Core.Path.{_≡_}
 use lib.ListN.{length, getD, take, drop, replicate}
 use Rattle.byte.specs.Words.{bytes}
 use Rattle.source.specs.Cursor.{origin}
+use Rattle.byte.specs.declared.Octal.{Octal}
 use Rattle.byte.specs.Refusals.{unexpectedEndOfFile, invalidUnicodeEscape, invalidOctalEscape, invalidDocIndentation}
 use Rattle.byte.specs.Refusals.{strayIndentation, wait}
 use Rattle.source.specs.declared.Span.{Span}
@@ -35,7 +36,7 @@ pub data Call : Type 0 where
   Step : Frame → Choices → Call
   Number : Call
   Single : Call
-  Double : Call
+  Double : Octal → Call
 
 pub record Written : Type 0 where
   pub kind : ℕ
@@ -57,12 +58,12 @@ pub record Sheet : Type 0 where
 
 -- ---- what a host finds
 
--- nowdoc blocks as the Rust reads them, and as sheets
-abbrev ported : Choices
-ported = record { nowdocs = Reading.Ported }
+-- nowdoc blocks as the Rust reads them, and as sheets; octal escapes as the Rust
+abbrev pub ported : Choices
+ported = record { nowdocs = Reading.Ported; octals = Octal.Rust }
 
 abbrev asSheets : Choices
-asSheets = record { nowdocs = Reading.Sheet }
+asSheets = record { nowdocs = Reading.Sheet; octals = Octal.Rust }
 
 -- a session at the beginning with this frame
 unfoldable pub standing : Frame → Choices → Session
@@ -85,7 +86,9 @@ unfoldable pub called : Call → Bool → List ℕ → After
 called (Step f choices) end src = answered outcome.Call.Step end src (standing f choices)
 called Number end src = answered outcome.Call.Number end src (standing Frame.Scripting ported)
 called Single end src = answered outcome.Call.Single end src (standing Frame.Scripting ported)
-called Double end src = answered outcome.Call.Double end src (standing Frame.Scripting ported)
+called (Double octals) end src =
+    answered outcome.Call.Double end src
+    (standing Frame.Scripting (record { nowdocs = Reading.Ported; octals = octals }))
 
 -- the first so many tokens of a list, with their values in the pool
 unfoldable pub tokensIn : ℕ → List ℕ → List ℕ → List Written
@@ -108,22 +111,22 @@ found a = record {
 
 -- ---- the table
 
-abbrev at : ℕ → ℕ → ℕ → Span
+abbrev pub at : ℕ → ℕ → ℕ → Span
 at line column position = record { line = line; column = column; position = position }
 
-abbrev one : ℕ → List ℕ → List Written
+abbrev pub one : ℕ → List ℕ → List Written
 one kind value = record { kind = kind; detail = 0; span = origin; value = value } ∷ []
 
-abbrev done : ℕ → List Written → Found
+abbrev pub done : ℕ → List Written → Found
 done position tokens = record { answer = Answer.Done; position = position; tokens = tokens }
 
-abbrev refused : ℕ → Span → Found
+abbrev pub refused : ℕ → Span → Found
 refused number span = record { answer = Answer.Refused number span; position = 0; tokens = [] }
 
 abbrev label : ℕ → ℕ → Frame
 label start len = Frame.Nowdoc (record { start = start; len = len })
 
-abbrev row : Char → Call → Bool → String → Found → Sheet
+abbrev pub row : Char → Call → Bool → String → Found → Sheet
 row letter call end text gives = record { letter = letter; call = call; end = end; text = text; gives = gives }
 
 -- the text of a block, and the label EOT without indentation
@@ -147,11 +150,11 @@ table =
     ∷ row "c" initial false "<?p" (refused wait origin)
     ∷ row "c" initial false "<?px" (done 2 (one openTagShort (bytes "<?")))
     ∷ row "d" Single true "a\\'b\\n'" (done 7 (one literalSingleQuotedString (bytes "a'b\\n")))
-    ∷ row "e" Double true "\\377\"" (done 5 (one literalDoubleQuotedString (255 ∷ [])))
-    ∷ row "f" Double true "\\400\"" (refused invalidOctalEscape (at 1 5 4))
-    ∷ row "g" Double true "\\u{20AC}\"" (done 9 (one literalDoubleQuotedString (0xE2 ∷ 0x82 ∷ 0xAC ∷ [])))
-    ∷ row "h" Double true "\\u{}\"" (refused invalidUnicodeEscape (at 1 4 3))
-    ∷ row "h" Double true "\\u{110000}\"" (refused invalidUnicodeEscape (at 1 11 10))
+    ∷ row "e" (Double Octal.Rust) true "\\377\"" (done 5 (one literalDoubleQuotedString (255 ∷ [])))
+    ∷ row "f" (Double Octal.Rust) true "\\400\"" (refused invalidOctalEscape (at 1 5 4))
+    ∷ row "g" (Double Octal.Rust) true "\\u{20AC}\"" (done 9 (one literalDoubleQuotedString (0xE2 ∷ 0x82 ∷ 0xAC ∷ [])))
+    ∷ row "h" (Double Octal.Rust) true "\\u{}\"" (refused invalidUnicodeEscape (at 1 4 3))
+    ∷ row "h" (Double Octal.Rust) true "\\u{110000}\"" (refused invalidUnicodeEscape (at 1 11 10))
     ∷ row "k" Number false "1e" (refused wait origin)
     ∷ row "k" Number false "1e+x" (done 1 (one literalInteger (bytes "1")))
     ∷ row "l" (Step (label 4 3) ported) true "a\n  EOTX"

@@ -1,8 +1,10 @@
-// Runs every worked sheet of document 01, starred or not, and of requests P1 and P2 through step or a reading, and prints what came
-// of it: a line a text. A line is the letter, then each token (kind, line, column, position, detail, length, and the value's bytes in
-// hexadecimal), then `end` or `finished` and the position, or `refused`, the number and its line, column and position.
+// Runs every worked sheet of document 01, starred or not, and of requests P1, P2 and P5 through step or a reading, and
+// prints what came of it: a line a text. A line is the letter, then each token (kind, line, column, position, detail,
+// length, and the value's bytes in hexadecimal), then `end` or `finished` and the position, or `refused`, the number and
+// its line, column and position.
 // A line of sheets x and y has marks in place of that, for 32 bytes from the one named on, as each follows a label: c where the block
 // closes, r where the label begins a row, w where the step waits.
+use byte::Octal;
 use libc::STDOUT_FILENO;
 use outcome::Call;
 use source::Span;
@@ -110,10 +112,11 @@ fn print_turn(letter: u8, t: Turn, list: &[u32], pool: &[u8]) {
     io::write_all(STDOUT_FILENO, b"\n");
 }
 
-// Nowdoc blocks as the Rust reads them.
+// Nowdoc blocks and octal escapes as the Rust reads them.
 fn ported() -> Choices {
     Choices {
         nowdocs: Reading::Ported,
+        octals: Octal::Rust,
     }
 }
 
@@ -121,6 +124,15 @@ fn ported() -> Choices {
 fn as_sheets() -> Choices {
     Choices {
         nowdocs: Reading::Sheet,
+        octals: Octal::Rust,
+    }
+}
+
+// Octal escapes as the manual has them.
+fn as_manual() -> Choices {
+    Choices {
+        nowdocs: Reading::Ported,
+        octals: Octal::Manual,
     }
 }
 
@@ -293,6 +305,46 @@ fn part_sheets() {
     script(b'G', b"#", true);
 }
 
+// A double-quoted literal after its opening quote, octal escapes as these choices have them.
+fn double(letter: u8, choices: Choices, src: &[u8], end: bool) {
+    called(
+        letter,
+        Call::Double,
+        standing(Frame::Scripting, choices),
+        src,
+        end,
+    );
+}
+
+// Sheets H and I: octal escapes over 255 as the manual has them; their bytes begin nothing.
+fn octal_sheets() {
+    double(b'H', as_manual(), b"\\400\"", true);
+    double(b'H', as_manual(), b"\\777\"", true);
+    double(b'H', as_manual(), b"\\501\"", true);
+    double(b'H', as_manual(), b"\\4000\"", true);
+    double(b'H', as_manual(), b"\\377\"", true);
+    double(b'I', as_manual(), b"\\442\"", true);
+    double(b'I', as_manual(), b"\\444a\"", true);
+    double(b'I', as_manual(), b"\\573$a\"", true);
+}
+
+// Sheets J to L: the same in Scripting, after an interpolation and in a heredoc; and what waits.
+fn octal_mode_sheets() {
+    let x = Label { start: 6, len: 1 };
+    step(b'J', Frame::Scripting, as_manual(), b"\"\\400\"", true);
+    step(b'J', Frame::Scripting, ported(), b"\"\\400\"", true);
+    step(b'J', Frame::DoubleQuote, as_manual(), b"\\400$a", true);
+    step(b'J', Frame::DoubleQuote, ported(), b"\\400$a", true);
+    step(b'K', Frame::Heredoc(x), as_manual(), b"a\\412$x;", true);
+    step(b'K', Frame::Heredoc(x), as_manual(), b"a\\400\nx;", true);
+    step(b'K', Frame::Heredoc(x), ported(), b"a\\400\nx;", true);
+    double(b'L', ported(), b"\\40", false);
+    double(b'L', as_manual(), b"\\40", false);
+    double(b'L', ported(), b"\\400", false);
+    double(b'L', as_manual(), b"\\400", false);
+    double(b'L', as_manual(), b"\\400\"", false);
+}
+
 // Every sheet, in the order of document 01, then those of the requests.
 fn main() {
     initial_sheets();
@@ -304,4 +356,6 @@ fn main() {
     behind_label(b'y', false);
     comment_sheets();
     part_sheets();
+    octal_sheets();
+    octal_mode_sheets();
 }

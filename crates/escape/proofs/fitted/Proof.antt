@@ -9,4 +9,4 @@ pub fitted-spec : {M : Type 1} → statement M
 unfolding fitted
 fitted-spec =
     tie.close
-    (tie.spec (λ c. search needs) (λ c. search choices) (λ c. search choices))
+    (tie.spec (λ c. search needs) (λ c. search choices) (λ c κs. search needs) (λ c. search choices))

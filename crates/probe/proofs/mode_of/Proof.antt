@@ -9,4 +9,4 @@ unfolding modeOf
 mode-of-spec =
     tie.close
     (tie.spec (λ c. search modes) (λ c. search modes) (λ c. search modes) (λ c. search modes) (λ c. search modes)
-    (λ c. search modes))
+    (λ c. search modes) (λ c. search modes) (λ c. search modes) (λ c. search modes))
