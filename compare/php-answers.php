@@ -1,27 +1,30 @@
 <?php
-// Holds this PHP to a file of `KIND TEXT => ANSWER` lines; `#` starts a comment line. Called by `php`, beside it.
+// Holds this PHP to a file of `KIND TEXT => ANSWER` lines; `#` starts a comment line. Called by `php`, beside it. With
+// the word `say` after the file it prints the file with this PHP's own answers.
 //
 //   code    the tokens of TEXT behind `<?php `
 //   script  the tokens of TEXT as a whole script
 //   short   the same with short tags on; lines of this kind are tried alone, in a run with that setting
 //   value   what TEXT gives as an expression in which $a is 'A', and a warning; text in hex, `-` for no bytes
+//   octals  TEXT eight times, with each octal digit in place of ⑧: the texts that it gives, in hex
 //   closes  the bytes, as ranges in hex, that behind the label TEXT at a line's start leave it the closer of a nowdoc block
 //
 // A token is its kind and its text, or its one sign. In TEXT and tokens the signs below stand for bytes.
 
+const FORM = '/^(\w+) (.*) => (.*)$/';
 const SIGNS = ['⏎' => "\n", '␍' => "\r", '⇥' => "\t", '·' => ' ', '␁' => "\x01"];
 
-exit(main($argv[1]));
+exit(isset($argv[2]) ? say($argv[1]) : main($argv[1]));
 
 function main(string $path): int
 {
     $tags = ini_get('short_open_tag') ? 'on' : 'off';
     $tried = 0;
     foreach (file($path, FILE_IGNORE_NEW_LINES) as $index => $line) {
-        if (!preg_match('/^(\w+) (.*) => (.*)$/', $line, $parts)) {
-            if ($line === '' || $line[0] === '#') {
-                continue;
-            }
+        if ($line === '' || $line[0] === '#') {
+            continue;
+        }
+        if (!preg_match(FORM, $line, $parts)) {
             return failed($index, $line, 'KIND TEXT => ANSWER', 'another form');
         }
         [, $kind, $text, $expected] = $parts;
@@ -34,8 +37,17 @@ function main(string $path): int
         }
         $tried++;
     }
-    echo 'ok PHP ', PHP_VERSION, ", short tags $tags ($tried answers)\n";
+    echo 'ok PHP ', PHP_VERSION, ', ', basename($path), ", short tags $tags ($tried answers)\n";
     return $tried > 0 ? 0 : 1;
+}
+
+function say(string $path): int
+{
+    foreach (file($path, FILE_IGNORE_NEW_LINES) as $line) {
+        $is_answer = preg_match(FORM, $line, $parts) && $line[0] !== '#';
+        echo $is_answer ? "$parts[1] $parts[2] => " . answer($parts[1], strtr($parts[2], SIGNS)) : $line, "\n";
+    }
+    return 0;
 }
 
 function failed(int $index, string $line, string $expected, string $got): int
@@ -50,6 +62,7 @@ function answer(string $kind, string $text): string
         'code' => tokens(array_slice(token_get_all("<?php $text"), 1)),
         'script', 'short' => tokens(token_get_all($text)),
         'value' => value($text),
+        'octals' => octals($text),
         'closes' => ranges(array_filter(range(0, 255), fn ($byte) => closes($text, chr($byte)))),
         default => 'no such kind',
     };
@@ -64,15 +77,26 @@ function tokens(array $tokens): string
 
 function value(string $expression): string
 {
-    $a = 'A';
     error_clear_last();
     try {
-        $value = @eval("return $expression;");
+        $value = evaluated($expression);
     } catch (ParseError $error) {
         return 'error ' . $error->getMessage();
     }
     $warning = error_get_last();
     return shown_value($value) . ($warning ? ", warning {$warning['message']}" : '');
+}
+
+function evaluated(string $expression): mixed
+{
+    $a = 'A';
+    return @eval("return $expression;");
+}
+
+function octals(string $expression): string
+{
+    $one = fn ($digit) => bin2hex(evaluated(str_replace('⑧', (string) $digit, $expression)));
+    return implode(' ', array_map($one, range(0, 7)));
 }
 
 function shown_value(mixed $value): string

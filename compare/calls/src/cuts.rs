@@ -6,6 +6,7 @@ use cases::random::Random;
 use cases::{Call, Given, Told};
 use host::Slices;
 
+use crate::forged::any_choices;
 use crate::hold::Held;
 use crate::smaller::{drop_parts, moved, without_bytes};
 use crate::sources::script;
@@ -20,7 +21,7 @@ const WAIT: u32 = 6;
 const MOST_CUT_EVERYWHERE: usize = 1000;
 
 pub fn cut_scripts(held: &mut Held, count: usize, random: &mut Random) -> Result<(), String> {
-    (0..count).try_for_each(|_| cut_script(held, &script(random), random.below(2), random))
+    (0..count).try_for_each(|_| cut_script(held, &script(random), any_choices(random), random))
 }
 
 /// Walks a script uncut, then cut after each byte and at random places.

@@ -3,13 +3,15 @@
 
 use std::collections::BTreeMap;
 
-use cases::call::{BYTES, POSITION, RECORD, RECORD_END, RECORD_LENGTH, RECORD_POSITION};
+use cases::call::{BYTES, CHOICES, OCTAL_MANUAL, POSITION, RECORD, RECORD_END, RECORD_LENGTH, RECORD_POSITION};
 use cases::hex::shown;
 use cases::pieces::every_text;
 use cases::random::Random;
 use cases::{Call, Function, Told};
 use telling::bytes::{past, START};
+use telling::octals::lowered;
 
+use crate::forged::any_choices;
 use crate::hold::Held;
 use crate::limits::{standing, top};
 use crate::sources::{fragment, script};
@@ -59,9 +61,10 @@ const READ: [(Function, u32); 9] = [
     (Function::ReadNumber, FLOAT),
 ];
 
-/// What a function read, and the values that records of it speak of.
+/// What a function read under choices, and the values that records of it speak of.
 struct Read<'a> {
     function: Function,
+    choices: usize,
     source: &'a [u8],
     values: &'a [u8],
 }
@@ -69,6 +72,7 @@ struct Read<'a> {
 /// A literal or a comment: its record's kind, the source from the record's position to its end, and its value.
 struct Literal<'a> {
     function: Function,
+    choices: usize,
     kind: u32,
     text: &'a [u8],
     value: &'a [u8],
@@ -120,7 +124,7 @@ pub fn literals_alone(held: &mut Held, count: usize, random: &mut Random) -> Res
     every_short(held, &mut met)?;
     for index in 0..count {
         if index % SCRIPT_OF == 0 {
-            of_script(held, &script(random), random.below(2), &mut met)?;
+            of_script(held, &script(random), any_choices(random), &mut met)?;
         }
         of_call(held, &any_call(random), &mut met)?;
     }
@@ -157,7 +161,7 @@ fn of_script(held: &mut Held, script: &[u8], choices: usize, met: &mut Met) -> R
     if !never_fall(&records) {
         return Err(format!("  script {}\n  its ends fall: {:?}", shown(script), records));
     }
-    let read = Read { function: Function::Step, source: script, values: &values };
+    let read = Read { function: Function::Step, choices, source: script, values: &values };
     records.iter().try_for_each(|record| alone_if_any(held, &read, record, met))
 }
 
@@ -167,7 +171,8 @@ fn of_call(held: &mut Held, call: &Call, met: &mut Met) -> Result<(), String> {
     if let Some((_, records, values)) = told.written() {
         let before = vec![0; call.number(BYTES)];
         let values = [&before, values].concat();
-        let read = Read { function: call.function, source: &call.source, values: &values };
+        let choices = call.number(CHOICES);
+        let read = Read { function: call.function, choices, source: &call.source, values: &values };
         records.iter().try_for_each(|record| alone_if_any(held, &read, record, met))?;
     }
     Ok(())
@@ -185,6 +190,7 @@ fn any_call(random: &mut Random) -> Call {
     let source = [&head, open, &inside, close, &fragment(random)].concat();
     let mut call = standing(function, &source, head.len(), 1 + random.below(3), top(SCRIPTING, 0));
     call.session[BYTES] = random.below(4) as u32;
+    call.session[CHOICES] = any_choices(random) as u32;
     call.list = RECORD;
     call.pool = source.len() + 4;
     call.end = random.below(4).min(1) as u32;
@@ -193,13 +199,14 @@ fn any_call(random: &mut Random) -> Call {
 
 /// Reads a record's text alone, if it is a literal or a comment.
 fn alone_if_any(held: &mut Held, read: &Read, record: &[u32; RECORD], met: &mut Met) -> Result<(), String> {
-    let Read { function, source, values } = *read;
+    let Read { function, choices, source, values } = *read;
     let [kind, _, _, _, position, start, length, end] = record.map(|number| number as usize);
     let kind = kind as u32;
     if !(SINGLE..=COMMENT).contains(&kind) {
         return Ok(());
     }
-    let literal = Literal { function, kind, text: &source[position..end], value: &values[start..start + length] };
+    let (text, value) = (&source[position..end], &values[start..start + length]);
+    let literal = Literal { function, choices, kind, text, value };
     let key = (function as usize, kind);
     *met.alone.entry(key).or_insert(0) += 1;
     met.empty += u64::from(literal.text.is_empty());
@@ -218,6 +225,7 @@ impl Literal<'_> {
     /// Whether the same function at the start of the text alone gives the same token, and passes all of it.
     fn is_read_alone(&self, held: &mut Held) -> Result<bool, String> {
         let mut call = standing(self.function, self.text, 0, 1, top(SCRIPTING, 0));
+        call.session[CHOICES] = self.choices as u32;
         call.end = 1;
         call.list = RECORD;
         call.pool = self.value.len();
@@ -255,8 +263,9 @@ impl Literal<'_> {
         inside.map_or(false, |text| text.ends_with(&[quote]))
     }
 
-    /// Whether the Rust's own `tokenize` reads the same token in a script of this literal alone; none where it is
-    /// another thing to the Rust: a number that begins with no digit, and a comment that is closed by its own star.
+    /// Whether the Rust's own `tokenize` reads the same token in a script of this literal alone, under the manual's
+    /// choice with octal escapes that do not overflow; none where it is another thing to the Rust: a number that begins
+    /// with no digit, and a comment that is closed by its own star.
     fn is_read_by_the_rust(&self) -> Option<bool> {
         let quote: &[u8] = match (self.function, self.kind) {
             (Function::ReadSingle, _) => b"'",
@@ -265,7 +274,9 @@ impl Literal<'_> {
             _ if self.text.starts_with(b"/*/") => return None,
             _ => b"",
         };
-        let script = [b"<?php ", quote, self.text].concat();
+        let is_manual = self.kind == DOUBLE && self.choices & OCTAL_MANUAL != 0;
+        let text = if is_manual { lowered(self.text) } else { self.text.to_vec() };
+        let script = [b"<?php ", quote, &text].concat();
         let tokens = oracle::tokens_of(&script).unwrap_or_default();
         Some(match &tokens[..] {
             [_, token] => {

@@ -15,7 +15,7 @@ use telling::session::{MOST_BYTES, MOST_TOKENS};
 
 use crate::ends::bear;
 use crate::finds::{Finds, ENDS};
-use crate::forged::{self, forged, new_call, wild, FRAMES, FUNCTIONS};
+use crate::forged::{self, any_choices, forged, new_call, wild, FRAMES, FUNCTIONS};
 use crate::hold::Held;
 use crate::lists::any_found;
 use crate::sources::{self, script};
@@ -151,7 +151,7 @@ fn begun(finds: &mut Finds, random: &mut Random) -> Filling {
         call = Call { session: other.session, source: other.source, ..call };
         call.session[TOKENS] = 0;
     } else {
-        host::fresh(random.below(2) as u32, &mut call.session);
+        host::fresh(any_choices(random) as u32, &mut call.session);
     }
     let list = (0..PLACES * RECORD).map(list_pattern).collect();
     let pool = (0..ROOM).map(pool_pattern).collect();

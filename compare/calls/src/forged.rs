@@ -13,6 +13,9 @@ use crate::sources::{fragment, script};
 pub const FRAMES: usize = 9;
 const TEXT_BLOCKS: [usize; 2] = [4, 5];
 
+/// The choices are the numbers below this one, which is a flag of none.
+const CHOSEN: usize = 4;
+
 /// Of five calls two are steps, and one is a walk.
 pub const FUNCTIONS: [Function; 15] = [
     Function::Step,
@@ -57,7 +60,8 @@ pub fn fresh_sessions(held: &mut Held, count: usize, random: &mut Random) -> Res
     for _ in 0..count {
         let length = [0, 1, 198, 199, 199, 199, 200, 260][random.below(8)];
         let session = (0..length).map(|_| random.number() as u32).collect();
-        let choices = [0, 1, 0, 1, 2, wild(random) as usize][random.below(6)];
+        let choices = [any_choices(random), any_choices(random), no_choices(random), wild(random) as usize];
+        let choices = choices[random.below(choices.len())];
         held.hold(&Call { session, ..new_call(Function::Fresh, vec![choices]) })?;
     }
     Ok(())
@@ -66,6 +70,16 @@ pub fn fresh_sessions(held: &mut Held, count: usize, random: &mut Random) -> Res
 /// A call with nothing lent.
 pub fn new_call(function: Function, arguments: Vec<usize>) -> Call {
     Call { function, arguments, end: 0, session: Vec::new(), list: 0, pool: 0, answer: 0, source: Vec::new() }
+}
+
+/// Any choices of a session.
+pub fn any_choices(random: &mut Random) -> usize {
+    random.below(CHOSEN)
+}
+
+/// Choices and a bit that is no flag.
+fn no_choices(random: &mut Random) -> usize {
+    any_choices(random) | CHOSEN << random.below(30)
 }
 
 pub fn wild(random: &mut Random) -> u32 {
@@ -135,7 +149,7 @@ fn session(source: &mut Vec<u8>, random: &mut Random) -> Vec<u32> {
     numbers[DEPTH] = depth as u32;
     numbers[TOKENS] = random.below(4) as u32;
     numbers[BYTES] = random.below(6) as u32;
-    numbers[CHOICES] = random.below(2) as u32;
+    numbers[CHOICES] = any_choices(random) as u32;
     numbers
 }
 
@@ -183,7 +197,7 @@ pub fn most(random: &mut Random) -> usize {
 fn damage(call: &mut Call, random: &mut Random) {
     let depth = call.number(DEPTH);
     let slot = SLOTS + SLOT * random.below(depth.max(1).min(MOST_FRAMES));
-    let (place, number) = match random.below(10) {
+    let (place, number) = match random.below(11) {
         0 => return call.session.truncate(random.below(SESSION)),
         1 => return call.answer = random.below(ANSWER),
         2 => (POSITION, call.source.len() + random.below(3)),
@@ -193,6 +207,7 @@ fn damage(call: &mut Call, random: &mut Random) {
         6 => (slot + 1, random.below(call.source.len() + 2)),
         7 => (slot + 2, random.below(MOST_LABEL + 2)),
         8 => (slot + random.below(SLOT), wild(random) as usize),
+        9 => (CHOICES, no_choices(random)),
         _ => (random.below(SLOTS), wild(random) as usize),
     };
     if let Some(lent) = call.session.get_mut(place) {

@@ -1,16 +1,20 @@
 //! A call made on the proved library and held to what is told of it.
 
 use cases::call::{DEPTH, SLOT, SLOTS};
-use cases::{Call, Function, Told};
+use cases::{Call, Function, Given, Told};
 use telling::Teller;
 
 use crate::ends;
+use crate::octals::{is_manual, under_both};
 use crate::smaller::smaller;
 
 /// Frames that a step may find on top, and the three readings.
 const FRAMES: usize = 9;
 const ROUTINES: usize = FRAMES + 3;
 const WAIT: u32 = 6;
+
+/// The routines that have octal escapes, and walks after all routines.
+const WITH_OCTALS: [usize; 5] = [1, 2, 4, FRAMES + 2, ROUTINES];
 
 /// Refusals by which a walk may be stopped: the others are its first step's, or none of a step.
 const STOPPING: [usize; 10] = [1, 2, 3, 4, 5, 6, 7, 8, 9, 13];
@@ -28,6 +32,9 @@ pub struct Held {
     /// How often a walk of one step or more was done, finished and refused at its first step, and by what one was stopped.
     walks: [u64; 3],
     stops: [u64; 14],
+    /// How often an octal escape over 255 was refused under the Rust's choice, and read under the manual's.
+    refused_octals: [u64; ROUTINES + 1],
+    read_octals: [u64; ROUTINES + 1],
 }
 
 impl Held {
@@ -35,16 +42,32 @@ impl Held {
     pub fn hold(&mut self, call: &Call) -> Result<Told, String> {
         self.count += 1;
         let told = self.teller.told(call);
-        if host::make(call).as_ref() != Ok(&told.given(call)) {
+        let given = told.given(call);
+        if host::make(call).as_ref() != Ok(&given) {
             let small = smaller(call, |call| self.fails(call));
             return Err(self.report(&small));
         }
+        self.hold_under_both(call, &given)?;
         if !ends::are_right(call, &told) {
             let report = self.report(call);
             return Err(format!("{}\n  is told and given alike, but an end is not where its step ended", report));
         }
         self.count_told(call, &told);
         Ok(told)
+    }
+
+    /// Holds the same call under the other choice for octal escapes to what is given.
+    fn hold_under_both(&mut self, call: &Call, given: &Given) -> Result<(), String> {
+        let is_wrong = |call: &Call| host::make(call).map_or(false, |given| under_both(call, &given).is_err());
+        match under_both(call, given) {
+            Err(wrong) => Err(format!("{}\n  {}", self.report(&smaller(call, is_wrong)), wrong)),
+            Ok(false) => Ok(()),
+            Ok(true) => {
+                let met = if is_manual(call) { &mut self.read_octals } else { &mut self.refused_octals };
+                met[routine_of(call).unwrap_or(ROUTINES)] += 1;
+                Ok(())
+            }
+        }
     }
 
     fn count_told(&mut self, call: &Call, told: &Told) {
@@ -112,8 +135,8 @@ impl Held {
         format!("  call  {}\n  told  {}\n  given {}", text(&line), text(&told), text(&got))
     }
 
-    /// Every refusal and every kind was met, every routine was done and had to wait, and walks came to all that they can: how
-    /// often the rarest; else the first that was not.
+    /// Every refusal and every kind was met, every routine was done and had to wait, walks came to all that they can, and
+    /// octal escapes over 255 were refused and read: how often the rarest; else the first that was not.
     pub fn all_met(&self) -> Result<String, String> {
         let parts = [
             rarest("refusal", 1..14, &self.refusals)?,
@@ -122,6 +145,8 @@ impl Held {
             rarest("routine waiting:", 0..ROUTINES, &self.waits)?,
             rarest("walk done, finished or refused:", 0..3, &self.walks)?,
             rarest("walk stopped by", STOPPING, &self.stops)?,
+            rarest("octal escape over 255 refused in routine", WITH_OCTALS, &self.refused_octals)?,
+            rarest("read in routine", WITH_OCTALS, &self.read_octals)?,
         ];
         Ok(format!("rarest: {}", parts.join(", ")))
     }

@@ -8,7 +8,7 @@ use cases::{Call, Function, Told};
 use telling::session::{MOST_BYTES, MOST_TOKENS};
 
 use crate::cuts::random_cuts;
-use crate::forged::most;
+use crate::forged::{any_choices, most};
 use crate::hold::Held;
 use crate::limits::{standing, top};
 use crate::sources::script;
@@ -32,7 +32,7 @@ struct Way {
 
 pub fn walks_in_one_call(held: &mut Held, count: usize, random: &mut Random) -> Result<(), String> {
     every_byte(held)?;
-    (0..count).try_for_each(|_| leap(held, &script(random), random.below(2), random))
+    (0..count).try_for_each(|_| leap(held, &script(random), any_choices(random), random))
 }
 
 /// Every byte at Scripting after a step, with a byte after it that may settle it, as a whole and as a part.
@@ -155,7 +155,7 @@ pub fn long_walks(held: &mut Held, count: usize, random: &mut Random) -> Result<
         let mut script = b"<?php ".to_vec();
         let filler = random.pick(&fillers);
         script.extend(filler.iter().cycle().take(MOST_BYTES - script.len()));
-        let mut call = begin(held, &script, random.below(2))?;
+        let mut call = begin(held, &script, any_choices(random))?;
         call.function = Function::Walk;
         call.list = MOST_TOKENS * RECORD;
         call.pool = MOST_BYTES;

@@ -7,7 +7,7 @@ use telling::bytes::{past, START};
 use telling::session::{MOST_BYTES, MOST_FRAMES, MOST_LABEL, MOST_TOKENS};
 
 use crate::cuts::cut_script;
-use crate::forged::new_call;
+use crate::forged::{any_choices, new_call};
 use crate::hold::Held;
 use crate::leaps::leap;
 use crate::walks::walk;
@@ -68,7 +68,7 @@ pub fn lengths(held: &mut Held, count: usize, random: &mut Random) -> Result<(),
             call.end = random.below(4).min(1) as u32;
             call.list = 2 * RECORD;
             call.pool = MOST_BYTES - 1 + random.below(3);
-            call.session[CHOICES] = random.below(2) as u32;
+            call.session[CHOICES] = any_choices(random) as u32;
             held.hold(&call)?;
             call.pool = length - position + random.below(2);
             held.hold(&call)?;
@@ -171,13 +171,13 @@ pub fn scripts(held: &mut Held, count: usize, random: &mut Random) -> Result<(),
     for _ in 0..count {
         for off in 0..3 {
             for script in [block(MOST_LABEL - 1 + off), deep(MOST_FRAMES - 1 + off), block(off)] {
-                cut_script(held, &script, random.below(2), random)?;
-                leap(held, &script, random.below(2), random)?;
+                cut_script(held, &script, any_choices(random), random)?;
+                leap(held, &script, any_choices(random), random)?;
             }
         }
         for length in [MOST_BYTES - 1, MOST_BYTES] {
-            cut_script(held, &long(length), random.below(2), random)?;
-            leap(held, &long(length), random.below(2), random)?;
+            cut_script(held, &long(length), any_choices(random), random)?;
+            leap(held, &long(length), any_choices(random), random)?;
         }
         // Its parts are not too large, so it is not cut.
         walk(held, &long(MOST_BYTES + 1), 0)?;
@@ -231,7 +231,7 @@ fn pushes(held: &mut Held, label: &[u8]) -> Result<(), String> {
     Ok(())
 }
 
-/// A block with the label, closed by it or almost, whole and cut at each place, in both readings.
+/// A block with the label, closed by it or almost, whole and cut at each place, under all choices.
 fn blocks(held: &mut Held, label: &[u8]) -> Result<(), String> {
     let body = [b"  a\n", &b" "[..], label.get(1..).unwrap_or(b""), b"z\n  ", label, b"\n"].concat();
     let source = [label, b"\n", &body].concat();
@@ -240,7 +240,7 @@ fn blocks(held: &mut Held, label: &[u8]) -> Result<(), String> {
             let mut call = standing(Function::Step, &source[..cut], label.len() + 1, 1, top(frame, label.len()));
             call.list = 2 * RECORD;
             call.pool = source.len();
-            for choice in 0..4 {
+            for choice in 0..8 {
                 call.end = choice & 1;
                 call.session[CHOICES] = choice >> 1;
                 if has_length(label) {

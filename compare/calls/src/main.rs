@@ -11,6 +11,7 @@ mod leaps;
 mod limits;
 mod lines;
 mod lists;
+mod octals;
 mod plain;
 mod shorts;
 mod smaller;
@@ -28,10 +29,11 @@ use hold::Held;
 type Tries = fn(held: &mut Held, count: usize, random: &mut Random) -> Result<(), String>;
 
 /// The groups: a name, the tries, and how many of them in few, in short and in full.
-const GROUPS: [(&str, Tries, [usize; 3]); 26] = [
+const GROUPS: [(&str, Tries, [usize; 3]); 27] = [
     ("fresh sessions", forged::fresh_sessions, [200, 2_000, 20_000]),
     ("forged sessions", forged::forged_sessions, [40_000, 400_000, 6_000_000]),
     ("every short text", shorts::short_texts, [1, 2, 3]),
+    ("octal escapes", octals::octal_escapes, [2_000, 20_000, 400_000]),
     ("comments beside the Rust", comments::beside_the_rust, [4, 4, 6]),
     ("broken calls", forged::broken_calls, [15_000, 150_000, 2_000_000]),
     ("whole scripts", walks::whole_scripts, [1_000, 10_000, 100_000]),

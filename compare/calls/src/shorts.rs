@@ -15,7 +15,7 @@ const BYTES: &[u8] = b"<?phP=a1E_$[]{}->'\"`\\\n\r \t.e+x0u/*#\x80";
 const BEFORE: &[u8] = b"E\n";
 
 /// A function with a frame on top and choices, and the pieces of longer texts.
-const ROUTINES: [(Function, u32, u32, Pieces); 14] = [
+const ROUTINES: [(Function, u32, u32, Pieces); 22] = [
     (Function::Step, 0, 0, &[b"<", b"?", b"p", b"H", b"php", b"=", b"a", b"\n"]),
     (Function::Step, 1, 0, &[b"<", b"<<<", b"'", b"E", b"7", b"\n", b"\r", b"\""]),
     (Function::Step, 1, 0, &[b"/", b"*", b"#", b"?", b">", b"[", b"\n", b"\r"]),
@@ -30,6 +30,14 @@ const ROUTINES: [(Function, u32, u32, Pieces); 14] = [
     (Function::ReadNumber, 1, 0, &[b"0", b"1", b"_", b".", b"e", b"E", b"+", b"x"]),
     (Function::ReadSingle, 1, 0, &[b"'", b"\\", b"a", b"\n", b"\"", b"n", b"\r", b"$a"]),
     (Function::ReadDouble, 1, 0, &[b"\"", b"\\", b"\\u{", b"4", b"}", b"$", b"{", b"a"]),
+    (Function::ReadDouble, 1, 0, &[b"\"", b"\\", b"\\4", b"\\70", b"1", b"0", b"8", b"$a"]),
+    (Function::ReadDouble, 1, 2, &[b"\"", b"\\", b"\\4", b"\\70", b"1", b"0", b"8", b"$a"]),
+    (Function::Step, 1, 0, &[b"\"", b"\"\\", b"\"\\4", b"\"\\70", b"1", b"0", b"\\412", b"$a"]),
+    (Function::Step, 1, 3, &[b"\"", b"\"\\", b"\"\\4", b"\"\\70", b"1", b"0", b"\\412", b"$a"]),
+    (Function::Step, 2, 1, &[b"\"", b"\\", b"\\4", b"\\70", b"1", b"0", b"{", b"$a"]),
+    (Function::Step, 2, 2, &[b"\"", b"\\", b"\\4", b"\\70", b"1", b"0", b"{", b"$a"]),
+    (Function::Step, 4, 0, &[b"\n", b"E", b"\\4", b"\\41", b"2", b"0", b"{", b"$a"]),
+    (Function::Step, 4, 3, &[b"\n", b"E", b"\\4", b"\\41", b"2", b"0", b"{", b"$a"]),
 ];
 
 /// Texts of up to `most` bytes, and of two pieces more.

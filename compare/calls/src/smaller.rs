@@ -1,6 +1,7 @@
 //! A failing call made smaller: fewer bytes, frames and places, and plainer numbers, while it still fails.
 
-use cases::call::{list_pattern, ANSWER, BYTES, COLUMN, DEPTH, LINE, POSITION, SESSION, SLOT, SLOTS, TOKENS};
+use cases::call::{list_pattern, ANSWER, BYTES, CHOICES, COLUMN, DEPTH, LINE, POSITION, SESSION, SLOT, SLOTS, TOKENS};
+use cases::call::{OCTAL_MANUAL, SHEETS};
 use cases::call::{RECORD, RECORD_END, RECORD_POSITION};
 use cases::lookup::{FOUND, FOUND_ENDED};
 use cases::{Call, Lookup};
@@ -92,7 +93,7 @@ fn without(call: &Call, start: usize, width: usize) -> Call {
 }
 
 /// What makes a call plainer.
-const CHANGES: [fn(&mut Call); 15] = [
+const CHANGES: [fn(&mut Call); 17] = [
     |call| call.session.truncate(SESSION),
     |call| call.session.fill(0),
     |call| call.answer = call.answer.min(ANSWER),
@@ -105,6 +106,8 @@ const CHANGES: [fn(&mut Call); 15] = [
     |call| call.arguments.iter_mut().for_each(|argument| *argument = argument.saturating_sub(1)),
     |call| set(call, LINE, 1),
     |call| set(call, COLUMN, 1),
+    |call| clear_choice(call, SHEETS),
+    |call| clear_choice(call, OCTAL_MANUAL),
     clear_above,
     |call| {
         call.list -= (call.number(TOKENS) * RECORD).min(call.list);
@@ -120,6 +123,12 @@ fn set(call: &mut Call, place: usize, number: u32) {
     if let Some(lent) = call.session.get_mut(place) {
         *lent = number;
     }
+}
+
+/// The session without a choice.
+fn clear_choice(call: &mut Call, flag: usize) {
+    let choices = call.number(CHOICES);
+    set(call, CHOICES, (choices & !flag) as u32);
 }
 
 /// One frame less, where there are as many as the depth says.

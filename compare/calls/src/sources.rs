@@ -1,9 +1,9 @@
-//! Random texts: fragments, and scripts with quoted texts, text blocks and sheets in them.
+//! Random texts: fragments, octal escapes, and scripts with quoted texts, text blocks and sheets in them.
 
-use cases::pieces::{self, Pieces, CLOSING_LINES, ESCAPES, INTERPOLATIONS, LINES, SCRIPT};
+use cases::pieces::{self, Pieces, CLOSING_LINES, ESCAPES, INTERPOLATIONS, LINES, OCTALS, SCRIPT};
 use cases::random::Random;
 
-const LISTS: [Pieces; 5] = [SCRIPT, ESCAPES, INTERPOLATIONS, LINES, CLOSING_LINES];
+const LISTS: [Pieces; 6] = [SCRIPT, ESCAPES, INTERPOLATIONS, LINES, CLOSING_LINES, OCTALS];
 
 const MOST_PIECES: usize = 8;
 const MOST_ROWS: usize = 5;
@@ -39,13 +39,27 @@ pub fn fragment(random: &mut Random) -> Vec<u8> {
     text
 }
 
-/// A script: pieces alone, or with a text or a sheet.
+/// Octal escapes, of which most are over 255, with pieces of any list between them.
+pub fn octal_text(random: &mut Random) -> Vec<u8> {
+    let mut text = Vec::new();
+    for _ in 0..1 + random.below(MOST_PIECES / 2) {
+        match random.below(4) {
+            0 => text.extend_from_slice(random.pick(ESCAPES)),
+            1 => text.extend_from_slice(format!("\\{:o}", random.below(512)).as_bytes()),
+            _ => text.extend_from_slice(random.pick(OCTALS)),
+        }
+    }
+    text
+}
+
+/// A script: pieces alone, or with a text, octal escapes or a sheet.
 pub fn script(random: &mut Random) -> Vec<u8> {
-    match random.below(4) {
-        0 => [b"<?php ".to_vec(), sheet(random), pieces::script(random)].concat(),
-        1 => {
+    match random.below(8) {
+        0 | 1 => [b"<?php ".to_vec(), sheet(random), pieces::script(random)].concat(),
+        2 | 3 => {
             let (open, close) = TEXTS[random.below(TEXTS.len())];
-            [b"<?php ", open, &fragment(random), close, &fragment(random)].concat()
+            let inside = if random.below(2) == 0 { octal_text(random) } else { fragment(random) };
+            [b"<?php ", open, &inside, close, &fragment(random)].concat()
         }
         _ => pieces::script(random),
     }

@@ -5,7 +5,7 @@ use cases::random::Random;
 use cases::{Call, Function, Told};
 use telling::session::MOST_BYTES;
 
-use crate::forged::{forged, new_call};
+use crate::forged::{any_choices, forged, new_call};
 use crate::hold::Held;
 use crate::sources::script;
 
@@ -20,7 +20,7 @@ pub struct Walked {
 
 /// Scripts walked to their end.
 pub fn whole_scripts(held: &mut Held, count: usize, random: &mut Random) -> Result<(), String> {
-    (0..count).try_for_each(|_| walk(held, &script(random), random.below(2)).map(drop))
+    (0..count).try_for_each(|_| walk(held, &script(random), any_choices(random)).map(drop))
 }
 
 /// Walks a script to its end, with the end announced.
@@ -68,7 +68,7 @@ pub fn lend_ample(call: &mut Call) {
 pub fn small_tables(held: &mut Held, count: usize, random: &mut Random) -> Result<(), String> {
     for _ in 0..count {
         let script = script(random);
-        let mut call = begin(held, &script, random.below(2))?;
+        let mut call = begin(held, &script, any_choices(random))?;
         while let Some(session) = step_in_small_tables(held, &mut call, random)? {
             call.session = session;
         }
@@ -111,7 +111,7 @@ fn step_in_small_tables(held: &mut Held, call: &mut Call, random: &mut Random) -
 pub fn mixed_walks(held: &mut Held, count: usize, random: &mut Random) -> Result<(), String> {
     for _ in 0..count {
         let script = script(random);
-        let mut call = begin(held, &script, random.below(2))?;
+        let mut call = begin(held, &script, any_choices(random))?;
         for _ in 0..most_steps(&script) {
             turn(&mut call, random);
             if call.function.has_tables() && random.below(2) == 0 {

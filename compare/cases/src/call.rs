@@ -26,8 +26,9 @@ pub const TOKENS: usize = 4;
 pub const BYTES: usize = 5;
 pub const CHOICES: usize = 6;
 
-/// The flag in a session's choices that nowdoc blocks are read as sheets.
+/// The flags in a session's choices: nowdoc blocks are read as sheets; octal escapes are read as the manual has them.
 pub const SHEETS: usize = 1;
+pub const OCTAL_MANUAL: usize = 2;
 
 /// The functions that take a session, by the names they have in call lines.
 #[derive(Clone, Copy, Debug, PartialEq, Eq)]

@@ -8,6 +8,7 @@ pub mod found;
 pub mod given;
 pub mod hex;
 pub mod lookup;
+pub mod php;
 pub mod pieces;
 pub mod random;
 

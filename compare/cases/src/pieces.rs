@@ -111,6 +111,47 @@ pub const INTERPOLATIONS: Pieces = &[
     b"\n",
 ];
 
+/// Octal escapes over 255: those of a quote, `$`, `{`, a backslash and LF, which begin nothing; before what may begin
+/// something; with a fourth digit; cut after one digit and after two; and some that are none.
+pub const OCTALS: Pieces = &[
+    b"\\400",
+    b"\\777",
+    b"\\442",
+    b"\\444",
+    b"\\444a",
+    b"\\573",
+    b"\\573$a",
+    b"\\534",
+    b"\\534n",
+    b"\\540",
+    b"\\412",
+    b"\\412$a",
+    b"\\412{$a",
+    b"\\412${",
+    b"\\412\nE",
+    b"\\415\n",
+    b"\\501",
+    b"\\4000",
+    b"\\7777",
+    b"\\600\\477",
+    b"\\4",
+    b"\\7",
+    b"\\40",
+    b"\\77",
+    b"\\40$a",
+    b"\\40\\400",
+    b"\\408",
+    b"\\48",
+    b"\\377",
+    b"\\\\400",
+    b"\\x400",
+    b"0",
+    b"7",
+    b"a",
+    b"$a",
+    b"\n",
+];
+
 /// Pieces of blocks: lines that almost close, and those that do, for the labels `E`, `Ea` and `EOT`.
 pub const LINES: Pieces = &[
     b"a", b"\n", b"\n\n", b"\r\n", b"\n ", b"\n\t", b"\n \t", b"\n\t ", b"\n  ", b"\ne", b"\n e", b"E", b"\nO", b" ",

@@ -7,10 +7,11 @@ use crate::routines::Reading;
 /// Tells what is wrong with the proved answer to a case, if anything.
 pub type Check = fn(reading: &Reading, case: &Case) -> Option<String>;
 
-/// The proved answer is the Rust's: tokens, values, cursor, change of frame, refusal and its place.
+/// The proved answer is the Rust's, or what the manual makes of it: tokens, values, cursor, change of frame, refusal and
+/// its place.
 pub fn same_as_rust(reading: &Reading, case: &Case) -> Option<String> {
     let mut expected = Answer::default();
-    oracle::run(case, &mut expected);
+    reading.expected(case, &mut expected);
     let got = (reading.proved)(case, true);
     (got != expected).then(|| difference("Rust", &expected, "proved", &got))
 }
@@ -96,7 +97,7 @@ pub fn report(reading: &Reading, case: &Case, check: Check) -> String {
     let mut line = Vec::new();
     case.write(&mut line);
     let wrong = check(reading, case).unwrap_or_default();
-    format!("  case   {}\n{}", String::from_utf8_lossy(&line), wrong)
+    format!("  {}\n  case   {}\n{}", reading.name(), String::from_utf8_lossy(&line), wrong)
 }
 
 fn difference(first: &str, expected: &Answer, second: &str, got: &Answer) -> String {

@@ -79,7 +79,7 @@ fn compare(size: &Size, seed: u64) -> Result<u64, String> {
         tries.random_texts(size, &mut random)?;
         tries.long_texts(index, size, &mut random)?;
         tries.all_met()?;
-        let (name, seconds) = (reading.routine.name(), start.elapsed().as_secs_f64());
+        let (name, seconds) = (reading.name(), start.elapsed().as_secs_f64());
         println!("  {}: {} with the Rust, {} parts, {:.1} s", name, tries.rust, tries.parts, seconds);
         count += tries.rust + tries.parts;
     }
@@ -187,7 +187,7 @@ impl Tries {
         let kinds = self.reading.kinds.iter().map(|kind| Met::Kind(*kind));
         let mut ways = kinds.chain(self.reading.refusals.iter().map(|number| Met::Refusal(*number)));
         match ways.find(|way| !self.met.contains_key(way)) {
-            Some(way) => Err(format!("  no random text of {} ended in {:?}", self.reading.routine.name(), way)),
+            Some(way) => Err(format!("  no random text of {} ended in {:?}", self.reading.name(), way)),
             None => Ok(()),
         }
     }

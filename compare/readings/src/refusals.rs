@@ -3,12 +3,15 @@
 use crate::library::{self, Probed, Question};
 
 /// A name, the mode, the lengths of source and label, the position, the refusal.
-const CALLS: [(&str, u32, usize, usize, usize, u32); 13] = [
+const CALLS: [(&str, u32, usize, usize, usize, u32); 16] = [
     ("a whole script", 0, 65_536, 0, 0, 1),
     ("a script too long by one", 0, 65_537, 0, 0, 11),
     ("a script too long, and nothing else right", 9, 65_537, 65, 70_000, 11),
-    ("the last mode", 5, 1, 64, 0, 1),
-    ("a mode too large by one", 6, 1, 1, 0, 10),
+    ("the last mode of the Rust", 5, 1, 64, 0, 1),
+    ("the first mode with the manual's octal escapes", 6, 1, 64, 0, 1),
+    ("the last mode", 8, 1, 64, 0, 1),
+    ("a mode too large by one", 9, 1, 1, 0, 10),
+    ("a mode too large by eight", 16, 1, 1, 0, 10),
     ("the largest mode", u32::MAX, 1, 1, 0, 10),
     ("a position at the end", 1, 5, 0, 5, 1),
     ("a position past the end", 1, 5, 0, 6, 10),

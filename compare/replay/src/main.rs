@@ -1,4 +1,5 @@
-//! Replays stored answers on the proved library: `replay FOLDER`. The folder's files hold cases, those of its `calls/` calls.
+//! Replays stored answers on the proved library: `replay FOLDER`. The folder's files hold cases, those of its `calls/` calls,
+//! and `php/octals.txt` what PHP made of octal escapes.
 
 mod cases_of;
 mod record_files;
@@ -7,10 +8,10 @@ mod refusals;
 use std::path::{Path, PathBuf};
 use std::process::exit;
 
-use cases::{Call, Case, Lookup};
+use cases::{Call, Case, Lookup, Told};
 
 /// The list of calls has at least this many.
-const LEAST_CALLS: usize = 9_600;
+const LEAST_CALLS: usize = 13_600;
 
 fn main() {
     let words: Vec<String> = std::env::args().skip(1).collect();
@@ -31,6 +32,7 @@ fn main() {
         good &= replay_cases(&path);
     }
     good &= replay_calls(&folder.join("calls"));
+    good &= cases::php::compare("replay PHP's octal escapes", &folder.join("php/octals.txt"), told);
     exit(if good { 0 } else { 1 });
 }
 
@@ -78,6 +80,11 @@ fn found(lookup: &Lookup, out: &mut Vec<u8>) {
         Ok(seen) => seen.write(lookup, out),
         Err(wrong) => out.extend_from_slice(format!("fault {}", wrong).as_bytes()),
     }
+}
+
+/// What the library gives, where it has one of the forms.
+fn told(call: &Call) -> Option<Told> {
+    Told::of(call, &host::make(call).ok()?)
 }
 
 /// Appends all that the library gives.

@@ -3,11 +3,11 @@
 use cases::{Function, Span};
 use telling::bytes::counted_on;
 use telling::outcome::{Outcome, Text};
-use telling::session::Session;
+use telling::session::{Choices, Session};
 
 /// What is printed of a script, a line each.
 pub fn rows_of(script: &[u8]) -> Vec<String> {
-    let mut walk = Walk { text: Text::default(), session: Session::fresh(false), rows: Vec::new() };
+    let mut walk = Walk { text: Text::default(), session: Session::fresh(Choices::default()), rows: Vec::new() };
     while walk.step(script) {}
     walk.rows
 }

@@ -4,6 +4,7 @@
 
 pub mod bytes;
 pub mod find;
+pub mod octals;
 pub mod outcome;
 pub mod session;
 pub mod sheet;
@@ -15,7 +16,7 @@ use cases::{Call, Change, Frame, Function, Span, Token, Told};
 
 use bytes::{counted_on, past, START};
 use outcome::{Outcome, Text};
-use session::{frame_of, is_label, sheet_in, Session, MOST_BYTES, MOST_FRAMES, MOST_TOKENS};
+use session::{frame_of, is_label, Choices, Session, MOST_BYTES, MOST_FRAMES, MOST_TOKENS};
 
 /// Tells calls, with tables that are used again from call to call.
 #[derive(Default)]
@@ -133,8 +134,8 @@ fn fresh(call: &Call) -> Told {
     if call.session.len() < SESSION {
         return Told::Short;
     }
-    match sheet_in(call.arguments[0]) {
-        Some(sheet) => done(call, Session::fresh(sheet)),
+    match Choices::of(call.arguments[0]) {
+        Some(choices) => done(call, Session::fresh(choices)),
         None => refused(12, START),
     }
 }

@@ -4,7 +4,8 @@
 use cases::{Answer, Case, Change, Frame, Function, Routine, Span, Token};
 
 use crate::bytes::{past, START};
-use crate::session::{Session, MOST_FRAMES};
+use crate::octals::{has_octals, run_as_manual};
+use crate::session::{Choices, Session, MOST_FRAMES};
 use crate::sheet::{sheet, Sheet};
 use crate::table::{scripting, var_offset, Label, Row, NO_LABEL};
 
@@ -23,13 +24,14 @@ pub struct Text {
     function: Function,
     frame: Frame,
     depth: usize,
-    sheet: bool,
+    choices: Choices,
 }
 
 impl Default for Text {
     fn default() -> Self {
         let (case, answer) = (Case::default(), Answer::default());
-        Text { case, answer, function: Function::Step, frame: Frame::Initial, depth: 1, sheet: false }
+        let choices = Choices::default();
+        Text { case, answer, function: Function::Step, frame: Frame::Initial, depth: 1, choices }
     }
 }
 
@@ -40,7 +42,7 @@ impl Text {
         self.function = function;
         self.frame = frame;
         self.depth = session.depth;
-        self.sheet = session.sheet;
+        self.choices = session.choices;
         self.case.label.clear();
         self.case.label.extend_from_slice(&source[start..start + len]);
         self.case.source.clear();
@@ -68,7 +70,7 @@ impl Text {
             Frame::DoubleQuote => self.routine(Routine::DoubleQuote, 0),
             Frame::ShellExec => self.routine(Routine::ShellExec, 0),
             Frame::Heredoc => self.routine(Routine::Heredoc, 0),
-            Frame::Nowdoc if self.sheet => self.sheet(),
+            Frame::Nowdoc if self.choices.sheet => self.sheet(),
             Frame::Nowdoc => self.routine(Routine::Nowdoc, 0),
             Frame::LookingForVarname => self.routine(Routine::LookingForVarname, 0),
             Frame::LookingForProperty => self.routine(Routine::LookingForProperty, 0),
@@ -96,7 +98,11 @@ impl Text {
     fn routine(&mut self, routine: Routine, passed: usize) -> Outcome {
         self.case.routine = routine;
         self.case.position = passed;
-        oracle::run(&self.case, &mut self.answer);
+        if self.choices.manual && has_octals(routine) {
+            run_as_manual(&mut self.case, &mut self.answer);
+        } else {
+            oracle::run(&self.case, &mut self.answer);
+        }
         let mut tokens = std::mem::take(&mut self.answer.tokens);
         if passed > 0 {
             tokens.iter_mut().for_each(|token| token.span = START);

@@ -1,6 +1,6 @@
 //! A session, from any numbers at all and back (document 01, "Session"; include/puretakoi.h has the layout).
 
-use cases::call::{BYTES, CHOICES, COLUMN, DEPTH, LINE, POSITION, SHEETS, SLOT, SLOTS, TOKENS};
+use cases::call::{BYTES, CHOICES, COLUMN, DEPTH, LINE, OCTAL_MANUAL, POSITION, SHEETS, SLOT, SLOTS, TOKENS};
 use cases::{Change, Frame, Span};
 
 use crate::bytes::{is_identifier, START};
@@ -25,9 +25,26 @@ const FRAMES: [Frame; 9] = [
     Frame::VarOffset,
 ];
 
-/// Whether choices have nowdoc blocks read as sheets; none where a bit is no flag.
-pub fn sheet_in(choices: usize) -> Option<bool> {
-    (choices & !SHEETS == 0).then(|| choices & SHEETS != 0)
+/// What a session's owner chose.
+#[derive(Clone, Copy, Debug, Default, PartialEq, Eq)]
+pub struct Choices {
+    /// Nowdoc blocks are read as sheets.
+    pub sheet: bool,
+    /// An octal escape over 255 is a byte, as the manual has it.
+    pub manual: bool,
+}
+
+impl Choices {
+    /// The choices of a number; none where a bit is no flag.
+    pub fn of(number: usize) -> Option<Choices> {
+        let has = |flag: usize| number & flag != 0;
+        (number & !(SHEETS | OCTAL_MANUAL) == 0).then(|| Choices { sheet: has(SHEETS), manual: has(OCTAL_MANUAL) })
+    }
+
+    fn number(self) -> u32 {
+        let flag = |chosen: bool, flag: usize| if chosen { flag as u32 } else { 0 };
+        flag(self.sheet, SHEETS) | flag(self.manual, OCTAL_MANUAL)
+    }
 }
 
 /// A session whose depth, choices and frames are such; all else may be out of bounds.
@@ -37,15 +54,15 @@ pub struct Session {
     pub depth: usize,
     pub tokens: usize,
     pub bytes: usize,
-    pub sheet: bool,
+    pub choices: Choices,
     /// What each slot is read as: frame, label start, label length.
     slots: [[u32; SLOT]; MOST_FRAMES],
 }
 
 impl Session {
-    pub fn fresh(sheet: bool) -> Session {
+    pub fn fresh(choices: Choices) -> Session {
         let slots = [[Frame::Initial as u32, 0, 0]; MOST_FRAMES];
-        Session { span: START, depth: 1, tokens: 0, bytes: 0, sheet, slots }
+        Session { span: START, depth: 1, tokens: 0, bytes: 0, choices, slots }
     }
 
     /// The session in 199 numbers; none where depth, choices or a slot below the depth is no such thing.
@@ -56,13 +73,13 @@ impl Session {
         if depth == 0 || depth > MOST_FRAMES || !(0..depth).all(is_frame) {
             return None;
         }
-        let sheet = sheet_in(number(CHOICES))?;
+        let choices = Choices::of(number(CHOICES))?;
         let mut slots = [[0; SLOT]; MOST_FRAMES];
         for (slot, lent) in slots.iter_mut().zip(numbers[SLOTS..].chunks_exact(SLOT)) {
             *slot = written_back(lent);
         }
         let span = Span { line: number(LINE), column: number(COLUMN), position: number(POSITION) };
-        Some(Session { span, depth, tokens: number(TOKENS), bytes: number(BYTES), sheet, slots })
+        Some(Session { span, depth, tokens: number(TOKENS), bytes: number(BYTES), choices, slots })
     }
 
     /// Puts what a step has changed at the start of a slice: the numbers before the slots, and the slot of a frame that was entered or
@@ -90,7 +107,7 @@ impl Session {
         numbers[DEPTH] = self.depth as u32;
         numbers[TOKENS] = self.tokens as u32;
         numbers[BYTES] = self.bytes as u32;
-        numbers[CHOICES] = if self.sheet { SHEETS as u32 } else { 0 };
+        numbers[CHOICES] = self.choices.number();
     }
 
     pub fn top(&self) -> (Frame, Label) {

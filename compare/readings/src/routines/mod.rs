@@ -10,10 +10,13 @@ mod single;
 
 use cases::pieces::Pieces;
 use cases::{Answer, Case, Routine};
+use telling::octals::run_as_manual;
 
 /// One routine.
 pub struct Reading {
     pub routine: Routine,
+    /// Octal escapes are read as the manual has them, and not as the Rust.
+    pub as_manual: bool,
     /// The proved library's answer to a case. Where the end is not announced, a wait is refusal 6.
     pub proved: fn(case: &Case, end: bool) -> Answer,
     /// Few bytes, for texts of many.
@@ -37,12 +40,24 @@ pub struct Reading {
 }
 
 impl Reading {
+    pub fn name(&self) -> String {
+        format!("{}{}", self.routine.name(), if self.as_manual { " with the manual's octal escapes" } else { "" })
+    }
+
+    /// Replaces the answer by the Rust's.
+    pub fn expected(&self, case: &Case, answer: &mut Answer) {
+        match self.as_manual {
+            true => run_as_manual(&mut case.clone(), answer),
+            false => oracle::run(case, answer),
+        }
+    }
+
     pub fn has_label(&self) -> bool {
         !self.labels[0].is_empty()
     }
 }
 
-pub const READINGS: [&Reading; 7] = [
+pub const READINGS: [&Reading; 10] = [
     &single::READING,
     &double::READING,
     &double_quote::READING,
@@ -50,4 +65,7 @@ pub const READINGS: [&Reading; 7] = [
     &heredoc::READING,
     &nowdoc::READING,
     &number::READING,
+    &double::MANUAL,
+    &double_quote::MANUAL,
+    &heredoc::MANUAL,
 ];

@@ -8,6 +8,7 @@ use crate::text;
 
 pub const READING: Reading = Reading {
     routine: Routine::Nowdoc,
+    as_manual: false,
     proved,
     narrow: b"\n \tEea\r$",
     wide: b"\n \tE\r\\${}[->?a01478exu_n\x80",

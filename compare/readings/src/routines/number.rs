@@ -9,6 +9,7 @@ use crate::text::{self, Ending};
 
 pub const READING: Reading = Reading {
     routine: Routine::Number,
+    as_manual: false,
     proved,
     narrow: b"01._eE+-xb",
     wide: b"0179_.eE+-xXbBoOaFg; \n",

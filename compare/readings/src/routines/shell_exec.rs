@@ -8,6 +8,7 @@ use crate::text::{self, Ending, QUOTE};
 
 pub const READING: Reading = Reading {
     routine: Routine::ShellExec,
+    as_manual: false,
     proved,
     narrow: b"`\\${}[->?a0\n",
     wide: b"`\\${}[->?a01478exu_\n\r\t \x80",

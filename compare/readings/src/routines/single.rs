@@ -8,6 +8,7 @@ use crate::text::{self, Ending, QUOTE};
 
 pub const READING: Reading = Reading {
     routine: Routine::Single,
+    as_manual: false,
     proved,
     narrow: b"'\\\"an\n$\x80",
     wide: b"'\\${}[->?a01478exu_\n\r\t \x80",

@@ -9,6 +9,7 @@ mod finds;
 mod forged;
 mod hosts;
 mod limits;
+mod octals;
 mod routines;
 mod sessions;
 mod walks;
@@ -28,8 +29,8 @@ const ORIGIN: &str =
      # compare/telling tells of documents 01 and 02. The library had no part in it. compare/oracle/make-answers makes it again.";
 
 /// The list has at least and at most this many calls.
-const LEAST: usize = 9_600;
-const MOST: usize = 10_600;
+const LEAST: usize = 13_600;
+const MOST: usize = 14_600;
 
 /// A group's name, what it holds, and its calls.
 type Group = (&'static str, &'static str, fn(&mut Random, &mut Teller) -> Vec<Call>);
@@ -40,6 +41,12 @@ type Line = (Option<&'static str>, Call);
 /// The name of the group of `ends`, and what it holds.
 const ENDS: (&str, &str) =
     ("ends", "where the step or reading ended that wrote a record; literals and comments, each among others and alone");
+
+/// The name of the group of `octals`, and what it holds.
+const OCTALS: (&str, &str) = (
+    "octals",
+    "octal escapes as the Rust and as the manual has them, the choice that every call keeps, and what is none",
+);
 
 const EDGES: [Group; 9] = [
     ("parts", "parts with more announced, which wait or are settled, in each mode and reading", edges::parts),
@@ -90,6 +97,8 @@ fn main() -> io::Result<()> {
     }
     let lines = ends::lines(&mut teller);
     write_group(folder, ENDS, &lines, &mut teller, &mut met)?;
+    let lines = octals::lines(&mut teller);
+    write_group(folder, OCTALS, &lines, &mut teller, &mut met)?;
     write_finds(folder, &mut teller, &mut met)?;
     assert!(met.calls >= LEAST && met.calls <= MOST, "the list has {} calls", met.calls);
     assert_eq!(met.refusals, (1..=13).collect(), "each refusal is met");
