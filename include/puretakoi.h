@@ -35,10 +35,11 @@ extern "C" {
 #define PURETAKOI_MOST_FRAMES 64    /* of a mode stack */
 #define PURETAKOI_MOST_LABEL 64     /* bytes of a text block's label */
 
-/* ---- A session: 199 numbers. A longer slice is as good; what lies after is not touched. Between calls a host may set both marks to
- * 0: list and pool are then empty. The top frame is session[PURETAKOI_SLOTS + PURETAKOI_SLOT * (session[PURETAKOI_DEPTH] - 1)].
- * Slots above the depth mean nothing, nor do a label's two numbers where the frame has none: a call may change such numbers, or leave
- * them. */
+/* ---- A session: 199 numbers. A longer slice is as good; what lies after is not touched. Between calls a host may set
+ * both marks to 0: list and pool are then empty. It may also set other choices: a call goes by those of its session,
+ * and changes none. The top frame is session[PURETAKOI_SLOTS + PURETAKOI_SLOT * (session[PURETAKOI_DEPTH] - 1)]. Slots
+ * above the depth mean nothing, nor do a label's two numbers where the frame has none: a call may change such numbers,
+ * or leave them. */
 
 #define PURETAKOI_SESSION 199 /* how many numbers a session has */
 #define PURETAKOI_POSITION 0  /* bytes of the source that are read */
@@ -54,6 +55,10 @@ extern "C" {
 #define PURETAKOI_CHOICE_SHEETS 1 /* nowdoc blocks are read as sheets: the closing line's indentation comes off each row, and no */
                                   /* letter, digit, _ or byte from 0x80 on stands after a closing label; with more announced a */
                                   /* part that ends in one waits. Else they are read as the lexer that was carried over does */
+#define PURETAKOI_CHOICE_OCTAL_MANUAL 2 /* an octal escape over 377 is the byte of its low eight bits, as the PHP */
+                                        /* manual has it: \400 is byte 0, \777 is 255. The byte is text and no more: */
+                                        /* \442 closes no string. Else such an escape is refused with 3, as the lexer */
+                                        /* that was carried over does */
 
 /* Other names of these numbers, which older hosts use. */
 #define PURETAKOI_READING PURETAKOI_CHOICES
@@ -98,6 +103,9 @@ extern "C" {
  *   17, 18        the text between the quotes, each escape as what it is for    0
  *   19, 20        the number as it stands, without its _, and e for E           0
  *   21            the comment as it stands                                      0
+ *
+ * An octal escape over 377, in double quotes or a heredoc, is for one byte or is refused with 3, by the session's
+ * choice.
  *
  * A StringPart is the text, in double quotes and heredocs with each escape as what it is for, in backticks as it stands,
  * in nowdocs as it stands or as a sheet. The line break before a closing label is not in it, but the CR of a CRLF there
@@ -160,7 +168,9 @@ extern "C" {
 
 #define PURETAKOI_UNEXPECTED_END_OF_FILE 1  /* something is still open where the source ends */
 #define PURETAKOI_INVALID_UNICODE_ESCAPE 2  /* \u{..} names no code point */
-#define PURETAKOI_INVALID_OCTAL_ESCAPE 3    /* an octal escape is over 377 */
+#define PURETAKOI_INVALID_OCTAL_ESCAPE 3    /* an octal escape is over 377: the place is after its third digit. Never */
+                                            /* with PURETAKOI_CHOICE_OCTAL_MANUAL, which reads it as a byte: the low */
+                                            /* eight bits of the three digits before the place */
 #define PURETAKOI_INVALID_DOC_INDENTATION 4 /* a closing line mixes spaces and tabs */
 #define PURETAKOI_NO_PROPERTY 5             /* neither arrow nor name where a property is looked for */
 #define PURETAKOI_WAIT 6                    /* lend more of the script, or announce its end; the open text is then read again */
@@ -178,7 +188,9 @@ extern "C" {
  * then alone, but for `puretakoi_walk`. A session of fewer than 199 numbers or an answer of fewer than 5 is refused first, with 10,
  * and nothing is written, the answer neither: look at the number given back. `puretakoi_fresh` has no answer. */
 
-/* A session before its script, with its choices: 0, or flags added up. Refused: fewer than 199 numbers (10), a bit that is no flag (12). */
+/* A session before its script, with its choices: 0, or flags added up, as in PURETAKOI_CHOICE_SHEETS |
+ * PURETAKOI_CHOICE_OCTAL_MANUAL. Refused, with nothing written: fewer than 199 numbers (10), a bit that is no flag
+ * (12). A library that is older than this header may not have each flag: then the choice is refused with 12. */
 uint32_t puretakoi_fresh(uint32_t choices, uint32_t *session, size_t session_len);
 
 /* One step from the cursor on. `end` is 0 where more of the script may come; any other number announces the end. New records and value

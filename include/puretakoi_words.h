@@ -80,7 +80,7 @@ static inline const char *puretakoi_refusal_advice(uint32_t refusal) {
     case PURETAKOI_INVALID_UNICODE_ESCAPE:
         return "Write hex digits between the braces, up to 10FFFF and not from D800 to DFFF.";
     case PURETAKOI_INVALID_OCTAL_ESCAPE:
-        return "Write no more than 377 behind the backslash.";
+        return "Write at most 377, or choose octals as the manual has them: the low eight bits are then the byte.";
     case PURETAKOI_INVALID_DOC_INDENTATION:
         return "Use spaces alone or tabs alone before the label.";
     case PURETAKOI_NO_PROPERTY:

@@ -1,7 +1,8 @@
 /* Writes the literal or the comment under a byte of a script as it stands there, with its quotes and nothing after it:
  * cut [FILE] BYTE, where bytes count from 0 and a script without FILE comes from standard input. A literal is a number
- * or a quoted string without a variable in it; text blocks are none. Of a script that is refused, what was read before
- * can be cut. Where nothing can be cut, a line on standard error tells what is there and what to do.
+ * or a quoted string without a variable in it; text blocks are none. An octal escape over 377 is taken, as the manual
+ * has it. Of a script that is refused, what was read before can be cut. Where nothing can be cut, a line on standard
+ * error tells what is there and what to do.
  * Status: 0 for what is cut, 1 for a byte that is not read because the script is refused, 2 for a wrong call or file
  * and where no literal or comment has the byte. C or C++. */
 #include <errno.h>
@@ -59,7 +60,7 @@ static int cut(size_t byte, const uint32_t *record) {
 
 /* The answer for a script of so many bytes; the program's status. */
 static int answer_for(size_t len, size_t byte) {
-    puretakoi_fresh(PURETAKOI_CHOICE_SHEETS, session, PURETAKOI_SESSION);
+    puretakoi_fresh(PURETAKOI_CHOICE_SHEETS | PURETAKOI_CHOICE_OCTAL_MANUAL, session, PURETAKOI_SESSION);
     uint32_t refusal = puretakoi_walk(script, len, 1, UINT32_MAX, session, PURETAKOI_SESSION, list, NUMBERS, pool,
                                       sizeof pool, answer, PURETAKOI_ANSWER);
     if (refusal != 0 && session[PURETAKOI_POSITION] <= byte) {

@@ -5,7 +5,7 @@ static uint8_t script[PURETAKOI_MOST_BYTES + 1], pool[PURETAKOI_MOST_BYTES];
 static uint32_t session[PURETAKOI_SESSION], list[2 * PURETAKOI_RECORD], answer[PURETAKOI_ANSWER];
 int main(void) {
     size_t len = fread(script, 1, sizeof script, stdin);
-    puretakoi_fresh(PURETAKOI_CHOICE_SHEETS, session, PURETAKOI_SESSION);
+    puretakoi_fresh(PURETAKOI_CHOICE_SHEETS | PURETAKOI_CHOICE_OCTAL_MANUAL, session, PURETAKOI_SESSION);
     while (answer[PURETAKOI_ANSWER_WAY] == PURETAKOI_DONE) {
         uint32_t frame = session[PURETAKOI_SLOTS + PURETAKOI_SLOT * (session[PURETAKOI_DEPTH] - 1)];
         session[PURETAKOI_TOKENS] = session[PURETAKOI_BYTES] = 0; /* list and pool are empty again */

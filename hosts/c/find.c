@@ -1,8 +1,8 @@
 /* Prints which token is under a byte of a script: find [FILE] BYTE, where bytes count from 0 and a script without FILE
- * comes from standard input. The token is the last one at or before the byte, nowdoc blocks read as sheets. A line has
- * its place, its number from 0, its kind, how many records were looked at and at which byte its step ended, or `none`
- * and the looks; its value follows. Of a script that is refused the refusal comes first, and the answer is for what
- * was read before.
+ * comes from standard input. The token is the last one at or before the byte, nowdoc blocks read as sheets and octal
+ * escapes over 377 as the manual has them. A line has its place, its number from 0, its kind, how many records were
+ * looked at and at which byte its step ended, or `none` and the looks; its value follows. Of a script that is refused
+ * the refusal comes first, and the answer is for what was read before.
  * Status: 0 for a script read to its end, 1 for one refused, 2 for a wrong call or file. */
 #include <errno.h>
 #include <stdio.h>
@@ -48,7 +48,7 @@ static void print_found(void) {
 
 /* The answer for a script of so many bytes; the program's status. */
 static int answer_for(size_t len, size_t byte) {
-    puretakoi_fresh(PURETAKOI_CHOICE_SHEETS, session, PURETAKOI_SESSION);
+    puretakoi_fresh(PURETAKOI_CHOICE_SHEETS | PURETAKOI_CHOICE_OCTAL_MANUAL, session, PURETAKOI_SESSION);
     uint32_t refusal = puretakoi_walk(script, len, 1, UINT32_MAX, session, PURETAKOI_SESSION, list, NUMBERS, pool,
                                       sizeof pool, answer, PURETAKOI_ANSWER);
     if (refusal != 0) {

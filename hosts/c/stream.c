@@ -140,7 +140,7 @@ static size_t enough(const struct host *host) {
 static int read_script(struct host *host, FILE *in, const struct request *request) {
     enum state state = WAITING;
     size_t wanted = 1;
-    puretakoi_fresh(0, host->session, PURETAKOI_SESSION);
+    puretakoi_fresh(0, host->session, PURETAKOI_SESSION); /* no choice is made, as in the program `rows` */
     while (state == WAITING) {
         size_t room = sizeof host->script - host->filled;
         size_t asked = request->piece < room ? request->piece : room;

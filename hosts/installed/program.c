@@ -1,4 +1,5 @@
-/* Prints the tokens of the sheet on standard input and its refusal in words: C99 and C++, with what is installed. */
+/* Prints the tokens of the sheet on standard input, octal escapes as the manual has them, and its refusal in words:
+ * C99 and C++, with what is installed. */
 #include <puretakoi_words.h>
 #include <stdio.h>
 
@@ -18,7 +19,7 @@ static void print_token(const uint32_t *record) {
 
 int main(void) {
     size_t length = fread(script, 1, sizeof script, stdin);
-    puretakoi_fresh(PURETAKOI_CHOICE_SHEETS, session, PURETAKOI_SESSION);
+    puretakoi_fresh(PURETAKOI_CHOICE_SHEETS | PURETAKOI_CHOICE_OCTAL_MANUAL, session, PURETAKOI_SESSION);
     uint32_t refusal = puretakoi_walk(script, length, 1, UINT32_MAX, session, PURETAKOI_SESSION, list,
                                       64 * PURETAKOI_RECORD, pool, sizeof pool, answer, PURETAKOI_ANSWER);
     for (uint32_t at = 0; at < session[PURETAKOI_TOKENS]; at++)

@@ -1,4 +1,7 @@
-"""Prints the tokens of the sheet on standard input and its refusal in words, by the module that is installed."""
+"""Prints the tokens of the sheet on standard input, octal escapes as the manual has them, and its refusal in words.
+
+It uses the module that is installed.
+"""
 
 import sys
 
@@ -8,7 +11,7 @@ import puretakoi
 def main() -> None:
     refused = None
     try:
-        read = puretakoi.tokens(sys.stdin.buffer.read(), sheet=True)
+        read = puretakoi.tokens(sys.stdin.buffer.read(), sheet=True, octal="manual")
     except puretakoi.Refusal as refusal:
         read, refused = refusal.tokens, refusal
     for token in read:

@@ -1,13 +1,15 @@
-//! Prints the tokens of the sheet on standard input and its refusal in words, by the crate that is named as a path.
+//! Prints the tokens of the sheet on standard input, octal escapes as the manual has them, and its refusal in words,
+//! by the crate that is named as a path.
 
-use puretakoi::{Kind, Reading, Tokens};
+use puretakoi::{Choices, Kind, Octal, Reading, Tokens};
 use std::io::{self, Read};
 
 fn main() -> io::Result<()> {
     let mut script = Vec::new();
     io::stdin().read_to_end(&mut script)?;
+    let choices = Choices { octals: Octal::Manual, ..Choices::from(Reading::Sheet) };
     let mut refused = None;
-    for token in Tokens::new(&script, Reading::Sheet) {
+    for token in Tokens::new(&script, choices) {
         match token {
             Ok(token) => {
                 let (end, value) = (token.end.unwrap_or(0), String::from_utf8_lossy(&token.value));

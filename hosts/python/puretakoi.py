@@ -10,6 +10,10 @@
 
 What can't be read raises Refusal. The library is the one that PURETAKOI_LIBRARY names, else the one that is installed
 with this module, else the one that the system's loader finds. A Stream is for one thread at a time.
+
+A call that reads a script takes two choices. With sheet=True nowdoc blocks are read as sheets, else as the lexer that
+was carried over does. With octal="manual" an octal escape over 377, in double quotes or a heredoc, is one byte, as the
+PHP manual has it: \\400 is byte 0, \\777 is 255. With octal="rust" it is refused (3), as that lexer does.
 """
 
 from __future__ import annotations
@@ -21,7 +25,7 @@ from ctypes import POINTER, c_char_p, c_size_t, c_uint32, c_void_p
 from pathlib import Path
 from typing import Any, Iterator, List, NamedTuple, Optional, Sequence, Tuple
 
-from puretakoi_words import WORDS as _WORDS
+import puretakoi_words as _words
 from puretakoi_words import Kind, Reason
 
 __version__ = "0.1.0"
@@ -30,6 +34,7 @@ __all__ += ["blocks", "file_to_list", "find", "list_to_file", "records", "tokens
 
 MOST_BYTES = 65536
 _SONAME = "libpuretakoi.so.0"
+_CHOICE_SHEETS, _CHOICE_OCTAL_MANUAL = 1, 2
 _SESSION, _POSITION, _LINE, _DEPTH, _TOKENS, _BYTES, _SLOTS, _SLOT = 199, 0, 1, 3, 4, 5, 7, 3
 _RECORD, _FOUND, _PLACES, _LONG, _NOWDOC, _FINISHED, _MOST_NUMBER = 8, 4, 512, 4096, 5, 1, 0xFFFFFFFF
 
@@ -99,14 +104,21 @@ class Under(NamedTuple):
 
 
 class Refusal(Exception):
-    """Why and where a script is refused, and the tokens that the refused call had read before."""
+    """Why and where a script is refused, and the tokens that the refused call had read before.
 
-    def __init__(self, number: int, line: int, column: int, position: int, read: Sequence[Token] = ()) -> None:
+    Of an octal escape over 377 `octal_byte` is the byte that it is with octal="manual"; else it is None.
+    """
+
+    def __init__(
+        self, number: int, line: int, column: int, position: int, read: Sequence[Token] = (), script: bytes = b""
+    ) -> None:
         self.number = Reason(number)
         self.line, self.column, self.position = line, column, position
-        self.name, self.meaning, self.advice = _WORDS[self.number]
+        self.name, self.meaning, self.advice = _words.WORDS[self.number]
         self.tokens = list(read)
-        super().__init__(f"refused {number} at {line}:{column}: {self.meaning}. {self.advice}")
+        self.octal_byte = _words.octal_byte(script, position) if number == Reason.INVALID_OCTAL_ESCAPE else None
+        said = f"refused {number} at {line}:{column}: {self.meaning}. {self.advice}"
+        super().__init__(said + _words.octal_words(self.octal_byte))
 
 
 def _find_library() -> ctypes.CDLL:
@@ -138,14 +150,21 @@ def _declared(library: ctypes.CDLL) -> ctypes.CDLL:
 _library = _declared(_find_library())
 
 
+def _choices(sheet: bool, octal: str) -> int:
+    """The choices as a session has them: flags, added up."""
+    if octal not in ("rust", "manual"):
+        raise ValueError(f"octal is {octal!r}: choose 'rust' or 'manual'")
+    return (_CHOICE_SHEETS if sheet else 0) + (_CHOICE_OCTAL_MANUAL if octal == "manual" else 0)
+
+
 class Stream:
     """Reads a script that comes in parts of any size, at most 65,536 bytes in all.
 
     A token comes as soon as it is settled; that of an open text of more than 4,096 bytes when the text has doubled, or at the end.
     """
 
-    def __init__(self, *, sheet: bool = False) -> None:
-        """Reads nowdoc blocks as sheets where asked, else as the lexer that was carried over does."""
+    def __init__(self, *, sheet: bool = False, octal: str = "rust") -> None:
+        """A stream before its first part, with its choices."""
         self._source = b""
         self._is_ended = self._is_finished = False
         self._enough = 0
@@ -153,7 +172,8 @@ class Stream:
         self._list = (c_uint32 * (_RECORD * _PLACES))()
         self._pool = ctypes.create_string_buffer(MOST_BYTES)
         self._answer = (c_uint32 * 5)()
-        _library.puretakoi_fresh(int(sheet), self._session, _SESSION)
+        if _library.puretakoi_fresh(_choices(sheet, octal), self._session, _SESSION):
+            raise RuntimeError(f"the library {_library._name} is older than this module: install both together")
 
     def feed(self, part: bytes) -> List[Token]:
         """Adds a part, and gives the tokens that can be read."""
@@ -202,7 +222,7 @@ class Stream:
     def _refusal(self, number: int, read: Sequence[Token] = ()) -> Refusal:
         """A refusal at the answer's place."""
         line, column, position = self._answer[2:5]
-        return Refusal(number, line, column, position, read)
+        return Refusal(number, line, column, position, read, self._source)
 
     def _take(self) -> List[Token]:
         """The tokens of the tables, which are empty again."""
@@ -216,21 +236,29 @@ class Stream:
         return self._session[start : start + _SLOT]
 
 
-def _whole(script: bytes, sheet: bool) -> Stream:
+def _whole(script: bytes, sheet: bool, octal: str) -> Stream:
     """A stream with all of a script; of too large a one no more than shows it."""
-    stream = Stream(sheet=sheet)
+    stream = Stream(sheet=sheet, octal=octal)
     stream._source = bytes(script[: MOST_BYTES + 1])
     return stream
 
 
-def tokens(script: bytes, *, sheet: bool = False) -> List[Token]:
+def tokens(script: bytes, *, sheet: bool = False, octal: str = "rust") -> List[Token]:
     """All tokens of a script. Refusal.tokens has those before a refusal."""
-    return _whole(script, sheet).finish()
+    return _whole(script, sheet, octal).finish()
 
 
-def blocks(script: bytes) -> Iterator[Block]:
-    """The nowdoc blocks of a sheet, the closing line's indentation taken off each row; those before a refusal too."""
-    stream = _whole(script, sheet=True)
+def blocks(script: bytes, *, octal: str = "manual") -> Iterator[Block]:
+    """The nowdoc blocks of a sheet, the closing line's indentation taken off each row; those before a refusal too.
+
+    It is for proofreaders, as `puretakoi view` is, and reads octal escapes as the manual has them: PHP takes a legend
+    with one over 377, which changes no row. With octal="rust" the sheet is refused there, and later blocks are lost.
+    """
+    return _blocks(_whole(script, True, octal))
+
+
+def _blocks(stream: Stream) -> Iterator[Block]:
+    """The blocks of a stream with all of a script."""
     more = True
     while more:
         (frame, start, length), line = stream._top(), stream._session[_LINE]
@@ -238,7 +266,7 @@ def blocks(script: bytes) -> Iterator[Block]:
         read = stream._take()
         if frame == _NOWDOC:
             lines = stream._session[_LINE] - line
-            yield Block(line, bytes(script[start : start + length]), _rows(read, lines))
+            yield Block(line, stream._source[start : start + length], _rows(read, lines))
 
 
 def _rows(read: List[Token], lines: int) -> List[bytes]:
@@ -315,9 +343,9 @@ def _size(number: int) -> int:
 class TokenList(Sequence[Token]):
     """All tokens of a script, in one list of the library, which can be asked for the one under a byte."""
 
-    def __init__(self, script: bytes, *, sheet: bool = False) -> None:
+    def __init__(self, script: bytes, *, sheet: bool = False, octal: str = "rust") -> None:
         """Reads a script as `tokens` does, by single steps, and is refused as it is."""
-        stream, more = _whole(script, sheet), True
+        stream, more = _whole(script, sheet, octal), True
         stream._list = (c_uint32 * (_RECORD * (len(stream._source) + 1)))()
         self._script, self._list = stream._source, stream._list
         self._steps: List[Tuple[range, bool]] = []  # of each token: what its step passed, and whether that is a sheet

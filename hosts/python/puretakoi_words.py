@@ -2,8 +2,9 @@
 
 from __future__ import annotations
 
+import re
 from enum import IntEnum
-from typing import Dict, Tuple
+from typing import Dict, Optional, Tuple
 
 
 class Kind(IntEnum):
@@ -65,7 +66,7 @@ WORDS: Dict[Reason, Tuple[str, str, str]] = {
     Reason.INVALID_OCTAL_ESCAPE: (
         "invalid octal escape",
         "an octal escape is over 377",
-        "Write no more than 377 behind the backslash.",
+        "Write at most 377, or choose octals as the manual has them: the low eight bits are then the byte.",
     ),
     Reason.INVALID_DOC_INDENTATION: (
         "invalid indentation of a closer",
@@ -114,3 +115,14 @@ WORDS: Dict[Reason, Tuple[str, str, str]] = {
         "Indent the row as the closing line is, or the closing line less.",
     ),
 }
+
+
+def octal_byte(script: bytes, position: int) -> Optional[int]:
+    """The byte of the octal escape over 377 that ends at a position, its low eight bits; None where none does."""
+    escape = re.fullmatch(rb"\\([4-7][0-7]{2})", script[max(position - 4, 0) : position])
+    return int(escape[1], 8) & 0xFF if escape else None
+
+
+def octal_words(byte: Optional[int]) -> str:
+    """What is told of a refused octal escape, beside the advice, where its byte is known."""
+    return "" if byte is None else f" With octal='manual' \\{0o400 + byte:o} is byte {byte}."

@@ -145,7 +145,7 @@ class Refusals(unittest.TestCase):
         for place, function in enumerate(("refusal_name", "refusal_meaning", "refusal_advice")):
             body = words.split(f"puretakoi_{function}(")[1].split("\n}\n")[0]
             in_c = dict(re.findall(r'case PURETAKOI_(\w+):\s+return "(.*)";', body))
-            here = {reason.name: said[place] for reason, said in puretakoi._WORDS.items()}
+            here = {reason.name: said[place] for reason, said in puretakoi._words.WORDS.items()}
             self.assertEqual(here, in_c)
 
     def test_the_version_is_the_headers(self):

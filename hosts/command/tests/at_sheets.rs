@@ -15,7 +15,7 @@ use command::reading::sheet::Sheet;
 use command::reading::warning::Warning;
 use common::json::{self, text, Value};
 use common::{call, call_on, empty_folder, run, sample, scripts, tests_folder, word};
-use puretakoi::{Reading, TokenList};
+use puretakoi::{Choices, Octal, Reading, TokenList};
 
 /// The rows that `view` prints, block by block.
 fn shown_rows(path: &str) -> Vec<Vec<String>> {
@@ -53,7 +53,7 @@ fn check_cells(path: &PathBuf) -> usize {
     let script = fs::read(path).unwrap();
     let (sheet, blocks) = (Sheet::read(&script), shown_rows(word(path)));
     let lines = with_lf_lines(&script).unwrap_or_else(|| script.clone());
-    let tokens = TokenList::new(&lines, Reading::Sheet);
+    let tokens = TokenList::new(&lines, Choices { nowdocs: Reading::Sheet, octals: Octal::Manual });
     let mut met = BTreeSet::new();
     for (byte, here) in script.iter().enumerate() {
         let told = Pointed::new(&lines, &tokens, Some(&sheet), byte).text("a.php", None);
@@ -337,16 +337,17 @@ fn wild_bytes() {
         let place = random.below(script.len() + 1);
         script.insert(place, random.below(256) as u8);
         let script = with_lf_lines(&script).unwrap_or(script);
-        let sheet = Some(Sheet::read(&script)).filter(|_| random.below(2) > 0);
-        let reading = if sheet.is_some() { Reading::Sheet } else { Reading::Ported };
-        let tokens = TokenList::new(&script, reading);
+        let octals = [Octal::Rust, Octal::Manual][random.below(2)];
+        let sheet = Some(Sheet::read_by(&script, octals)).filter(|_| random.below(2) > 0);
+        let choices = Choices { nowdocs: if sheet.is_some() { Reading::Sheet } else { Reading::Ported }, octals };
+        let tokens = TokenList::new(&script, choices);
         for _ in 0..8 {
             let byte = random.below(script.len() + 1);
             let pointed = Pointed::new(&script, &tokens, sheet.as_ref(), byte);
             let told = pointed.text("a.php", [None, Some(12)][random.below(2)]);
             assert!(!told.chars().any(|letter| letter.is_control() && letter != '\n'), "{:?}: {}", script, told);
             assert_eq!(pointed.status(), status(&tokens, sheet.as_ref(), byte), "{} of {:?}", byte, script);
-            let object = pointed_json::object("a.php", reading, &pointed);
+            let object = pointed_json::object("a.php", choices, &pointed);
             let object = json::read(object.trim_end()).unwrap_or_else(|fault| panic!("{:?}: {}", script, fault));
             check_token(&script, byte, &object);
         }

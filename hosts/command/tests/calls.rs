@@ -5,12 +5,12 @@ mod common;
 use common::{call, call_on, empty_folder, run, word};
 
 const VIEW: &str = "usage: puretakoi view [--text|--braille|--json] [--html FILE] [--brf FILE] [-w COLUMNS] [-j N] \
-                    [--refused-first] [--strict] PATH..";
-const CHECK: &str = "usage: puretakoi check [--strict] [--json] [-j N] PATH..";
-const AT: &str = "usage: puretakoi at [--ported] [--json] [-w COLUMNS] FILE LINE:COLUMN|BYTE";
-const CUT: &str = "usage: puretakoi cut [--ported] FILE LINE:COLUMN|BYTE";
-const TOKENS: &str = "usage: puretakoi tokens [--sheet] [--json|--numbers] [-p PIECE] [FILE]";
-const RECORDS: &str = "usage: puretakoi records [--sheet|--print] FILE..";
+                    [--refused-first] [--strict] [--octal rust|manual] PATH..";
+const CHECK: &str = "usage: puretakoi check [--strict] [--json] [-j N] [--octal rust|manual] PATH..";
+const AT: &str = "usage: puretakoi at [--ported] [--json] [-w COLUMNS] [--octal rust|manual] FILE LINE:COLUMN|BYTE";
+const CUT: &str = "usage: puretakoi cut [--ported] [--octal rust|manual] FILE LINE:COLUMN|BYTE";
+const TOKENS: &str = "usage: puretakoi tokens [--sheet] [--json|--numbers] [-p PIECE] [--octal rust|manual] [FILE]";
+const RECORDS: &str = "usage: puretakoi records [--sheet|--print] [--octal rust|manual] FILE..";
 const ALL: &str = "usage: puretakoi VERB [OPTION..] PATH..";
 
 const FILE: &str = "wants the path of a file to write behind it";
@@ -49,6 +49,22 @@ fn a_wrong_number() {
         let option = words[1].split('=').next().unwrap();
         check_wrong(words, &format!("{} wants a number from 1 on behind it", option), TOKENS);
     }
+}
+
+/// A wrong word behind --octal, none, and one beside --print, which reads no script.
+#[test]
+fn a_wrong_octal() {
+    let verbs = [("view", VIEW), ("check", CHECK), ("at", AT), ("cut", CUT), ("tokens", TOKENS), ("records", RECORDS)];
+    for (verb, usage) in verbs {
+        for word in ["php", "Rust", "", "rust,manual", "2"] {
+            check_wrong(&[verb, "--octal", word, "sheets/tabs.php"], "--octal wants rust or manual behind it", usage);
+            let sign = format!("--octal={}", word);
+            check_wrong(&[verb, &sign, "sheets/tabs.php"], "--octal wants rust or manual behind it", usage);
+        }
+        check_wrong(&[verb, "sheets/tabs.php", "--octal"], "--octal wants rust or manual behind it", usage);
+    }
+    let both = "--print and --octal don't go together: give one of them";
+    check_wrong(&["records", "--print", "--octal", "manual", "a.records"], both, RECORDS);
 }
 
 #[test]

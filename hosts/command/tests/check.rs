@@ -110,8 +110,8 @@ fn in_trouble() -> Sheet {
 
 #[test]
 fn all_findings_of_a_sheet_in_the_order_of_their_places() {
-    let octal =
-        "a.php:1:3: error: refused 3: an octal escape is over 377. Write no more than 377 behind the backslash.\n";
+    let octal = "a.php:1:3: error: refused 3: an octal escape is over 377. Write at most 377, or choose octals as the \
+                 manual has them: the low eight bits are then the byte.\n";
     let large =
         "a.php:4:1: error: refused 11: there are more than 65,536 bytes of script or pool, or more than 65,537 \
                  tokens. Divide the script into smaller ones. It stands behind another refusal, where the reading \

@@ -14,7 +14,7 @@ use command::commands::pointed::Pointed;
 use command::reading::form::with_lf_lines;
 use command::reading::sheet::Sheet;
 use common::{call, call_for_bytes, call_on, empty_folder, sample, scripts, tests_folder, word, Run};
-use puretakoi::{kinds, Reading, Token, TokenList};
+use puretakoi::{kinds, Choices, Octal, Reading, Token, TokenList};
 
 /// A literal of each kind and a comment of each form, with bytes that are no characters.
 const LITERALS: &[u8] = b"<?php 'it\\'s\r\n' . \"\\x41\xFF\0\" . 1_0.5e3 . 0x1F /* \"\n' */ . 'z' # it's\r\n, 7// end";
@@ -149,10 +149,29 @@ fn a_refused_script() {
     }
     let octal = b"<?php 'a' . \"\\777\" . 'b'";
     check(octal, "1:7", b"'a'");
-    let (status, out, errors) = call_for_bytes(&["cut", "-", "1:22"], octal);
-    let want = "puretakoi: nothing can be cut at 1:22, byte 21 of standard input: nothing is read from 1:13 on: \
-                refused 3: ";
-    assert_eq!((status, out.len(), errors.starts_with(want)), (Some(1), 0, true), "{}", errors);
+    let why = "1:22, byte 21 of standard input: nothing is read from 1:13 on: refused 3: an octal escape is over 377. \
+               Write at most 377, or choose octals as the manual has them: the low eight bits are then the byte.";
+    let (place, manual) =
+        (" It stands in the double-quoted string that opens at 1:13.", " With --octal manual \\777 is byte 255.");
+    for (option, told) in [("--octal=rust", place), ("--ported", "")] {
+        let got = call_for_bytes(&["cut", "--octal", "rust", option, "-", "1:22"], octal);
+        let want = format!("puretakoi: nothing can be cut at {}{}{}\n", why, told, manual);
+        assert_eq!(got, (Some(1), Vec::new(), want));
+    }
+}
+
+/// Without --octal rust what stands after an octal escape over 377 is cut, and the string that has it.
+#[test]
+fn an_octal_escape_over_377() {
+    let script = b"<?php 'a' . \"\\777\" . 'b'";
+    for words in
+        [&["cut"][..], &["cut", "--octal", "manual"], &["cut", "--ported"], &["cut", "--octal=manual", "--ported"]]
+    {
+        for (place, want) in [("1:22", &b"'b'"[..]), ("1:15", b"\"\\777\"")] {
+            let got = call_for_bytes(&[words, &["-", place]].concat(), script);
+            assert_eq!(got, (Some(0), want.to_vec(), String::new()), "{:?} at {}", words, place);
+        }
+    }
 }
 
 #[test]
@@ -249,8 +268,8 @@ fn stored_literals(script: &Path) -> Vec<(u32, Range<usize>)> {
 }
 
 /// A literal that is read alone is the same token: its kind and its value.
-fn check_alone(token: &Token, written: &[u8]) {
-    let alone = TokenList::new(&[b"<?php ", written].concat(), Reading::Ported);
+fn check_alone(token: &Token, written: &[u8], octals: Octal) {
+    let alone = TokenList::new(&[b"<?php ", written].concat(), octals);
     let read = alone.get(1).unwrap().token;
     assert_eq!((alone.len(), read.kind, &read.value), (2, token.kind, &token.value), "{:?}", written);
     assert_eq!((read.span.position, read.end), (6, Some(6 + written.len() as u32)), "{:?}", written);
@@ -258,10 +277,11 @@ fn check_alone(token: &Token, written: &[u8]) {
 
 /// At every byte of a script: the bytes are those of the token at the place, from its position up to its end, or there
 /// are none, and why is told. What is cut, once for each literal.
-fn check_bytes(script: &[u8], reading: Reading) -> Vec<(u32, Range<usize>)> {
-    let sheet = (reading == Reading::Sheet).then(|| Sheet::read(script));
+fn check_bytes(script: &[u8], choices: impl Into<Choices>) -> Vec<(u32, Range<usize>)> {
+    let choices = choices.into();
+    let sheet = (choices.nowdocs == Reading::Sheet).then(|| Sheet::read_by(script, choices.octals));
     let lines = sheet.as_ref().and_then(|_| with_lf_lines(script)).unwrap_or_else(|| script.to_vec());
-    let tokens = TokenList::new(&lines, reading);
+    let tokens = TokenList::new(&lines, choices);
     let mut all = Vec::new();
     for byte in 0..=lines.len() {
         let pointed = Pointed::new(&lines, &tokens, sheet.as_ref(), byte);
@@ -270,7 +290,7 @@ fn check_bytes(script: &[u8], reading: Reading) -> Vec<(u32, Range<usize>)> {
         match (cut("a.php", &pointed), token) {
             (Ok(bytes), Some(token)) => {
                 assert_eq!(bytes, token.span.position as usize..token.end.unwrap() as usize);
-                check_alone(&token, &lines[bytes.clone()]);
+                check_alone(&token, &lines[bytes.clone()], choices.octals);
                 all.push((token.kind, bytes));
             }
             (Err(fault), None) => {
@@ -316,11 +336,13 @@ fn wild_bytes() {
         let mut script = [pieces::script(&mut random), pieces::script(&mut random)].concat();
         let place = random.below(script.len() + 1);
         script.insert(place, random.below(256) as u8);
-        for reading in [Reading::Ported, Reading::Sheet] {
-            count += check_bytes(&script, reading).len();
+        for nowdocs in [Reading::Ported, Reading::Sheet] {
+            for octals in [Octal::Rust, Octal::Manual] {
+                count += check_bytes(&script, Choices { nowdocs, octals }).len();
+            }
         }
     }
-    assert!(count > 400, "{}", count);
+    assert!(count > 800, "{}", count);
 }
 
 /// The program itself on the good sheets: at the first and the last byte of each literal, and on both sides of it.

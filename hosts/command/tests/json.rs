@@ -20,7 +20,7 @@ fn a_good_sheet_as_a_whole() {
                 \"rows\":[{\"text\":\"o\\t\"},{\"text\":\"\"}]}],\
                 \"heredocs\":[],\
                 \"remarks\":[{\"line\":1,\"column\":7,\"position\":6,\"text\":\"// a\",\"guess\":false}],\
-                \"warnings\":[],\"refusals\":[]}";
+                \"notes\":[],\"warnings\":[],\"refusals\":[]}";
     assert_eq!(sheet("a.php", &Sheet::read(script)), want);
 }
 

@@ -100,12 +100,17 @@ fn sheets_are_the_relief_that_is_stored() {
 fn the_choices_say_what_made_the_file() {
     let script = empty_folder("records-choices").join("a b.php");
     fs::write(&script, "123456789").unwrap();
-    for (options, reading) in [(&[][..], "ported"), (&["--sheet"], "sheet")] {
+    for (options, reading, octal) in [
+        (&[][..], "ported", "rust"),
+        (&["--sheet"], "sheet", "rust"),
+        (&["--octal", "manual"], "ported", "manual"),
+        (&["--sheet", "--octal=manual"], "sheet", "manual"),
+    ] {
         written(&script, options);
         let want = format!(
-            "reading: {}\nscript: a b.php\nbytes: 9\ncrc-32: cbf43926\ntokens: 1\nvalue bytes: 9\n\
+            "reading: {}\noctal: {}\nscript: a b.php\nbytes: 9\ncrc-32: cbf43926\ntokens: 1\nvalue bytes: 9\n\
              program: puretakoi 0.1.0\n",
-            reading
+            reading, octal
         );
         assert_eq!(fs::read_to_string(beside(&script, ".records.choices")).unwrap(), want);
     }

@@ -2,10 +2,15 @@
 
 use command::reading::sheet::{Sheet, Verdict};
 use puretakoi::refusals::*;
+use puretakoi::Octal;
 
 /// A sheet's refusals: number, the place to look at, and whether it is met in a guess.
 fn refused(script: &str) -> Vec<(u32, u32, u32, bool)> {
-    let sheet = Sheet::read(script.as_bytes());
+    refused_by(script, Octal::Manual)
+}
+
+fn refused_by(script: &str, octals: Octal) -> Vec<(u32, u32, u32, bool)> {
+    let sheet = Sheet::read_by(script.as_bytes(), octals);
     let faults = sheet.faults.iter();
     faults.map(|fault| (fault.refusal.number, fault.place.line, fault.place.column, fault.is_guess)).collect()
 }
@@ -40,8 +45,11 @@ fn behind_an_escape_that_is_refused() {
         (INVALID_OCTAL_ESCAPE, 1, 30, false),
         (INVALID_UNICODE_ESCAPE, 2, 4, false),
     ];
-    assert_eq!(refused(script), want);
+    assert_eq!(refused_by(script, Octal::Rust), want);
     assert_eq!(blocks(script), sure(&["A"]));
+    // The manual's octals leave the others.
+    assert_eq!(refused(script), [want[1], want[3]]);
+    assert_eq!(Sheet::read_by(script.as_bytes(), Octal::Rust).blocks, Sheet::read(script.as_bytes()).blocks);
 }
 
 #[test]
@@ -96,7 +104,14 @@ fn a_quote_too_many() {
     assert_eq!(detail, want);
     // What was refused in the strings that had been script is forgotten, and told where it stands.
     let twice = "<?php\n$a = 'x'';\n$b = \"\\400\";\n$c = 'y';\n";
-    assert_eq!(refused(twice), [(UNEXPECTED_END_OF_FILE, 2, 9, false), (INVALID_OCTAL_ESCAPE, 3, 11, true)]);
+    let both = [(UNEXPECTED_END_OF_FILE, 2, 9, false), (INVALID_OCTAL_ESCAPE, 3, 11, true)];
+    assert_eq!(refused_by(twice, Octal::Rust), both);
+    assert_eq!(refused(twice), both[..1]);
+    // A quote too many is found after an escape over 377 too, by both octals.
+    let after = "<?php\n$b = \"\\400\";\n$a = 'x'';\n$c = 'y';\n";
+    assert_eq!(refused(after), [(UNEXPECTED_END_OF_FILE, 3, 9, false)]);
+    let both = [(INVALID_OCTAL_ESCAPE, 2, 11, false), (UNEXPECTED_END_OF_FILE, 3, 9, false)];
+    assert_eq!(refused_by(after, Octal::Rust), both);
     // With no string that a word or a quote follows none is named.
     let detail = Sheet::read(b"<?php 'a' . 'b").faults[0].detail.clone().unwrap();
     assert!(detail.ends_with("the quote at its end is missing, or a quote before it is one too many."), "{}", detail);
@@ -115,7 +130,7 @@ fn nothing_is_read_behind_these() {
 fn a_hundred_are_told() {
     for (text, is_refused) in [("\"\\400\";", true), ("<<<;", false), ("`\\``;", false)] {
         let script = format!("<?php {}", text.repeat(9_000));
-        let sheet = Sheet::read(script.as_bytes());
+        let sheet = Sheet::read_by(script.as_bytes(), Octal::Rust);
         assert_eq!(
             (sheet.faults.len() + sheet.warnings.len(), sheet.faults.is_empty()),
             (100, !is_refused),

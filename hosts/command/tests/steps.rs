@@ -7,7 +7,7 @@ use cases::pieces;
 use cases::random::Random;
 use command::reading::reader::Reader;
 use command::reading::remark::Remark;
-use puretakoi::{kinds, End, Frame, Progress, Reading, Refusal, Session, Span};
+use puretakoi::{kinds, Choices, End, Frame, Octal, Progress, Reading, Refusal, Session, Span};
 
 /// What is put into scripts: what opens or closes a text, a comment, a block or a brace.
 const MARKS: &[&str] = &[
@@ -60,8 +60,9 @@ fn place(session: &Session) -> Place {
 }
 
 /// Reads a script step by step.
-fn stepped(script: &[u8]) -> Stepped {
-    let (mut session, mut list, mut pool) = (Session::fresh(Reading::Sheet), [0; 16], vec![0; script.len()]);
+fn stepped(script: &[u8], octals: Octal) -> Stepped {
+    let choices = Choices { nowdocs: Reading::Sheet, octals };
+    let (mut session, mut list, mut pool) = (Session::fresh(choices), [0; 16], vec![0; script.len()]);
     let (mut spans, mut last) = (vec![Span::START], Ok(Progress::Done));
     let (mut openings, mut comments) = (HashMap::from([(place(&session), Span::START)]), Vec::new());
     while last == Ok(Progress::Done) {
@@ -80,11 +81,17 @@ fn stepped(script: &[u8]) -> Stepped {
     Stepped { openings, comments, end: place(&session), last }
 }
 
-/// Each step of the reader must be a single step, with the opening of its text; no step of a nowdoc block and no comment may be missing.
 fn check(script: &[u8]) {
+    check_by(script, Octal::Rust);
+    check_by(script, Octal::Manual);
+}
+
+/// Each step of the reader must be a single step, with the opening of its text; no step of a nowdoc block and no
+/// comment may be missing.
+fn check_by(script: &[u8], octals: Octal) {
     let text = String::from_utf8_lossy(script);
-    let Stepped { openings, comments, end, last } = stepped(script);
-    let mut reader = Reader::new(script);
+    let Stepped { openings, comments, end, last } = stepped(script, octals);
+    let mut reader = Reader::new(script, octals);
     let mut seen = HashSet::new();
     let mut follow = |place: Place, opening: Span| {
         let single = openings.get(&place);

@@ -7,6 +7,11 @@ use common::{empty_folder, run, stored, Run};
 /// The output of one script must be the stored one of its name.
 fn check(path: &str, options: &[&str], status: i32) {
     let name = path.rsplit('/').next().unwrap_or(path).trim_end_matches(".php");
+    check_stored(path, name, options, status);
+}
+
+/// The output of one script must be a stored one.
+fn check_stored(path: &str, name: &str, options: &[&str], status: i32) {
     let want = Run { status: Some(status), out: stored(name), errors: String::new() };
     let got = run(&[options, &[path]].concat());
     assert_eq!(got.out, want.out, "{}", path);
@@ -71,7 +76,19 @@ fn refusals_of_what_is_open() {
 #[test]
 fn refusals_of_escapes() {
     check("sheets/unicode.php", &[], 1);
-    check("sheets/octal.php", &[], 1);
+}
+
+/// Without an option, and by the manual's octals, an escape over 377 is told by a note; by the Rust's it is refused.
+#[test]
+fn octal_escapes() {
+    check("sheets/octal.php", &[], 3);
+    check("sheets/octal.php", &["--octal", "manual"], 3);
+    check_stored("sheets/octal.php", "octal-rust", &["--octal", "rust"], 1);
+    assert_eq!(run(&["--octal", "manual", "--octal=rust", "sheets/octal.php"]).out, stored("octal-rust"));
+    // A note alone leaves the status.
+    check("sheets/octal-legends.php", &[], 0);
+    check("sheets/octal-legends.php", &["--strict"], 0);
+    check_stored("sheets/octal-legends.php", "octal-legends-rust", &["--octal=rust"], 1);
 }
 
 #[test]
@@ -90,7 +107,8 @@ fn refusal_of_depth() {
 
 #[test]
 fn a_long_line_is_cut_around_its_mark() {
-    check("sheets/long-line.php", &["-w", "40"], 1);
+    check("sheets/long-line.php", &["-w", "40"], 3);
+    check_stored("sheets/long-line.php", "long-line-rust", &["-w", "40", "--octal=rust"], 1);
 }
 
 #[test]

@@ -90,7 +90,7 @@ fn one_object_as_json() {
         token("\"kind\":18,\"name\":\"double-quoted string\"", [3, 6, 28, 32], &wild),
     ];
     let want = format!(
-        "{{\"path\":\"standard input\",\"reading\":\"sheet\",\"tokens\":[{}],\
+        "{{\"path\":\"standard input\",\"reading\":\"sheet\",\"octal\":\"rust\",\"tokens\":[{}],\
          \"end\":{{\"way\":\"finished\",\"position\":32}}}}\n",
         tokens.join(",")
     );
@@ -105,9 +105,13 @@ fn a_refusal_as_json() {
     let got = call_on(&["tokens", "--json"], b"<?php '");
     let end = "],\"end\":{\"way\":\"refused\",\"number\":1,\"name\":\"unexpected end of file\",\"line\":1,\
                \"column\":8,\"position\":7,\"meaning\":\"something is still open where the script ends\",\
-               \"advice\":\"Close the string, the text block, the command or the comment.\"}}\n";
+               \"advice\":\"Close the string, the text block, the command or the comment.\",\"detail\":null}}\n";
     assert!(got.out.ends_with(end), "{}", got.out);
-    assert!(got.out.starts_with("{\"path\":\"standard input\",\"reading\":\"ported\",\"tokens\":["), "{}", got.out);
+    assert!(
+        got.out.starts_with("{\"path\":\"standard input\",\"reading\":\"ported\",\"octal\":\"rust\",\"tokens\":["),
+        "{}",
+        got.out
+    );
     assert_eq!(got.status, Some(1));
 }
 

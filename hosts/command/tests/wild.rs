@@ -7,12 +7,14 @@ use std::fs;
 
 use cases::pieces;
 use cases::random::Random;
+use command::reading::fault::Fault;
 use command::reading::sheet::{Indentation, Sheet, Verdict};
 use command::showing::html::{page, section};
 use command::showing::text::{line, whole, Totals};
 use command::showing::{braille, brf, json};
 use common::markup::check;
 use common::tests_folder;
+use puretakoi::{refusals, Octal};
 
 /// What is put into scripts: bytes that a terminal or a page would take for something else.
 const STRANGE: &[&[u8]] =
@@ -74,7 +76,15 @@ fn sheets_that_break_off_anywhere_are_shown() {
 /// Text without controls and no wider than asked, a single line among many, a page that is well-formed, and what
 /// others read.
 fn check_written(script: &[u8], columns: Option<usize>) {
-    let sheet = Sheet::read(script);
+    check_written_by(script, columns, Octal::Rust);
+    check_written_by(script, columns, Octal::Manual);
+}
+
+fn check_written_by(script: &[u8], columns: Option<usize>, octals: Octal) {
+    let sheet = Sheet::read_by(script, octals);
+    let is_octal = |fault: &Fault| fault.refusal.number == refusals::INVALID_OCTAL_ESCAPE;
+    assert!(octals == Octal::Rust || !sheet.faults.iter().any(is_octal), "{:?}", script);
+    assert!(octals == Octal::Manual || sheet.notes.is_empty(), "{:?}", script);
     let text = whole("a.php", &sheet, columns);
     assert!(!has_control(&text), "{:?}: {}", script, text);
     let rows = text.lines().filter(|line| line.contains(" |"));

@@ -121,10 +121,16 @@ pub type Answer = [u32; ANSWER];
 /// An answer's numbers, and how many steps were done.
 pub type Counted = [u32; ANSWER_COUNTED];
 
-/// A fresh session; where a bit is no choice's flag, all numbers are 0, which is no session.
+/// A fresh session. The library of this version takes all choices of the crate, so it panics where one is refused.
 pub fn fresh(choices: u32) -> Numbers {
     let mut session = [0; SESSION];
-    unsafe { puretakoi_fresh(choices, session.as_mut_ptr(), SESSION) };
+    let refusal = unsafe { puretakoi_fresh(choices, session.as_mut_ptr(), SESSION) };
+    assert!(
+        refusal == 0,
+        "the library refuses the choices {} with {}, for it is older than this crate: take both from one version",
+        choices,
+        refusal
+    );
     session
 }
 
@@ -200,4 +206,23 @@ pub fn file_to_list(file: &[u8], list: &mut [u32]) -> u32 {
 /// Which of the first `count` records of a list is under a byte, and its end; the refusal, or 0.
 pub fn find(list: &[u32], count: usize, byte: usize, found: &mut [u32; FOUND_ENDED]) -> u32 {
     unsafe { puretakoi_find(list.as_ptr(), list.len(), count, byte, found.as_mut_ptr(), FOUND_ENDED) }
+}
+
+#[cfg(test)]
+mod tests {
+    use super::fresh;
+
+    #[test]
+    fn every_choice_is_taken() {
+        for choices in 0..4 {
+            assert_eq!(fresh(choices)[..8], [0, 1, 1, 1, 0, 0, choices, 0]);
+        }
+    }
+
+    /// What an older library does with a choice of this version, this one does with a flag that it has not.
+    #[test]
+    #[should_panic(expected = "the library refuses the choices 4 with 12, for it is older than this crate: take both")]
+    fn an_older_library_is_told() {
+        fresh(4);
+    }
 }

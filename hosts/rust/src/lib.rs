@@ -4,7 +4,8 @@
 //! tells which one is under a byte and where it ends; `Stream` reads a script that comes in parts; `Session` is the
 //! library's own walk and step, with lent tables, and `find` looks up a byte in such a list. What can't be taken is
 //! refused by its number, and session and tables are then as they were; what the steps of a walk before it wrote
-//! stays. No call panics.
+//! stays. No call panics, but where PURETAKOI_ARCHIVE named a library older than this crate, which does not know all
+//! choices of a fresh session.
 //!
 //! ```
 //! use puretakoi::{tokens, Kind, Reading, Reason, Tokens};
@@ -57,6 +58,20 @@
 //! assert_eq!((&script[bytes.clone()], &literal.token.value[..]), (&b"'it\\'s'"[..], &b"it's"[..]));
 //! assert_eq!((literal.token.end, bytes.contains(&7), bytes.contains(&13)), (Some(13), true, false));
 //! ```
+//!
+//! A legend with an octal escape over 377: the Rust refuses it, the PHP manual has a byte for it. The session's choice
+//! decides, and a host may change it between steps, with `Session::set_choices`.
+//!
+//! ```
+//! use puretakoi::{Octal, Reason, Tokens};
+//!
+//! let script = b"<?php \"kerb \\501\";";
+//! let last = |octals| Tokens::new(script, octals).last().expect("a script has a token");
+//! let refusal = last(Octal::Rust).unwrap_err();
+//! assert_eq!((refusal.reason(), refusal.octal_byte(script)), (Some(Reason::InvalidOctalEscape), Some(b'A')));
+//! assert_eq!(last(Octal::Manual)?.value, b"kerb A");
+//! # Ok::<(), puretakoi::Refusal>(())
+//! ```
 
 #![deny(unsafe_code, missing_docs, missing_debug_implementations)]
 
@@ -79,7 +94,7 @@ mod header;
 #[cfg(test)]
 mod words;
 
-pub use choices::{Choices, Reading};
+pub use choices::{Choices, Octal, Reading};
 pub use file::{file_to_list, list_to_file};
 pub use find::{find, Found};
 pub use frame::{Frame, Label};

@@ -78,7 +78,7 @@ numbered! {
     UnexpectedEndOfFile = UNEXPECTED_END_OF_FILE = 1, "unexpected end of file";
     /// `\u{..}` names no code point.
     InvalidUnicodeEscape = INVALID_UNICODE_ESCAPE = 2, "invalid unicode escape";
-    /// An octal escape is over 377.
+    /// An octal escape is over 377, and octals are as the Rust has them.
     InvalidOctalEscape = INVALID_OCTAL_ESCAPE = 3, "invalid octal escape";
     /// A closing line mixes spaces and tabs.
     InvalidDocIndentation = INVALID_DOC_INDENTATION = 4, "invalid indentation of a closer";
@@ -196,6 +196,7 @@ pub(crate) mod layout {
 pub(crate) mod choices {
     constants! { pub u32:
         CHOICE_SHEETS = 1;
+        CHOICE_OCTAL_MANUAL = 2;
         FRAME_INITIAL = 0;
         FRAME_SCRIPTING = 1;
         FRAME_DOUBLE_QUOTE = 2;

@@ -64,6 +64,21 @@ impl Refusal {
     pub fn advice(&self) -> &'static str {
         self.reason().map_or("Look at where it came from.", Reason::advice)
     }
+
+    /// Of `InvalidOctalEscape`: the byte that the escape is by the manual's octals, `Octal::Manual`, which is the low
+    /// eight bits of the three digits before the span. None for another reason, and where the script has no such
+    /// escape there.
+    pub fn octal_byte(&self, script: &[u8]) -> Option<u8> {
+        if self.reason() != Some(Reason::InvalidOctalEscape) {
+            return None;
+        }
+        match script.get(..self.span.position as usize)? {
+            [.., b'\\', first @ b'4'..=b'7', second @ b'0'..=b'7', third @ b'0'..=b'7'] => {
+                Some(((first & 3) << 6) | ((second & 7) << 3) | (third & 7))
+            }
+            _ => None,
+        }
+    }
 }
 
 impl Reason {
@@ -95,7 +110,9 @@ impl Reason {
             Reason::InvalidUnicodeEscape => {
                 "Write hex digits between the braces, up to 10FFFF and not from D800 to DFFF."
             }
-            Reason::InvalidOctalEscape => "Write no more than 377 behind the backslash.",
+            Reason::InvalidOctalEscape => {
+                "Write at most 377, or choose octals as the manual has them: the low eight bits are then the byte."
+            }
             Reason::InvalidDocIndentation => "Use spaces alone or tabs alone before the label.",
             Reason::NoProperty => "Write an arrow or a name there, or pop the frame.",
             Reason::Wait => "Lend more of the script, or announce its end.",

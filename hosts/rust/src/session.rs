@@ -2,7 +2,7 @@
 
 use std::fmt;
 
-use crate::choices::{Choices, Reading};
+use crate::choices::{Choices, Octal, Reading};
 use crate::foreign::{self, Call, Numbers};
 use crate::frame::Frame;
 use crate::numbers::choices::{DONE, FINISHED};
@@ -111,6 +111,11 @@ impl Session {
         self.choices().map(|choices| choices.nowdocs)
     }
 
+    /// What an octal escape over 377 is; none where the numbers are no session.
+    pub fn octals(&self) -> Option<Octal> {
+        self.choices().map(|choices| choices.octals)
+    }
+
     /// The frame at a place of the mode stack, 0 for the bottom; none at the depth and above, or where the numbers are no session.
     pub fn frame(&self, at: usize) -> Option<Frame> {
         if at >= MOST_FRAMES || at >= self.depth() as usize {
@@ -134,6 +139,11 @@ impl Session {
     pub fn empty_tables(&mut self) {
         self.numbers[TOKENS] = 0;
         self.numbers[BYTES] = 0;
+    }
+
+    /// Sets what is chosen, between two steps: the next call reads by it. No call changes it.
+    pub fn set_choices(&mut self, choices: Choices) {
+        self.numbers[CHOICES] = choices.number();
     }
 
     /// Sets the cursor to a place of the script. One that is none is refused with 12 by the next call.

@@ -1,7 +1,10 @@
 //! Calls on sessions: what they give, and that a refused call leaves everything as it was.
 
+mod lent;
+
+use lent::CHOICES;
 use puretakoi::{
-    kinds, limits, records, refusals, Choices, End, Frame, Label, Progress, Reading, Refusal, Session, Span,
+    kinds, limits, records, refusals, Choices, End, Frame, Label, Octal, Progress, Reading, Refusal, Session, Span,
 };
 
 /// Tables that are lent to a call.
@@ -52,13 +55,13 @@ fn wild() -> Vec<[u32; 199]> {
         (3, 0),
         (3, 65),
         (3, u32::MAX),
-        (6, 2),
+        (6, 4),
         (6, u32::MAX),
         (7, 4),
         (7, 9),
         (7, 7),
     ];
-    let mut all = vec![[0; 199], [u32::MAX; 199], [3; 199]];
+    let mut all = vec![[0; 199], [u32::MAX; 199], [4; 199]];
     for (place, value) in changes {
         let mut numbers = *Session::fresh(Reading::Sheet).numbers();
         numbers[*place] = *value;
@@ -104,18 +107,30 @@ fn a_fresh_session() {
 
 #[test]
 fn choices_are_flags() {
-    for (number, nowdocs) in [(0, Reading::Ported), (1, Reading::Sheet)] {
-        let session = Session::fresh(Choices { nowdocs });
-        assert_eq!((session.numbers()[6], session.choices()), (number, Some(Choices { nowdocs })));
-        assert_eq!(session, Session::fresh(nowdocs));
+    for (number, choices) in (0..).zip(CHOICES) {
+        let mut session = Session::fresh(choices);
+        assert_eq!((session.numbers()[6], session.choices()), (number, Some(choices)));
+        assert_eq!((session.reading(), session.octals()), (Some(choices.nowdocs), Some(choices.octals)));
+        assert_eq!((session.skip(b"", 0), session.numbers()[6]), (Ok(()), number));
     }
-    for number in [2, 3, 1 << 31, u32::MAX] {
+    for number in [4, 5, 6, 7, 8, 1 << 31, u32::MAX] {
         let mut numbers = *Session::fresh(Reading::Ported).numbers();
         numbers[6] = number;
         let mut session = Session::from_numbers(numbers);
-        assert_eq!((session.choices(), session.reading()), (None, None));
+        assert_eq!((session.choices(), session.reading(), session.octals()), (None, None, None));
         assert_eq!(session.skip(b"", 0).map_err(|refusal| refusal.number), Err(refusals::BAD_SESSION));
     }
+}
+
+/// What is not chosen is as the Rust has it.
+#[test]
+fn one_choice_stands_for_all() {
+    let [ported, sheet, manual, _both] = CHOICES;
+    assert_eq!((Choices::from(Reading::Ported), Choices::from(Octal::Rust)), (ported, ported));
+    assert_eq!((Choices::from(Reading::Sheet), Choices::from(Octal::Manual)), (sheet, manual));
+    assert_eq!(Choices::default(), ported);
+    assert_eq!(Choices { nowdocs: Reading::Sheet, ..Choices::default() }, sheet);
+    assert_eq!(Session::fresh(Octal::Manual), Session::fresh(manual));
 }
 
 /// Document 01's sample: `<?php 'a' 12;⏎`.

@@ -4,9 +4,9 @@ mod lent;
 
 use cases::pieces::script;
 use cases::random::Random;
-use lent::Lent;
+use lent::{Lent, CHOICES};
 use puretakoi::{
-    kinds, limits, records, refusals, End, Event, Frame, Label, Progress, Reading, Refusal, Session, Span, Stream,
+    kinds, limits, records, refusals, Choices, End, Event, Frame, Label, Progress, Refusal, Session, Span, Stream,
     Token,
 };
 
@@ -38,8 +38,7 @@ fn wild(random: &mut Random) -> u32 {
 
 /// A session that some steps of the script reach; one in two has numbers that are changed by hand.
 fn reached(src: &[u8], random: &mut Random) -> Lent {
-    let reading = if random.below(2) == 0 { Reading::Ported } else { Reading::Sheet };
-    let mut session = Session::fresh(reading);
+    let mut session = Session::fresh(CHOICES[random.below(4)]);
     // What no call wrote is no record: there is no such kind.
     let (mut list, mut pool) = (vec![99; 8 * random.below(20)], vec![3; random.below(100)]);
     for _ in 0..random.below(8) {
@@ -68,7 +67,9 @@ fn a_refused_call_leaves_everything() {
         match call(&mut lent, &src, &mut random) {
             Ok(()) => {
                 assert!(lent.session.position() as usize <= src.len());
-                assert!(lent.session.top().is_some() && lent.session.reading().is_some());
+                assert!(lent.session.top().is_some());
+                assert_eq!(lent.session.choices(), before.session.choices());
+                assert!(lent.session.choices().is_some());
                 met[0] += 1;
                 for record in lent.session.records(&lent.list).skip(before.session.tokens() as usize) {
                     assert!((1..=21).contains(&record.kind), "{:?} on {:?}", record, src);
@@ -91,8 +92,8 @@ fn a_refused_call_leaves_everything() {
 }
 
 /// The tokens and the last event of a script that is fed in parts of random sizes, up to the largest.
-fn read(src: &[u8], largest: usize, reading: Reading, random: &mut Random) -> (Vec<Token>, Event) {
-    let mut stream = Stream::new(reading);
+fn read(src: &[u8], largest: usize, choices: Choices, random: &mut Random) -> (Vec<Token>, Event) {
+    let mut stream = Stream::new(choices);
     let mut rest = src;
     let mut tokens = Vec::new();
     loop {
@@ -117,9 +118,9 @@ fn parts_of_any_size_give_the_same() {
             0 => (0..random.below(200)).map(|_| random.number() as u8).collect(),
             _ => [script(&mut random), script(&mut random)].concat(),
         };
-        for reading in [Reading::Ported, Reading::Sheet] {
-            let whole = read(&src, limits::MOST_BYTES, reading, &mut random);
-            assert_eq!(read(&src, 5, reading, &mut random), whole, "{:?}", src);
+        for choices in CHOICES {
+            let whole = read(&src, limits::MOST_BYTES, choices, &mut random);
+            assert_eq!(read(&src, 5, choices, &mut random), whole, "{:?} by {:?}", src, choices);
         }
     }
 }
@@ -130,11 +131,12 @@ fn a_stream_gives_what_steps_write() {
     let mut random = Random::new(3);
     for _ in 0..TRIES / 10 {
         let src = script(&mut random);
-        let (mut session, mut list, mut pool) = (Session::fresh(Reading::Sheet), vec![0; 8 * 500], vec![0; 500]);
+        let choices = CHOICES[random.below(4)];
+        let (mut session, mut list, mut pool) = (Session::fresh(choices), vec![0; 8 * 500], vec![0; 500]);
         while session.step(&src, End::Announced, &mut list, &mut pool) == Ok(Progress::Done) {}
         list.truncate(8 * session.tokens() as usize);
         let stepped = records(&list).map(|record| (record.kind, record.span, record.value(&pool).unwrap().to_vec()));
-        let (tokens, _last) = read(&src, 9, Reading::Sheet, &mut random);
+        let (tokens, _last) = read(&src, 9, choices, &mut random);
         let streamed: Vec<_> = tokens.into_iter().map(|token| (token.kind, token.span, token.value)).collect();
         assert_eq!(stepped.collect::<Vec<_>>(), streamed, "{:?}", src);
     }

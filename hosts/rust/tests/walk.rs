@@ -4,14 +4,14 @@ mod lent;
 
 use cases::pieces::script;
 use cases::random::Random;
-use lent::Lent;
-use puretakoi::{kinds, refusals, End, Frame, Label, Progress, Reading, Refusal, Session, Span, Walk};
+use lent::{Lent, CHOICES};
+use puretakoi::{kinds, refusals, Choices, End, Frame, Label, Progress, Reading, Refusal, Session, Span, Walk};
 
 const TRIES: usize = 20_000;
 
 impl Lent {
-    fn new(reading: Reading, places: usize, bytes: usize) -> Lent {
-        Lent { session: Session::fresh(reading), list: vec![7; 8 * places], pool: vec![7; bytes] }
+    fn new(choices: impl Into<Choices>, places: usize, bytes: usize) -> Lent {
+        Lent { session: Session::fresh(choices), list: vec![7; 8 * places], pool: vec![7; bytes] }
     }
 
     fn walk(&mut self, src: &[u8], end: End, most: u32) -> Result<Progress, Refusal> {
@@ -74,9 +74,9 @@ const SCRIPTS: &[&[u8]] = &[
 fn a_walk_is_as_many_steps() {
     for src in SCRIPTS {
         for most in (0..30).chain([1_000, u32::MAX]) {
-            for reading in [Reading::Ported, Reading::Sheet] {
+            for choices in CHOICES {
                 for end in [End::More, End::Announced] {
-                    check(&mut Lent::new(reading, 40, 200), src, end, most).ok();
+                    check(&mut Lent::new(choices, 40, 200), src, end, most).ok();
                 }
             }
         }
@@ -176,8 +176,7 @@ fn random_walks_are_as_many_steps() {
     let mut met = [0; 14];
     for _ in 0..TRIES {
         let src = [script(&mut random), script(&mut random)].concat();
-        let reading = if random.below(2) == 0 { Reading::Ported } else { Reading::Sheet };
-        let mut lent = Lent::new(reading, random.below(30), random.below(100));
+        let mut lent = Lent::new(CHOICES[random.below(4)], random.below(30), random.below(100));
         lent.steps(&src, End::Announced, random.below(6) as u32).ok();
         let (start, end) = (lent.session.position(), if random.below(2) == 0 { End::More } else { End::Announced });
         let most = if random.below(2) == 0 { u32::MAX } else { random.below(20) as u32 };

@@ -35,6 +35,7 @@ enum Value {
     Nothing,
     File(PathBuf),
     Number(usize),
+    Word(&'static str),
 }
 
 impl Call {
@@ -55,6 +56,14 @@ impl Call {
     pub fn number(&self, choice: &Choice) -> Option<usize> {
         match self.value(choice) {
             Some(Value::Number(number)) => Some(*number),
+            _ => None,
+        }
+    }
+
+    /// The word behind an option.
+    pub fn word(&self, choice: &Choice) -> Option<&'static str> {
+        match self.value(choice) {
+            Some(Value::Word(word)) => Some(word),
             _ => None,
         }
     }
@@ -120,6 +129,12 @@ fn value(
             let word = behind.or_else(|| words.next());
             let number = word.and_then(|word| number(&word)).filter(|number| (first..=last).contains(number));
             number.map(Value::Number).ok_or_else(|| format!("{} wants {} behind it", given, numbers(first, last)))
+        }
+        Wants::Word(all) => {
+            let word = behind.or_else(|| words.next());
+            let found = all.iter().find(|one| word.as_deref() == Some(OsStr::new(one)));
+            let wanted = || format!("{} wants {} behind it", given, all.join(" or "));
+            found.map(|word| Value::Word(word)).ok_or_else(wanted)
         }
     }
 }

@@ -1,14 +1,16 @@
-//! `check`: a line for each refusal and each warning, as editors understand them.
+//! `check`: a line for each refusal, each warning and each note, as editors understand them.
 
-use puretakoi::{Refusal, Span};
+use puretakoi::{Octal, Refusal, Span};
 
 use crate::commands::arguments::Call;
 use crate::commands::many::Many;
-use crate::commands::options::{JOBS, JSON, STRICT};
+use crate::commands::octals::octals;
+use crate::commands::options::{JOBS, JSON, OCTAL, STRICT};
 use crate::commands::output::{print, status, unwritten};
 use crate::commands::Verb;
 use crate::files;
 use crate::reading::fault::Fault;
+use crate::reading::octal::{by_the_manual, Overflow, OCTAL_OVERFLOW};
 use crate::reading::sheet::Sheet;
 use crate::reading::warning::Warning;
 use crate::showing::json;
@@ -18,27 +20,29 @@ use crate::showing::text::Totals;
 /// The verb.
 pub const VERB: Verb = Verb {
     name: "check",
-    groups: &[&[&STRICT], &[&JSON], &[&JOBS]],
+    groups: &[&[&STRICT], &[&JSON], &[&JOBS], &[&OCTAL]],
     operands: "PATH..",
-    about: "tells each refusal and each warning of sheets in a line that editors understand",
+    about: "tells each refusal, each warning and each note on sheets in a line that editors understand",
     more: "\
 PATH.. are scripts, - for standard input, or folders with all .php files below them. A line is file:line:column: word:
 message, where the word is error for a refusal and warning for a warning; lines and columns count from 1, columns in
-bytes. Of a good sheet nothing is said. Last comes a summary. --json prints one object with all findings and the
-counts.",
+bytes. Of a good sheet nothing is said but notes. Last comes a summary. --json prints one object with all findings and
+the counts.
+Without --octal an octal escape over 377 is read as in PHP, and a line with the word note tells where; it leaves the
+status as it is.",
     run,
 };
 
-/// A refusal or a warning of a sheet.
+/// A refusal, a warning or a note of a sheet.
 #[derive(Debug, PartialEq, Eq)]
 pub struct Finding {
     /// Where to look first.
     pub place: Span,
-    /// `error`, or `warning`.
+    /// `error`, `warning` or `note`.
     pub word: &'static str,
-    /// The refusal's number; none for a warning.
+    /// The refusal's number; none for a warning or a note.
     pub number: Option<u32>,
-    /// The refusal's or the warning's name.
+    /// The refusal's, the warning's or the note's name.
     pub name: &'static str,
     /// What is there and what to do, in one line.
     pub message: String,
@@ -51,7 +55,8 @@ fn run(call: &Call) -> Result<u8, String> {
     }
     let (strict, is_json) = (call.has(&STRICT), call.has(&JSON));
     let found = files::find(&call.paths);
-    let many = Many { found: &found, jobs: call.number(&JOBS).unwrap_or(1), strict };
+    let (jobs, octals) = (call.number(&JOBS).unwrap_or(1), octals(call, Octal::Manual));
+    let many = Many { found: &found, jobs, octals, strict };
     let form = if is_json { Finding::json } else { Finding::line };
     let make = |_number: usize, name: &str, sheet: &Sheet| {
         findings(sheet, strict).iter().map(|finding| form(finding, name)).collect::<Vec<String>>()
@@ -75,7 +80,7 @@ fn run(call: &Call) -> Result<u8, String> {
 pub fn findings(sheet: &Sheet, strict: bool) -> Vec<Finding> {
     let faults = sheet.faults.iter().map(refused);
     let warnings = sheet.warnings.iter().map(|warning| warned(warning, strict));
-    let mut findings: Vec<Finding> = faults.chain(warnings).collect();
+    let mut findings: Vec<Finding> = faults.chain(warnings).chain(sheet.notes.iter().map(noted)).collect();
     findings.sort_by_key(|finding| finding.place.position);
     findings
 }
@@ -99,6 +104,20 @@ pub fn refused_alone(refusal: Refusal) -> Finding {
         name: refusal.name(),
         message: format!("refused {}: {}. {}", refusal.number, refusal.meaning(), refusal.advice()),
     }
+}
+
+/// A refusal of which no more is known than its script.
+pub fn refused_in(script: &[u8], refusal: Refusal) -> Finding {
+    let alone = refused_alone(refusal);
+    let behind = by_the_manual(script, refusal).map_or_else(String::new, |told| format!(" {}", told));
+    Finding { message: alone.message + &behind, ..alone }
+}
+
+/// An octal escape over 377 that was read as PHP reads it.
+fn noted(note: &Overflow) -> Finding {
+    let guess = if note.is_guess { " It stands where the reading is a guess." } else { "" };
+    let message = note.sentence() + guess;
+    Finding { place: note.span, word: "note", number: None, name: OCTAL_OVERFLOW, message }
 }
 
 /// A warning, or the refusal that it is if --strict is given.

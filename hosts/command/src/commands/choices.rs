@@ -1,7 +1,6 @@
 //! The file beside a record file that says what made it: a line `name: value` for each choice.
 
-use puretakoi::Reading;
-
+use crate::commands::octals::octal_name;
 use crate::commands::tokens::reading_name;
 
 /// The program and its version.
@@ -12,6 +11,8 @@ pub const PROGRAM: &str = concat!("puretakoi ", env!("CARGO_PKG_VERSION"));
 pub struct Choices {
     /// How nowdoc blocks were read: `ported` or `sheet`.
     pub reading: String,
+    /// What an octal escape over 377 was: refused, `rust`, or its low eight bits, `manual`.
+    pub octal: String,
     /// The script's name, without its folder.
     pub script: String,
     /// How many bytes the script has.
@@ -28,9 +29,10 @@ pub struct Choices {
 
 impl Choices {
     /// What is told of a script and its tables.
-    pub fn new(reading: Reading, script: String, source: &[u8], tokens: usize, values: usize) -> Choices {
+    pub fn new(made_by: puretakoi::Choices, script: String, source: &[u8], tokens: usize, values: usize) -> Choices {
         Choices {
-            reading: reading_name(reading).to_string(),
+            reading: reading_name(made_by.nowdocs).to_string(),
+            octal: octal_name(made_by.octals).to_string(),
             script,
             bytes: source.len(),
             crc: crc_32(source),
@@ -43,16 +45,20 @@ impl Choices {
     /// The file's text.
     pub fn text(&self) -> String {
         format!(
-            "reading: {}\nscript: {}\nbytes: {}\ncrc-32: {:08x}\ntokens: {}\nvalue bytes: {}\nprogram: {}\n",
-            self.reading, self.script, self.bytes, self.crc, self.tokens, self.values, self.program
+            "reading: {}\noctal: {}\nscript: {}\nbytes: {}\ncrc-32: {:08x}\ntokens: {}\nvalue bytes: {}\n\
+             program: {}\n",
+            self.reading, self.octal, self.script, self.bytes, self.crc, self.tokens, self.values, self.program
         )
     }
 
-    /// What a file's text says; none where a choice is missing or is none.
+    /// What a file's text says; none where a choice is missing or is none. Octals are not named in the text of an
+    /// older writer, which refused those over 377.
     pub fn parse(text: &str) -> Option<Choices> {
         let value = |name: &str| text.lines().find_map(|line| line.strip_prefix(name)?.strip_prefix(": "));
+        let octal = value("octal").unwrap_or("rust");
         Some(Choices {
             reading: value("reading").filter(|word| ["ported", "sheet"].contains(word))?.to_string(),
+            octal: Some(octal).filter(|word| ["rust", "manual"].contains(word))?.to_string(),
             script: value("script")?.to_string(),
             bytes: value("bytes")?.parse().ok()?,
             crc: u32::from_str_radix(value("crc-32")?, 16).ok()?,
@@ -81,7 +87,12 @@ fn after_byte(crc: u32) -> u32 {
 #[cfg(test)]
 mod tests {
     use super::{crc_32, Choices};
-    use puretakoi::Reading;
+    use puretakoi::{Octal, Reading};
+
+    /// What a record file says of so many tokens and value bytes.
+    fn said(made_by: impl Into<puretakoi::Choices>, script: &str, source: &[u8], counts: (usize, usize)) -> Choices {
+        Choices::new(made_by.into(), script.to_string(), source, counts.0, counts.1)
+    }
 
     /// The check value that the checksum is published with, and that of no bytes.
     #[test]
@@ -92,26 +103,31 @@ mod tests {
 
     #[test]
     fn a_text_is_read_as_it_was_written() {
-        let choices = Choices::new(Reading::Sheet, "a: b.php".to_string(), b"123456789", 3, 7);
-        let text = "reading: sheet\nscript: a: b.php\nbytes: 9\ncrc-32: cbf43926\ntokens: 3\nvalue bytes: 7\n\
-                    program: puretakoi 0.1.0\n";
+        let choices = said(Reading::Sheet, "a: b.php", b"123456789", (3, 7));
+        let text = "reading: sheet\noctal: rust\nscript: a: b.php\nbytes: 9\ncrc-32: cbf43926\ntokens: 3\n\
+                    value bytes: 7\nprogram: puretakoi 0.1.0\n";
         assert_eq!(choices.text(), text);
-        assert_eq!(Choices::parse(text), Some(choices));
+        assert_eq!(Choices::parse(text), Some(choices.clone()));
+        assert_eq!(Choices::parse(&text.replace("octal: rust\n", "")), Some(choices));
+        let manual = said(Octal::Manual, "a.php", b"", (0, 0));
+        assert!(manual.text().starts_with("reading: ported\noctal: manual\nscript: a.php\n"), "{}", manual.text());
+        assert_eq!(Choices::parse(&manual.text()), Some(manual));
     }
 
     #[test]
     fn a_text_without_a_choice_is_none() {
-        let text = Choices::new(Reading::Ported, "a.php".to_string(), b"", 0, 0).text();
-        for line in text.lines() {
+        let text = said(Reading::Ported, "a.php", b"", (0, 0)).text();
+        for line in text.lines().filter(|line| !line.starts_with("octal")) {
             assert_eq!(Choices::parse(&text.replace(line, "")), None, "without {}", line);
         }
         assert_eq!(Choices::parse(&text.replace("ported", "other")), None);
+        assert_eq!(Choices::parse(&text.replace("octal: rust", "octal: other")), None);
         assert_eq!(Choices::parse(&text.replace("bytes: 0", "bytes: none")), None);
     }
 
     #[test]
     fn other_bytes_are_told() {
-        let choices = Choices::new(Reading::Ported, "a.php".to_string(), b"kerb", 1, 4);
+        let choices = said(Reading::Ported, "a.php", b"kerb", (1, 4));
         assert!(choices.are_of(b"kerb"));
         for other in [&b"Kerb"[..], b"kerb\0", b"ker", b""] {
             assert!(!choices.are_of(other));

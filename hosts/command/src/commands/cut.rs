@@ -6,7 +6,7 @@ use puretakoi::{refusals, Frame, Listed, Refusal, Span};
 
 use crate::commands::arguments::Call;
 use crate::commands::check::refused_alone;
-use crate::commands::options::PORTED;
+use crate::commands::options::{OCTAL, PORTED};
 use crate::commands::output::{complain, written_bytes, NOT_DONE, REFUSED};
 use crate::commands::pointed::Pointed;
 use crate::commands::pointing::{self, Pointing};
@@ -17,7 +17,7 @@ use crate::reading::warning::Warning;
 /// The verb.
 pub const VERB: Verb = Verb {
     name: "cut",
-    groups: &[&[&PORTED]],
+    groups: &[&[&PORTED], &[&OCTAL]],
     operands: "FILE LINE:COLUMN|BYTE",
     about: "writes the literal or the comment at a place as it stands in the script",
     more: "\
@@ -25,7 +25,8 @@ FILE and the place are named as for at. A quoted string is written with both quo
 number and a comment as they stand, byte for byte; nothing is added, not even a line break. A comment of one line is
 written without the LF that ends its line, but with the CR of a CRLF. A string with an interpolation is no literal, nor
 is a text block. Where none is, nothing is written, and a line on standard error tells what is there and where the
-nearest ones are. Where PHP reads something else before or at the place, another line tells that.
+nearest ones are. Where PHP reads something else before or at the place, another line tells that. Without --octal an
+octal escape over 377 is read as in PHP, with --ported too.
 Status 1: the script is refused before or at the place. Status 2: no literal and no comment is there. Status 3: the
 bytes are written, but PHP reads something else.",
     run,

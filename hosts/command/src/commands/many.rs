@@ -2,6 +2,8 @@
 
 use std::io::{self, Write};
 
+use puretakoi::Octal;
+
 use crate::commands::output::complain;
 use crate::files::{self, Found};
 use crate::jobs::in_order;
@@ -15,6 +17,8 @@ pub struct Many<'a> {
     pub found: &'a [Found],
     /// How many are read at a time.
     pub jobs: usize,
+    /// What an octal escape over 377 is.
+    pub octals: Octal,
     /// Whether a sheet with a warning counts as refused.
     pub strict: bool,
 }
@@ -37,7 +41,7 @@ impl Many<'_> {
         let numbered: Vec<(usize, &Found)> = (1..).zip(self.found).collect();
         let mut progress = Progress::new(self.found.len());
         let mut taken = Ok(());
-        let work = |(number, found): &(usize, &Found)| look(found, |name, sheet| make(*number, name, sheet));
+        let work = |(number, found): &(usize, &Found)| self.look(found, |name, sheet| make(*number, name, sheet));
         in_order(self.jobs, &numbered, work, |seen| {
             taken = progress.one_more(seen, &mut take);
             taken.is_ok()
@@ -46,20 +50,20 @@ impl Many<'_> {
         progress.faults.iter().for_each(|fault| complain(fault));
         Ok(if self.strict { strictly(progress.totals) } else { progress.totals })
     }
+
+    /// Reads a script and makes something of it.
+    fn look<T>(&self, found: &Found, make: impl Fn(&str, &Sheet) -> T) -> Result<Seen<T>, String> {
+        let path = found.as_ref().map_err(String::clone)?;
+        let sheet = Sheet::read_by(&files::read(path)?, self.octals);
+        let mut totals = Totals::default();
+        totals.add(&sheet);
+        Ok(Seen { verdict: sheet.verdict(), totals, made: make(&files::name(path), &sheet) })
+    }
 }
 
 /// Counts where a sheet with a warning is refused.
 fn strictly(totals: Totals) -> Totals {
     Totals { refused: totals.refused + totals.warned, warned: 0, ..totals }
-}
-
-/// Reads a script and makes something of it.
-fn look<T>(found: &Found, make: impl Fn(&str, &Sheet) -> T) -> Result<Seen<T>, String> {
-    let path = found.as_ref().map_err(String::clone)?;
-    let sheet = Sheet::read(&files::read(path)?);
-    let mut totals = Totals::default();
-    totals.add(&sheet);
-    Ok(Seen { verdict: sheet.verdict(), totals, made: make(&files::name(path), &sheet) })
 }
 
 /// How far the scripts are read.

@@ -6,6 +6,7 @@ pub mod check;
 pub mod choices;
 pub mod cut;
 pub mod many;
+pub mod octals;
 pub mod options;
 pub mod output;
 pub mod place;

@@ -20,6 +20,8 @@ pub enum Wants {
     File,
     /// A whole number, called by a word, from one to another.
     Number(&'static str, usize, usize),
+    /// One of these words.
+    Word(&'static [&'static str]),
 }
 
 impl Choice {
@@ -41,6 +43,7 @@ impl Wants {
             Wants::Nothing => String::new(),
             Wants::File => " FILE".to_string(),
             Wants::Number(word, ..) => format!(" {}", word),
+            Wants::Word(words) => format!(" {}", words.join("|")),
         }
     }
 }
@@ -98,7 +101,14 @@ pub const SHEET: Choice = flag(&["--sheet"], "reads nowdoc blocks as sheets, wit
 
 /// Nowdoc blocks are read as by the lexer that was carried over.
 pub const PORTED: Choice =
-    flag(&["--ported"], "takes the token that tokens prints without --sheet; no row, no cell, no warning");
+    flag(&["--ported"], "reads nowdoc blocks as tokens does without --sheet; no row, no cell, no warning");
+
+/// What an octal escape over 377 is.
+pub const OCTAL: Choice = Choice {
+    names: &["--octal"],
+    wants: Wants::Word(&["rust", "manual"]),
+    help: "rust refuses an octal escape over 377; manual takes its low eight bits, as PHP does",
+};
 
 /// Numbers alone.
 pub const NUMBERS: Choice = flag(&["--numbers"], "numbers alone, as the program rows prints them");

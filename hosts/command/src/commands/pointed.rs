@@ -4,7 +4,7 @@ use std::ops::Range;
 
 use puretakoi::{refusals, Frame, Listed, Span, Token, TokenList, Under};
 
-use crate::commands::check::{refused, refused_alone, Finding};
+use crate::commands::check::{refused, refused_in, Finding};
 use crate::commands::output::{ALL_GOOD, REFUSED, WARNED};
 use crate::commands::token;
 use crate::reading::fault::{character_in_words, counted, Mark};
@@ -57,7 +57,7 @@ impl<'a> Pointed<'a> {
             under: tokens.at(byte),
             spot,
             touch: sheet.and_then(|sheet| touch(sheet, script, byte)),
-            refusal: refusal.map(|refusal| fault.map_or_else(|| refused_alone(refusal), refused)),
+            refusal: refusal.map(|refusal| fault.map_or_else(|| refused_in(script, refusal), refused)),
             warning,
             is_sheet_refused: fault.is_some(),
         }

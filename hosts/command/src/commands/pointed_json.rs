@@ -1,16 +1,17 @@
 //! What a finger points at, as JSON.
 //!
-//! One object: `path`, `reading`, the place as `line`, `column` and `position`; `where`, one of `token`,
-//! `closing-indentation`, `between`, `lost-break`, `end` and `unread`; `tokens`, how many there are, `looks`, how many
-//! of them were looked at, `found`, the number of the one that this led to; `token`, `before` and `after`, each a
-//! token with its number and its end, or null; `bytes`, the token's first byte in the script and the one after its
-//! last; `end`, where the step ended that wrote the token, as `line`, `column` and `position`; `lines`, the line of
-//! the token and how many it has, where it has several; `block`, the block of `view` with its number, and with `part`,
-//! `row`, which is a number and the row's bytes, and `cell`; `refusal` and `warning`. Tokens, lines, blocks, rows and
-//! cells count from 1.
+//! One object: `path`, `reading`, `octal` (`rust` or `manual`), the place as `line`, `column` and `position`; `where`,
+//! one of `token`, `closing-indentation`, `between`, `lost-break`, `end` and `unread`; `tokens`, how many there are,
+//! `looks`, how many of them were looked at, `found`, the number of the one that this led to; `token`, `before` and
+//! `after`, each a token with its number and its end, or null; `bytes`, the token's first byte in the script and the
+//! one after its last; `end`, where the step ended that wrote the token, as `line`, `column` and `position`; `lines`,
+//! the line of the token and how many it has, where it has several; `block`, the block of `view` with its number, and
+//! with `part`, `row`, which is a number and the row's bytes, and `cell`; `refusal` and `warning`. Tokens, lines,
+//! blocks, rows and cells count from 1.
 
-use puretakoi::{Listed, Reading};
+use puretakoi::{Choices, Listed};
 
+use crate::commands::octals::octal_name;
 use crate::commands::pointed::Pointed;
 use crate::commands::token;
 use crate::commands::tokens::reading_name;
@@ -19,7 +20,7 @@ use crate::reading::touch::{Part, Touch};
 use crate::showing::json::{self, place_fields, string, Field};
 
 /// All that is told of a place, as an object and a break.
-pub fn object(name: &str, reading: Reading, pointed: &Pointed) -> String {
+pub fn object(name: &str, choices: Choices, pointed: &Pointed) -> String {
     let spot = &pointed.spot;
     let found = pointed.under.as_ref().map(|under| (under.listed.number + 1).to_string());
     let looks = pointed.under.as_ref().map_or(0, |under| under.looks);
@@ -32,7 +33,11 @@ pub fn object(name: &str, reading: Reading, pointed: &Pointed) -> String {
         }
         _ => None,
     };
-    let first = vec![("path", string(name)), ("reading", string(reading_name(reading)))];
+    let first = vec![
+        ("path", string(name)),
+        ("reading", string(reading_name(choices.nowdocs))),
+        ("octal", string(octal_name(choices.octals))),
+    ];
     let rest = vec![
         ("where", string(spot.name())),
         ("tokens", pointed.tokens.len().to_string()),

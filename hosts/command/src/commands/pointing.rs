@@ -2,9 +2,10 @@
 
 use std::path::Path;
 
-use puretakoi::{Reading, TokenList};
+use puretakoi::{Choices, Octal, Reading, TokenList};
 
 use crate::commands::arguments::Call;
+use crate::commands::octals::octals;
 use crate::commands::options::PORTED;
 use crate::commands::output::{complain, NOT_DONE};
 use crate::commands::place::Place;
@@ -24,8 +25,8 @@ pub struct Pointing {
     lines: Option<Vec<u8>>,
     /// What `view` shows of it; none in the ported reading.
     sheet: Option<Sheet>,
-    /// How nowdoc blocks are read.
-    pub reading: Reading,
+    /// How nowdoc blocks are read, and what an octal escape over 377 is.
+    pub choices: Choices,
     tokens: TokenList,
     byte: usize,
 }
@@ -60,13 +61,15 @@ impl Pointing {
     /// Reads a script, and finds a place in it; else a line on why that can't be.
     fn read(call: &Call, path: &Path, place: &Place) -> Result<Pointing, String> {
         let (script, name) = (files::read(path)?, files::name(path));
-        let sheet = (!call.has(&PORTED)).then(|| Sheet::read(&script));
+        let octals = octals(call, Octal::Manual);
+        let sheet = (!call.has(&PORTED)).then(|| Sheet::read_by(&script, octals));
         let lines = sheet.as_ref().and_then(|_| with_lf_lines(&script));
         let read = lines.as_ref().unwrap_or(&script);
         let byte = place.byte(&name, read)?;
-        let reading = if sheet.is_some() { Reading::Sheet } else { Reading::Ported };
-        let tokens = TokenList::new(read, reading);
-        Ok(Pointing { name, script, lines, sheet, reading, tokens, byte })
+        let nowdocs = if sheet.is_some() { Reading::Sheet } else { Reading::Ported };
+        let choices = Choices { nowdocs, octals };
+        let tokens = TokenList::new(read, choices);
+        Ok(Pointing { name, script, lines, sheet, choices, tokens, byte })
     }
 
     /// What is at the place.

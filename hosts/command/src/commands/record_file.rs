@@ -72,7 +72,10 @@ impl RecordFile {
         }
         let pool = if self.pool.is_none() { ", no pool beside the file" } else { "" };
         let reading = match &self.choices {
-            Some(choices) => format!(", by the {} reading of {}", choices.reading, choices.script),
+            Some(choices) => {
+                let octals = if choices.octal == "manual" { " with the manual's octals" } else { "" };
+                format!(", by the {} reading{} of {}", choices.reading, octals, choices.script)
+            }
             None => ", no choices beside the file".to_string(),
         };
         writeln!(out, "{}{}{}", counted(self.tokens(), "token"), pool, reading)?;

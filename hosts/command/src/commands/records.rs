@@ -5,25 +5,27 @@ use std::fs::{self, File};
 use std::io::{self, Write};
 use std::path::{Path, PathBuf};
 
-use puretakoi::{limits, list_to_file, End, Progress, Reading, Refusal, Session};
+use puretakoi::{limits, list_to_file, End, Progress, Refusal, Session};
 
 use crate::commands::arguments::Call;
 use crate::commands::choices::Choices;
-use crate::commands::options::{PRINT, SHEET};
+use crate::commands::options::{OCTAL, PRINT, SHEET};
 use crate::commands::output::{complain, graver, ALL_GOOD, NOT_DONE, REFUSED};
+use crate::commands::tokens::{choices, in_words};
 use crate::commands::{record_file, Verb};
 use crate::files;
+use crate::reading::octal::by_the_manual;
 
 /// The verb.
 pub const VERB: Verb = Verb {
     name: "records",
-    groups: &[&[&SHEET, &PRINT]],
+    groups: &[&[&SHEET, &PRINT], &[&OCTAL]],
     operands: "FILE..",
     about: "writes the tokens of scripts into record files, and prints a record file",
     more: "\
 Beside each script it writes FILE.records, 32 bytes a token, FILE.pool, their values, and FILE.records.choices, which
-says by which reading and of which bytes. Of a script that is refused or can't be read nothing is left, old files
-neither.
+says by which reading and octals and of which bytes. Of a script that is refused or can't be read nothing is left, old
+files neither. Without --octal an octal escape over 377 is refused.
 With --print FILE is one record file. A token is a line as of puretakoi tokens; `end not stated` is said of the tokens
 of a file that an older writer made, and always of the token of an empty script. A warning tells where its choices do
 not fit it or the script has changed.",
@@ -53,6 +55,9 @@ fn run(call: &Call) -> Result<u8, String> {
     if call.paths.iter().any(|path| files::is_standard(path)) {
         return Err("record files stand beside their script, and standard input has no place: name a file".to_string());
     }
+    if call.has(&PRINT) && call.has(&OCTAL) {
+        return Err("--print and --octal don't go together: give one of them".to_string());
+    }
     if call.has(&PRINT) {
         return match &call.paths[..] {
             [path] => Ok(record_file::print(path)),
@@ -60,8 +65,8 @@ fn run(call: &Call) -> Result<u8, String> {
         };
     }
     check_outputs(&call.paths)?;
-    let reading = if call.has(&SHEET) { Reading::Sheet } else { Reading::Ported };
-    Ok(call.paths.iter().map(|script| write_or_tell(script, reading)).fold(ALL_GOOD, graver))
+    let choices = choices(call);
+    Ok(call.paths.iter().map(|script| write_or_tell(script, choices)).fold(ALL_GOOD, graver))
 }
 
 /// Whether no script would be lost to a file that is written; else a sentence on it.
@@ -92,8 +97,8 @@ pub fn with_ending(name: &Path, ending: &str) -> PathBuf {
 
 /// Writes the files of a script. If that can't be done, what an earlier run left is removed, and a line says why; the
 /// status.
-fn write_or_tell(script: &Path, reading: Reading) -> u8 {
-    match write(script, reading) {
+fn write_or_tell(script: &Path, choices: puretakoi::Choices) -> u8 {
+    match write(script, choices) {
         Ok(()) => ALL_GOOD,
         Err(fault) => {
             complain(&format!("{}{}", fault.line, remove_old(script)));
@@ -102,16 +107,16 @@ fn write_or_tell(script: &Path, reading: Reading) -> u8 {
     }
 }
 
-fn write(script: &Path, reading: Reading) -> Result<(), Fault> {
+fn write(script: &Path, choices: puretakoi::Choices) -> Result<(), Fault> {
     let source = files::read(script).map_err(|line| Fault { line, status: NOT_DONE })?;
     let refused = |refusal: Refusal| Fault {
-        line: format!("{}: {}. {}", files::name(script), refusal, refusal.advice()),
+        line: format!("{}: {}", files::name(script), in_words(refusal, &by_the_manual(&source, refusal))),
         status: REFUSED,
     };
-    let (list, pool) = tables(&source, reading).map_err(refused)?;
+    let (list, pool) = tables(&source, choices).map_err(refused)?;
     let file = list_to_file(&list).map_err(refused)?;
     let name = files::name(script.file_name().map_or(script, Path::new));
-    let choices = Choices::new(reading, name, &source, file.len() / RECORD_BYTES, pool.len()).text();
+    let choices = Choices::new(choices, name, &source, file.len() / RECORD_BYTES, pool.len()).text();
     put(script, [&pool, &file, choices.as_bytes()]).map_err(|(path, error)| Fault {
         line: format!("can't write {}: {}; make room for it, or mend its permissions", files::name(&path), error),
         status: NOT_DONE,
@@ -122,8 +127,8 @@ fn write(script: &Path, reading: Reading) -> Result<(), Fault> {
 const RECORD_BYTES: usize = 32;
 
 /// List and pool of a whole script, each up to its mark. They begin with all the room that a script can need.
-fn tables(source: &[u8], reading: Reading) -> Result<(Vec<u32>, Vec<u8>), Refusal> {
-    let mut session = Session::fresh(reading);
+fn tables(source: &[u8], choices: puretakoi::Choices) -> Result<(Vec<u32>, Vec<u8>), Refusal> {
+    let mut session = Session::fresh(choices);
     let mut list = vec![0; 8 * limits::MOST_TOKENS];
     let mut pool = vec![0; limits::MOST_BYTES];
     while session.walk(source, End::Announced, u32::MAX, &mut list, &mut pool)? == Progress::Done {}

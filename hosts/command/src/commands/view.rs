@@ -3,9 +3,12 @@
 use std::fs;
 use std::path::Path;
 
+use puretakoi::Octal;
+
 use crate::commands::arguments::Call;
 use crate::commands::many::Many;
-use crate::commands::options::{Choice, BRAILLE, BRF, COLUMNS, HTML, JOBS, JSON, REFUSED_FIRST, STRICT, TEXT};
+use crate::commands::octals::octals;
+use crate::commands::options::{Choice, BRAILLE, BRF, COLUMNS, HTML, JOBS, JSON, OCTAL, REFUSED_FIRST, STRICT, TEXT};
 use crate::commands::output::{complain, graver, print, status, unwritten, NOT_DONE};
 use crate::commands::printing::{Form, Made, Printer};
 use crate::commands::Verb;
@@ -17,16 +20,26 @@ use crate::terminal;
 /// The verb.
 pub const VERB: Verb = Verb {
     name: "view",
-    groups: &[&[&TEXT, &BRAILLE, &JSON], &[&HTML], &[&BRF], &[&COLUMNS], &[&JOBS], &[&REFUSED_FIRST], &[&STRICT]],
+    groups: &[
+        &[&TEXT, &BRAILLE, &JSON],
+        &[&HTML],
+        &[&BRF],
+        &[&COLUMNS],
+        &[&JOBS],
+        &[&REFUSED_FIRST],
+        &[&STRICT],
+        &[&OCTAL],
+    ],
     operands: "PATH..",
-    about: "shows the rows, the remarks, the warnings and the refusals of sheets",
+    about: "shows the rows, the remarks, the notes, the warnings and the refusals of sheets",
     more: "\
 PATH.. are scripts, - for standard input, or folders with all .php files below them. Of one script the whole is shown.
 Of several each is shown, then come a line for each that is refused or has a warning and a summary. With --html or
 --brf a line for each sheet and the summary are printed, unless a form is asked for too; where the file is standard
 output, they go to standard error. --json prints one array of sheets.
 Signs: → a tab, … the line goes on, \\x1B a control or a byte that is no character, \\u{AD} a character not seen.
-A real → is shown as \\u{2192}, a real … as \\u{2026}, a backslash that would read as a sign as \\x5C.",
+A real → is shown as \\u{2192}, a real … as \\u{2026}, a backslash that would read as a sign as \\x5C.
+Without --octal an octal escape over 377 is read as in PHP, and a note tells where; it leaves the status as it is.",
     run,
 };
 
@@ -83,7 +96,8 @@ fn show(view: &View, found: &[Found]) -> u8 {
     let is_one = matches!(&call.paths[..], [path] if files::is_standard(path) || !path.is_dir());
     let takes_output = [&HTML, &BRF].into_iter().any(|choice| call.file(choice).map_or(false, files::is_standard));
     let mut printer = Printer::new(view.form, is_one, takes_output);
-    let many = Many { found, jobs: call.number(&JOBS).unwrap_or(1), strict: call.has(&STRICT) };
+    let (jobs, octals) = (call.number(&JOBS).unwrap_or(1), octals(call, Octal::Manual));
+    let many = Many { found, jobs, octals, strict: call.has(&STRICT) };
     let mut kept = Vec::new();
     let read = many.read(
         |number, name, sheet| view.make(number, name, sheet),

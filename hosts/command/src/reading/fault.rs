@@ -3,6 +3,7 @@
 use puretakoi::{refusals, Frame, Refusal, Session, Span};
 
 use crate::reading::mend::block_end;
+use crate::reading::octal::by_the_manual;
 use crate::reading::php::{is_blank, is_part_of_a_word, next_line, span_at};
 use crate::reading::suspect::Suspect;
 use crate::showing::shown::{pieces, shown};
@@ -111,7 +112,9 @@ impl Mark {
 fn detail(refusal: Refusal, script: &[u8], session: &Session, open: Option<Open>, mark: &Mark) -> Option<String> {
     match refusal.number {
         refusals::INVALID_UNICODE_ESCAPE | refusals::INVALID_OCTAL_ESCAPE => {
-            open.map(|open| format!("It stands in the {} that opens at {}.", open.what, open.span))
+            let place = open.map(|open| format!("It stands in the {} that opens at {}.", open.what, open.span));
+            let told: Vec<String> = place.into_iter().chain(by_the_manual(script, refusal)).collect();
+            Some(told.join(" ")).filter(|told| !told.is_empty())
         }
         refusals::INVALID_DOC_INDENTATION => {
             Some(format!("Before {} stand {}.", shown(label(session, script)?), blanks(mark.front())))

@@ -3,17 +3,18 @@
 
 use std::ops::Range;
 
-use puretakoi::{refusals, Frame, Label, Refusal, Span};
+use puretakoi::{refusals, Frame, Label, Octal, Refusal, Span};
 
 use crate::reading::fault::Fault;
 use crate::reading::form;
 use crate::reading::heredoc::Heredoc;
 use crate::reading::mend::{way_on, WayOn};
+use crate::reading::octal::{overflows, text, Overflow};
 use crate::reading::php::{span_at, Closer};
 use crate::reading::reader::{Reader, Step};
 use crate::reading::sheet::{block, Sheet};
 use crate::reading::suspect::suspect;
-use crate::reading::warning::Kind;
+use crate::reading::warning::{Kind, Warning};
 use crate::reading::watch::{look, Finding, Mend};
 
 /// How many refusals of open strings are told: behind each the reading is a guess.
@@ -35,10 +36,10 @@ struct Gatherer<'a> {
     guess_from: Option<u32>,
 }
 
-/// Reads a script.
-pub fn gather(script: &[u8]) -> Sheet {
+/// Reads a script by these octals.
+pub fn gather(script: &[u8], octals: Octal) -> Sheet {
     let lines = form::with_lf_lines(script);
-    let mut gatherer = Gatherer::new(lines.as_deref().unwrap_or(script));
+    let mut gatherer = Gatherer::new(lines.as_deref().unwrap_or(script), octals);
     gatherer.guess_from = lines.as_ref().map(|_| 0);
     while gatherer.goes_on() {}
     let mut sheet = gatherer.done();
@@ -49,8 +50,8 @@ pub fn gather(script: &[u8]) -> Sheet {
 }
 
 impl<'a> Gatherer<'a> {
-    fn new(script: &'a [u8]) -> Gatherer<'a> {
-        let (reader, sheet) = (Reader::new(script), Sheet::default());
+    fn new(script: &'a [u8], octals: Octal) -> Gatherer<'a> {
+        let (reader, sheet) = (Reader::new(script, octals), Sheet::default());
         Gatherer { script, reader, sheet, hidden: Vec::new(), meant: Vec::new(), guess_from: None }
     }
 
@@ -73,14 +74,36 @@ impl<'a> Gatherer<'a> {
         }
     }
 
-    /// Keeps the block or the heredoc that a step closed.
+    /// Keeps the block or the heredoc that a step closed, and the octal escapes over 377 that it read.
     fn take_step(&mut self, step: &Step) {
+        self.take_notes(self.text_in_php(step));
         self.sheet.blocks.extend(block(self.script, step));
         let is_closed = step.after.top() == Some(Frame::Scripting) && step.after.depth() == step.before.depth();
         match step.before.top() {
             Some(Frame::Heredoc(label)) if is_closed => self.take_heredoc(step, label, step.after.line()),
             _ => {}
         }
+    }
+
+    /// Keeps the octal escapes over 377 of a text that was read, as many as are told and one more; by the Rust's
+    /// octals they are refused before.
+    fn take_notes(&mut self, text: Option<Range<usize>>) {
+        let text = text.filter(|_| self.reader.choices().octals == Octal::Manual);
+        let most = MOST_TOLD + 1 - self.sheet.notes.len();
+        self.sheet.notes.extend(text.into_iter().flat_map(|text| overflows(self.script, text, most)));
+    }
+
+    /// The text with escapes that a step read. Where it begins in brackets that PHP refuses, which a warning tells,
+    /// what stands in them is left out.
+    fn text_in_php(&self, step: &Step) -> Option<Range<usize>> {
+        let text = text(step)?;
+        let start = text.start as u32;
+        let is_there = |warning: &Warning| warning.kind == Kind::Offset && warning.span.position == start;
+        if !self.sheet.warnings.iter().any(is_there) {
+            return Some(text);
+        }
+        let brackets = self.script[text.clone()].iter().position(|byte| *byte == b']').unwrap_or(text.len());
+        Some(text.start + brackets..text.end)
     }
 
     /// Keeps a heredoc, which the step opened or read, with its label and the line of its closing label.
@@ -128,6 +151,7 @@ impl<'a> Gatherer<'a> {
     }
 
     fn close_heredoc(&mut self, step: &Step, label: Label, closer: Closer) {
+        self.take_notes(self.text_in_php(step).map(|text| text.start..closer.label));
         self.take_heredoc(step, label, span_at(self.script, closer.label).line);
         self.reader.take_back(step);
         self.reader.go_on(closer.end, Frame::Scripting);
@@ -137,7 +161,8 @@ impl<'a> Gatherer<'a> {
     fn take_refusal(&mut self, refusal: Refusal) -> bool {
         let (session, opening) = (self.reader.session().clone(), self.reader.opening());
         let is_end = refusal.number == refusals::UNEXPECTED_END_OF_FILE;
-        let suspect = if is_end { suspect(self.reader.lent(), session.position()) } else { None };
+        let choices = self.reader.choices();
+        let suspect = if is_end { suspect(self.reader.lent(), session.position(), choices) } else { None };
         let mut way = way_on(self.script, refusal, &session, opening, suspect.map(|suspect| suspect.end));
         self.sheet.faults.push(Fault::new(refusal, self.script, &session, opening, suspect));
         let ends = self.sheet.faults.iter().filter(|fault| fault.refusal.number == refusals::UNEXPECTED_END_OF_FILE);
@@ -162,6 +187,7 @@ impl<'a> Gatherer<'a> {
         let is_before = |span: Span| (span.position as usize) < at;
         self.sheet.blocks.retain(|block| is_before(block.span));
         self.sheet.heredocs.retain(|heredoc| is_before(heredoc.span));
+        self.sheet.notes.retain(|note| is_before(note.span));
         self.sheet.warnings.retain(|warning| is_before(warning.span));
         self.sheet.faults.retain(|fault| is_before(fault.place));
         self.guess_from = self.guess_from.or(Some(at as u32));
@@ -173,16 +199,35 @@ impl<'a> Gatherer<'a> {
         sheet.remarks = std::mem::take(self.reader.remarks());
         sheet.end = self.reader.session().position();
         form::look_at_end(self.script, &self.reader, &mut sheet);
+        leave_what_is_not_told(&mut sheet.notes);
         tell_what_is_hidden(&mut sheet, &self.hidden);
         sheet.warnings.sort_by_key(|warning| warning.span.position);
         let (meant, from) = (self.meant, self.guess_from.unwrap_or(u32::MAX));
         let is_guess = |span: Span| span.position >= from || meant.contains(&span.position);
         sheet.blocks.iter_mut().for_each(|block| block.is_guess = is_guess(block.span));
         sheet.heredocs.iter_mut().for_each(|heredoc| heredoc.is_guess = is_guess(heredoc.span));
+        sheet.notes.iter_mut().for_each(|note| note.is_guess = is_guess(note.span));
         sheet.remarks.iter_mut().for_each(|remark| remark.is_guess = is_guess(remark.span));
         sheet.faults.iter_mut().for_each(|fault| fault.is_guess = is_guess(fault.place));
+        mark_notes_in_guesses(&mut sheet);
         sheet
     }
+}
+
+/// Marks the notes on what stands in a heredoc that is a guess.
+fn mark_notes_in_guesses(sheet: &mut Sheet) {
+    let guesses = sheet.heredocs.iter().filter(|heredoc| heredoc.is_guess);
+    let texts: Vec<Range<u32>> = guesses.map(|heredoc| heredoc.span.line + 1..heredoc.last).collect();
+    for note in &mut sheet.notes {
+        note.is_guess |= texts.iter().any(|lines| lines.contains(&note.span.line));
+    }
+}
+
+/// Leaves as many notes as are told; the last says where there are more.
+fn leave_what_is_not_told(notes: &mut Vec<Overflow>) {
+    let has_more = notes.len() > MOST_TOLD;
+    notes.truncate(MOST_TOLD);
+    notes.last_mut().into_iter().for_each(|note| note.is_last_told = has_more);
 }
 
 /// Adds to warnings on heredocs which blocks lie in the lines that the library takes for their text.

@@ -6,6 +6,7 @@ pub mod form;
 pub mod gather;
 pub mod heredoc;
 pub mod mend;
+pub mod octal;
 pub mod php;
 pub mod reader;
 pub mod remark;

@@ -5,6 +5,8 @@ use std::ops::Range;
 use puretakoi::limits::MOST_LABEL;
 use puretakoi::Span;
 
+use crate::reading::octal::may_overflow;
+
 /// The name behind which PHP reads nothing.
 const HALT: &[u8] = b"__halt_compiler";
 
@@ -124,7 +126,7 @@ pub fn halt_end(script: &[u8], at: usize) -> Option<usize> {
     Some(end).filter(|_| script[at..end].eq_ignore_ascii_case(HALT) && !is_other)
 }
 
-/// Whether a line may hold what PHP reads otherwise, so that it must be looked at step by step.
+/// Whether a line may hold what PHP reads otherwise or a note tells of, so that it must be looked at step by step.
 pub fn is_suspicious(line: &[u8]) -> bool {
     let holds = |word: &[u8]| line.windows(word.len()).any(|part| part.eq_ignore_ascii_case(word));
     let has_tag = || (0..line.len()).any(|at| line[at..].starts_with(b"<?") && odd_tag(line, at).is_some());
@@ -134,6 +136,7 @@ pub fn is_suspicious(line: &[u8]) -> bool {
         || holds(b"\\{$")
         || has_tag()
         || has_odd_offset(line)
+        || may_overflow(line)
         || holds(HALT)
 }
 

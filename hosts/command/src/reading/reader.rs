@@ -1,7 +1,7 @@
 //! A script as the library reads it for a sheet: plain lines in walks, texts and odd lines in steps. It keeps where
 //! each text opened, and every comment. A step may be taken back, and the reading go on from another place.
 
-use puretakoi::{limits, refusals, End, Frame, Progress, Reading, Record, Refusal, Session, Span};
+use puretakoi::{limits, refusals, Choices, End, Frame, Octal, Progress, Reading, Record, Refusal, Session, Span};
 
 use crate::reading::php::{is_suspicious, next_line, span_at};
 use crate::reading::remark::Remark;
@@ -15,6 +15,7 @@ const PLAIN: u8 = b'-';
 /// A script that is being read by the sheet reading.
 pub struct Reader {
     script: Vec<u8>,
+    choices: Choices,
     session: Session,
     progress: Progress,
     openings: Openings,
@@ -42,12 +43,14 @@ pub struct Step {
 }
 
 impl Reader {
-    /// A reader before its script.
-    pub fn new(script: &[u8]) -> Reader {
+    /// A reader before its script, by these octals.
+    pub fn new(script: &[u8], octals: Octal) -> Reader {
         let openings = Openings { spans: vec![Span::START] };
+        let choices = Choices { nowdocs: Reading::Sheet, octals };
         Reader {
             script: script.to_vec(),
-            session: Session::fresh(Reading::Sheet),
+            choices,
+            session: Session::fresh(choices),
             progress: Progress::Done,
             openings_before: openings.clone(),
             openings,
@@ -62,6 +65,11 @@ impl Reader {
     /// Where the script is being read.
     pub fn session(&self) -> &Session {
         &self.session
+    }
+
+    /// What is chosen for each reading of the script.
+    pub fn choices(&self) -> Choices {
+        self.choices
     }
 
     /// Where the text on top of the mode stack opened, if there is one.
@@ -155,7 +163,7 @@ impl Reader {
 
     /// Begins again at a place of the script, with nothing open. Comments from there on are forgotten.
     pub fn begin_again(&mut self, at: usize) {
-        self.session = Session::fresh(Reading::Sheet);
+        self.session = Session::fresh(self.choices);
         self.session.set_span(span_at(&self.script, at));
         self.session.set_top(Frame::Scripting);
         self.openings = Openings { spans: vec![self.session.span()] };

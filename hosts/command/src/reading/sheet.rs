@@ -2,11 +2,12 @@
 
 use std::ops::Range;
 
-use puretakoi::{kinds, Frame, Span};
+use puretakoi::{kinds, Frame, Octal, Span};
 
 use crate::reading::fault::Fault;
 use crate::reading::gather::gather;
 use crate::reading::heredoc::Heredoc;
+use crate::reading::octal::Overflow;
 use crate::reading::reader::Step;
 use crate::reading::remark::Remark;
 use crate::reading::warning::Warning;
@@ -21,6 +22,8 @@ pub struct Sheet {
     pub heredocs: Vec<Heredoc>,
     /// Its comments that were read.
     pub remarks: Vec<Remark>,
+    /// Its notes: the octal escapes over 377 that were read as PHP reads them, the first hundred.
+    pub notes: Vec<Overflow>,
     /// Its warnings, in the script's order.
     pub warnings: Vec<Warning>,
     /// Its refusals: the first is the reading's, those behind it are met where the reading is a guess.
@@ -110,9 +113,14 @@ impl Part<'_> {
 }
 
 impl Sheet {
-    /// Reads a script to its end, behind refusals where that is safe.
+    /// Reads a script to its end, behind refusals where that is safe; an octal escape over 377 as PHP reads it.
     pub fn read(script: &[u8]) -> Sheet {
-        gather(script)
+        Sheet::read_by(script, Octal::Manual)
+    }
+
+    /// Reads a script to its end, behind refusals where that is safe, by these octals.
+    pub fn read_by(script: &[u8], octals: Octal) -> Sheet {
+        gather(script, octals)
     }
 
     /// What it comes to.

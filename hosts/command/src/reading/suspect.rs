@@ -1,6 +1,6 @@
 //! Finds the string that has a quote too many, if one may have.
 
-use puretakoi::{kinds, limits, records, End, Progress, Reading, Session, Span};
+use puretakoi::{kinds, limits, records, Choices, End, Progress, Session, Span};
 
 use crate::reading::php::{is_part_of_a_word, literal_end, span_at};
 
@@ -14,9 +14,10 @@ pub struct Suspect {
 }
 
 /// The first quoted literal before a position that a word or a quote follows at once, as in no script that PHP takes.
-pub fn suspect(script: &[u8], before: u32) -> Option<Suspect> {
+/// The script is read by these choices.
+pub fn suspect(script: &[u8], before: u32, choices: Choices) -> Option<Suspect> {
     let (mut list, mut pool) = (vec![0; 8 * limits::MOST_TOKENS], vec![0; limits::MOST_BYTES]);
-    let mut session = Session::fresh(Reading::Sheet);
+    let mut session = Session::fresh(choices);
     let front = script.get(..limits::MOST_BYTES).unwrap_or(script);
     while session.walk(front, End::Announced, u32::MAX, &mut list, &mut pool) == Ok(Progress::Done) {}
     let literals = records(&list).take(session.tokens() as usize).filter(|record| {

@@ -4,6 +4,7 @@
 
 use crate::reading::fault::{counted, Fault};
 use crate::reading::heredoc::Heredoc;
+use crate::reading::octal::Overflow;
 use crate::reading::remark::Remark;
 use crate::reading::sheet::{Block, Part, Sheet};
 use crate::reading::warning::Warning;
@@ -38,7 +39,7 @@ pub fn sheet(path: &str, sheet: &Sheet) -> String {
     pages.text()
 }
 
-/// A sheet's name, its refusals and warnings or ok, and what is in it.
+/// A sheet's name, its refusals and warnings or ok, its notes, and what is in it.
 fn heading(path: &str, sheet: &Sheet) -> Vec<String> {
     let troubles = sheet.faults.iter().map(refused).chain(sheet.warnings.iter().map(warned));
     let mut told = vec![path.to_string()];
@@ -46,6 +47,7 @@ fn heading(path: &str, sheet: &Sheet) -> Vec<String> {
     if told.len() == 1 {
         told.push("ok".to_string());
     }
+    told.extend(sheet.notes.iter().map(noted));
     told.push(Held::of(sheet).in_words());
     told
 }
@@ -61,6 +63,11 @@ fn refused(fault: &Fault) -> String {
 /// A warning.
 fn warned(warning: &Warning) -> String {
     format!("warned at {}: {}", place(warning.span), warning.sentence())
+}
+
+/// A note.
+fn noted(note: &Overflow) -> String {
+    format!("note at {}{}: {}", place(note.span), guess(note.is_guess), note.sentence())
 }
 
 /// A place in words.

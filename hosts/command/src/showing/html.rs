@@ -1,6 +1,7 @@
 //! A page of sheets: self-contained, with each block's rows as raised dots and as text, and the remarks between them.
 
 use crate::reading::fault::{Fault, Mark};
+use crate::reading::octal::Overflow;
 use crate::reading::remark::Remark;
 use crate::reading::sheet::{Block, Part, Sheet};
 use crate::reading::warning::Warning;
@@ -53,7 +54,9 @@ pub fn section(path: &str, number: usize, sheet: &Sheet) -> Section {
         Part::Remark(remark) => remark_text(remark),
     };
     let parts: String = sheet.parts().into_iter().map(part_text).collect();
-    let content = [heading, read, troubles(number, sheet), parts].concat();
+    let notes: String =
+        sheet.notes.iter().zip(1..).map(|(note, at)| note_text(note, &format!("{}-{}", number, at))).collect();
+    let content = [heading, read, troubles(number, sheet), notes, parts].concat();
     let body = format!("<section aria-labelledby=\"sheet-{}\">\n{}</section>\n", number, content);
     Section { entry, body }
 }
@@ -140,6 +143,13 @@ fn warning_text(warning: &Warning, id: &str) -> String {
         "<div class=\"warned\" id=\"trouble-{}\">\n<h3>Warning at {}</h3>\n{}<p>{}</p>\n</div>\n",
         id, place, mark, told
     )
+}
+
+/// A note on an octal escape over 377: its line with the place marked, what is there and what to do.
+fn note_text(note: &Overflow, id: &str) -> String {
+    let line = marked_line(&note.mark, &format!("note-{}", id));
+    let told = escaped(&format!("Note at {}{}: {}", note.span, guess(note.is_guess), note.sentence()));
+    format!("<aside role=\"note\" class=\"remark\">\n{}<p>{}</p>\n</aside>\n", line, told)
 }
 
 /// A place, which leads to its line where that is shown.

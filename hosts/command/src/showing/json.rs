@@ -1,9 +1,9 @@
 //! A sheet as JSON, for programs.
 //!
 //! A sheet is one object: `path`, `verdict` (`ok`, `warned` or `refused`), `bytes` (how many were read), and the lists
-//! `blocks`, `heredocs`, `remarks`, `warnings` and `refusals`, which are empty where there are none. What stands at a
-//! place has it as `line`, `column` (both from 1, in bytes) and `position` (bytes before it). `guess` says whether it
-//! was read where the reading is a guess.
+//! `blocks`, `heredocs`, `remarks`, `notes`, `warnings` and `refusals`, which are empty where there are none. What
+//! stands at a place has it as `line`, `column` (both from 1, in bytes) and `position` (bytes before it). `guess` says
+//! whether it was read where the reading is a guess.
 //!
 //! Bytes of the script (a label, a row, a remark, a token's value) are fields, either of what they belong to or of an
 //! object of their own: `text` is always there; where the bytes are no UTF-8 it has U+FFFD in place of those that are
@@ -14,6 +14,7 @@
 
 use crate::reading::fault::Fault;
 use crate::reading::heredoc::Heredoc;
+use crate::reading::octal::{Overflow, OCTAL_OVERFLOW};
 use crate::reading::remark::Remark;
 use crate::reading::sheet::{Block, Indentation, Sheet, Verdict};
 use crate::reading::warning::Warning;
@@ -32,6 +33,7 @@ pub fn sheet(path: &str, sheet: &Sheet) -> String {
         ("blocks", array(sheet.blocks.iter().map(block))),
         ("heredocs", array(sheet.heredocs.iter().map(heredoc))),
         ("remarks", array(sheet.remarks.iter().map(remark))),
+        ("notes", array(sheet.notes.iter().map(note))),
         ("warnings", array(sheet.warnings.iter().map(warning))),
         ("refusals", array(sheet.faults.iter().map(refusal))),
     ])
@@ -128,6 +130,15 @@ fn remark(remark: &Remark) -> String {
     let mut fields = place_fields(remark.span);
     fields.extend(byte_fields(&remark.text));
     fields.push(("guess", remark.is_guess.to_string()));
+    object(&fields)
+}
+
+/// A note on an octal escape over 377: its bytes as they stand, and the byte that it is.
+fn note(note: &Overflow) -> String {
+    let mut fields = vec![("kind", string(OCTAL_OVERFLOW))];
+    fields.extend(place_fields(note.span));
+    fields.extend([("escape", string(&note.escape)), ("byte", note.byte.to_string())]);
+    fields.extend([("told", string(&note.sentence())), ("guess", note.is_guess.to_string())]);
     object(&fields)
 }
 

@@ -2,6 +2,7 @@
 
 use crate::reading::fault::{counted, Fault, Mark};
 use crate::reading::heredoc::Heredoc;
+use crate::reading::octal::Overflow;
 use crate::reading::remark::Remark;
 use crate::reading::sheet::{Block, Indentation, Part, Sheet, Verdict};
 use crate::reading::warning::Warning;
@@ -100,7 +101,7 @@ impl Totals {
     }
 }
 
-/// One sheet as a whole: its blocks, heredocs and remarks, its warnings and refusals, and how far it was read.
+/// One sheet as a whole: its blocks, heredocs and remarks, its notes, warnings and refusals, and how far it was read.
 pub fn whole(path: &str, sheet: &Sheet, columns: Option<usize>) -> String {
     whole_with(path, sheet, columns, &|block| numbered_rows(block, columns).collect())
 }
@@ -115,6 +116,10 @@ pub(crate) fn whole_with(
     let mut lines = vec![path.to_string(), String::new()];
     for part in sheet.parts() {
         lines.extend(part_lines(&part, columns, block_lines));
+        lines.push(String::new());
+    }
+    for note in &sheet.notes {
+        lines.extend(note_lines(note, columns));
         lines.push(String::new());
     }
     for warning in &sheet.warnings {
@@ -189,16 +194,21 @@ pub fn block_form(block: &Block) -> String {
 /// How far a sheet was read.
 pub fn what_was_read(sheet: &Sheet) -> String {
     let held = Held::of(sheet).in_words();
-    let warnings = match sheet.warnings.len() {
+    let some = |count: usize, thing: &str| match count {
         0 => String::new(),
-        count => format!(", {}", counted(count, "warning")),
+        count => format!(", {}", counted(count, thing)),
     };
+    let notes = match sheet.notes.last() {
+        Some(last) if last.is_last_told => format!(", the first {}", counted(sheet.notes.len(), "note")),
+        _ => some(sheet.notes.len(), "note"),
+    };
+    let told = notes + &some(sheet.warnings.len(), "warning");
     let stopped = sheet.stopped.map_or_else(String::new, |span| format!(", nothing is read from {} on", span));
     match sheet.faults.len() {
         0 if sheet.stopped.is_none() => {
-            format!("Read to the end, {}: {}{}.", counted(sheet.end as usize, "byte"), held, warnings)
+            format!("Read to the end, {}: {}{}.", counted(sheet.end as usize, "byte"), held, told)
         }
-        count => format!("{}{}. Read: {}{}.", counted(count, "refusal"), stopped, held, warnings),
+        count => format!("{}{}. Read: {}{}.", counted(count, "refusal"), stopped, held, told),
     }
 }
 
@@ -244,6 +254,12 @@ fn remark_lines(remark: &Remark, columns: Option<usize>) -> impl Iterator<Item =
 /// The columns that are left behind a number and its bar.
 fn room(columns: usize, digits: usize) -> usize {
     columns.saturating_sub(digits + 2).max(FEWEST_COLUMNS)
+}
+
+/// A note: its line with a mark, what is there and what to do.
+fn note_lines(note: &Overflow, columns: Option<usize>) -> Vec<String> {
+    let mark = marked_line(&note.mark, columns).into_iter();
+    mark.chain([format!("note at {}{}: {}", note.span, guess(note.is_guess), note.sentence())]).collect()
 }
 
 /// A warning: its line with a mark, what is there and what to do.

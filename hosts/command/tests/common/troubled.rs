@@ -37,15 +37,7 @@ pub fn warned() -> Sheet {
         advice: "Use LF.".to_string(),
     };
     let (blocks, heredocs) = parts(false);
-    Sheet {
-        blocks,
-        heredocs,
-        remarks: Vec::new(),
-        warnings: vec![opens_nothing, cr_lines],
-        faults: Vec::new(),
-        end: 60,
-        stopped: None,
-    }
+    Sheet { blocks, heredocs, warnings: vec![opens_nothing, cr_lines], end: 60, ..Sheet::default() }
 }
 
 /// A sheet with two refusals, all behind the first a guess.
@@ -61,5 +53,5 @@ pub fn guessed() -> Sheet {
     };
     let (blocks, heredocs) = parts(true);
     let faults = vec![fault(false), fault(true)];
-    Sheet { blocks, heredocs, remarks: Vec::new(), warnings: Vec::new(), faults, end: 11, stopped: None }
+    Sheet { blocks, heredocs, faults, end: 11, ..Sheet::default() }
 }
