@@ -6,9 +6,10 @@ use cases::{Call, Function};
 use telling::Teller;
 
 use crate::sessions::{bare, plain, put_marks, SCRIPTING};
+use crate::worked;
 
-/// A title, a call, and what it gives, worked by hand.
-const WORKED: [(&str, &str, &str); 33] = [
+/// The cases that are worked by hand.
+const WORKED: [worked::Case; 33] = [
     (
         "`<?php 'a' 12;` and a break in one walk: each record bears its own step's end",
         "walk 99 1 199:0,1,1,1 24 8 6 3c3f706870202761272031323b0a",
@@ -214,14 +215,7 @@ const HEAD: &[u8] = b"<?php\n\t";
 /// A file's lines: each worked case with its title, then each text after a head, with marks and as a part, and what was
 /// read of it alone.
 pub fn lines(teller: &mut Teller) -> Vec<(Option<&'static str>, Call)> {
-    let mut lines = Vec::new();
-    for (title, line, given) in WORKED {
-        let call = Call::read(line.as_bytes()).expect(line);
-        let mut told = Vec::new();
-        teller.told(&call).write(&mut told);
-        assert_eq!(String::from_utf8_lossy(&told), given, "{}", line);
-        lines.push((Some(title), call));
-    }
+    let mut lines = worked::lines(&WORKED, teller);
     for (function, texts) in TEXTS {
         for text in texts {
             let mut call = plain(function, HEAD, text, bare(SCRIPTING));

@@ -13,6 +13,7 @@ mod octals;
 mod routines;
 mod sessions;
 mod walks;
+mod worked;
 
 use std::collections::{BTreeSet, HashSet};
 use std::io;

@@ -7,9 +7,10 @@ use telling::Teller;
 
 use crate::sessions::{bare, plain, put_frames, trimmed, Slot, DOUBLE_QUOTE, HEREDOC, SCRIPTING};
 use crate::walks;
+use crate::worked;
 
-/// A title, a call, and what it gives, worked by hand.
-const WORKED: [(&str, &str, &str); 24] = [
+/// The cases that are worked by hand.
+const WORKED: [worked::Case; 24] = [
     (
         "`\\400` under the manual's choice: one byte, 0",
         "read_double - 1 199:0,1,1,1,0,0,2,1 8 1 5 5c34303022",
@@ -187,14 +188,7 @@ const OVERFLOW: u32 = 3;
 
 /// A file's lines: each worked case with its title, then all others.
 pub fn lines(teller: &mut Teller) -> Vec<(Option<&'static str>, Call)> {
-    let mut lines = Vec::new();
-    for (title, line, given) in WORKED {
-        let call = Call::read(line.as_bytes()).expect(line);
-        let mut told = Vec::new();
-        teller.told(&call).write(&mut told);
-        assert_eq!(String::from_utf8_lossy(&told), given, "{}", line);
-        lines.push((Some(title), call));
-    }
+    let mut lines = worked::lines(&WORKED, teller);
     let others = [every_escape(teller), ends(), fresh(), choices(), scripts(teller)].concat();
     lines.extend(others.into_iter().map(|call| (None, call)));
     lines
