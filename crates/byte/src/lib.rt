@@ -1,5 +1,7 @@
 // Bytes: their classes; the refusal numbers by name; and the choice that decides one of them.
 // Of the Rust: the byte tests of its macros, and error.rs.
+#![tactic(auto)]
+
 ghost use Rattle.std.specs.Prelude.{◌≡◌, ◌≤◌};
 ghost use Rattle.byte.specs.Words.{if◌then◌else◌};
 ghost use Rattle.byte.specs.Bytes.{is_digit, is_octal, is_hex, is_letter, is_start, is_identifier, is_blank, is_no_break, is_none_of};

@@ -1,5 +1,7 @@
 // The closer of a text block in the ported modes: after an LF, blanks, then the label's bytes, followed by anything at all.
 // Of the Rust: the arm of heredoc and nowdoc that meets an LF. A label has at most 64 bytes, a source at most 65,536.
+#![tactic(auto)]
+
 ghost use Rattle.std.specs.Prelude.{◌≡◌, ◌+◌, ◌≤◌, ◌<◌, length, drop};
 ghost use Rattle.byte.specs.Bytes.{is_blank};
 ghost use Rattle.source.specs.Code.{RunEnd};

@@ -1,5 +1,7 @@
 // Comments at Scripting: `//` and `#` up to LF, `?>` or the end, `/*` through the first `*/` after it.
 // Of the Rust: the rows of `scripting` that read comments. Here the LF is not taken, `/*/` is open, and an open `/*` is refused.
+#![tactic(auto)]
+
 ghost use Rattle.std.specs.Prelude.{◌≡◌, ◌+◌, ◌≤◌, ◌<◌, length, get_or, drop};
 ghost use Rattle.source.specs.Code.{RunEnd};
 ghost use Rattle.byte.specs.Words.{if◌then◌else◌};

@@ -1,5 +1,7 @@
 // From a plan to records, value bytes and numbers, or to a refusal that leaves all as it was. It knows no session.
 // Of the Rust: what `tokenize`'s loop does with a routine's answer. In order: spans; values; records; room and the whole.
+#![tactic(auto)]
+
 ghost use Rattle.std.specs.Prelude.{◌≡◌, ◌+◌, ◌*◌, ◌≤◌, length};
 ghost use Rattle.byte.specs.Laid.{laid};
 ghost use Rattle.token.specs.Records.{record_of};

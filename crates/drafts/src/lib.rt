@@ -1,5 +1,7 @@
 // The text modes, quoted literals and numbers: a scan measures the text, and its plan says which tokens are written of it.
 // Of the Rust: what double_quote, shell_exec, docstring and nowdoc push after their loops, and `tokenize_number`.
+#![tactic(auto)]
+
 ghost use Rattle.std.specs.Prelude.{◌≡◌, ◌+◌, ◌≤◌, drop};
 ghost use Rattle.byte.specs.Words.{if◌then◌else◌};
 ghost use Rattle.state.specs.Bounds.{label_bytes};

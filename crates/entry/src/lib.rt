@@ -1,5 +1,7 @@
 // Every call in the host's own session: it is taken out, the walk is made by value, and the session of its turn is
 // stored back. Nothing is decided here.
+#![tactic(auto)]
+
 ghost use Rattle.demands.specs.Walks.{called_on};
 ghost use Rattle.entry.specs.Entries.{Entered};
 

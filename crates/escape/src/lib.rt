@@ -1,5 +1,7 @@
 // Escapes: what a backslash and the bytes after it stand for, and code points in UTF-8.
 // Of the Rust: the escapes of its string routines, read by one reader. In the order of unit's definitions, Digits and then Escapes.
+#![tactic(auto)]
+
 ghost use Rattle.std.specs.Prelude.{◌≡◌, true, false, ltb, ◌+◌, ◌*◌, ◌≤◌, ◌<◌, length, drop};
 ghost use Rattle.byte.specs.Words.{if◌then◌else◌};
 ghost use Rattle.byte.specs.Laid.{laid};

@@ -1,6 +1,8 @@
 // The mode Initial: inline text up to the first tag. Of the Rust: `initial` of mod.rs.
 // A look never goes further than the one byte that decides; where that byte lies past the part, it is undecided.
 // In order: the tag at a `<`; the first tag of a text; the plan.
+#![tactic(auto)]
+
 ghost use Rattle.std.specs.Prelude.{◌≡◌, ◌+◌, ◌≤◌, ◌<◌, length, get_or, drop};
 ghost use Rattle.byte.specs.Words.{if◌then◌else◌, ◌is◌, bytes};
 ghost use Rattle.outcome.specs.declared.Tag.{Tag};

@@ -1,6 +1,8 @@
 // Interpolations in a text: `${`, `{` before a `$`, and variables with what follows their name.
 // Of the Rust: the arms of double_quote, shell_exec and heredoc that begin with `$` or `{`, and of the double-quoted literal.
 // A look never goes further than the one byte that decides; where that byte lies past the part, it is undecided.
+#![tactic(auto)]
+
 ghost use Rattle.std.specs.Prelude.{◌≡◌, ◌+◌, ◌≤◌, ◌<◌, length, drop};
 ghost use Rattle.unit.specs.declared.TextUnit.{TextUnit};
 ghost use Rattle.unit.specs.Escapes.{last};

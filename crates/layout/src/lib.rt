@@ -1,4 +1,6 @@
 // A session as numbers, both ways, and a turn as numbers: what crosses to a host. include/puretakoi.h tells the layout.
+#![tactic(auto)]
+
 ghost use Rattle.std.specs.Prelude.{◌≡◌, [], ◌∷◌, ◌+◌, ◌*◌, ◌≤◌, ◌<◌, length, get_or, drop};
 ghost use Rattle.byte.specs.Laid.{laid};
 ghost use Rattle.state.specs.Bounds.{no_slot, is_stack};

@@ -2,6 +2,8 @@
 // Of the Rust: what `tokenize`'s loop does in one turn. The gate, steps that only pass bytes, the change of frame
 // and the turns one after another are crate walk's.
 // What step and the readings give in a session is told in specs/.
+#![tactic(auto)]
+
 ghost use Rattle.std.specs.Prelude.{length};
 ghost use Rattle.commit.specs.Code.{Committed};
 ghost use Rattle.lexer.specs.Code.{outcome_at, Standing};

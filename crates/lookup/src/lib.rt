@@ -1,6 +1,8 @@
 // Which token is under the finger: the last record of a list whose position is at or before a byte (document 02, P3),
 // and where the step ended that wrote it (P4).
 // The list is only read, and at most 17 of its records are looked at. Any list, count and byte may come.
+#![tactic(auto)]
+
 ghost use Rattle.std.specs.Prelude.{◌≡◌, ◌*◌, ◌≤◌, length};
 ghost use Rattle.source.specs.Cursor.{origin};
 ghost use Rattle.lookup.specs.declared.Lookup.{Lookup};

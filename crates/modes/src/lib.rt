@@ -3,6 +3,8 @@
 // In order: LookingForVarname, LookingForProperty and VarOffset (lookings); Scripting's table (scripting); a step of it
 // that only passes bytes (passing); what a call reads (rows); and here the plan of any call. Numbers, texts and sheets
 // are the crate drafts, the mode Initial is the crate initial.
+#![tactic(auto)]
+
 ghost use Rattle.std.specs.Prelude.{◌≡◌, true, drop};
 ghost use Rattle.state.specs.Bounds.{is_frame};
 ghost use Rattle.outcome.specs.Steps.{call_at};

@@ -1,5 +1,7 @@
 // Number literals: how long the one at a place is, of which kind, and its value.
 // Of the Rust: `tokenize_number`, `read_digits`, `read_digits_fn`, `parse_int` of mod.rs. Where no number stands it answers as the Rust does.
+#![tactic(auto)]
+
 ghost use Rattle.std.specs.Prelude.{◌≡◌, ◌+◌, ◌<◌, ◌≤◌, length, drop};
 ghost use Rattle.byte.specs.Laid.{laid};
 ghost use Rattle.number.specs.Numbers.{is_one, base_named, base_of, is_exponent, is_sign, last, digits_more, digits, signed};

@@ -1,6 +1,8 @@
 // The opening of a text block: `<<<`, a label of 1 to 64 bytes that may stand in single quotes, and a break.
 // Of the Rust: the arms of `scripting` that begin with `<<<`. A look never goes further than the one byte that decides; where that
 // byte lies past the part, it is undecided. In order: from the break back to the first `<`, then the plan.
+#![tactic(auto)]
+
 ghost use Rattle.std.specs.Prelude.{◌≡◌, ◌+◌, ◌≤◌, ◌<◌, length, drop};
 ghost use Rattle.outcome.specs.Openings.{last_opening, line_feed, doc_break, doc_quote, doc_end, doc_name, doc_start, doc_label, third_less};
 ghost use Rattle.outcome.specs.Openings.{opening, doc_frame, opened};

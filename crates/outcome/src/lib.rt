@@ -1,5 +1,7 @@
 // What a step comes to: the words in which the modes, the step and the three readings are told.
 // The definitions and theorems over them stand in specs/ and proofs/; the code that follows them in the crates modes and lexer.
+#![tactic(auto)]
+
 use state::Frame;
 
 // What is asked for: a step, or one of the three readings.

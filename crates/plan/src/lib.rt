@@ -1,5 +1,7 @@
 // Plans: what a routine answers before anything is written. A plan holds no session and no table.
 // In order: how a value comes about, tokens to be written, the plan; then the plans that the modes make again and again.
+#![tactic(auto)]
+
 ghost use Rattle.std.specs.Prelude.{◌≡◌, ◌+◌, ◌-◌, ◌≤◌};
 ghost use Rattle.state.specs.Bounds.{label_bytes, no_label};
 ghost use Rattle.plan.specs.Code.{Named, copied_draft, no_draft, no_drafts, one_draft, goes_plan, one_plan, parted_plan, ending_plan};

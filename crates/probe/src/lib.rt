@@ -1,6 +1,8 @@
 // The readings one at a time, as numbers, for the comparison with the Rust. A `&[u8]` crosses as a pointer and a length.
 // Any numbers at all may come in: what can't be taken is refused by its number, and nothing is written then.
 // In order: a mode and a stop as numbers; the scan asked for; the two functions for texts; the two for numbers.
+#![tactic(auto)]
+
 ghost use Rattle.std.specs.Prelude.{◌≡◌};
 ghost use Rattle.text.specs.Code.{measured};
 ghost use Rattle.probe.specs.Probes.{mode_of, asked, stop_number, amount_of, refusal, numbered, Valued};

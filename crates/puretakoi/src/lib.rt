@@ -2,6 +2,8 @@
 // answer as lent numbers. Any numbers at all may come in: what can't be taken is refused by its number.
 // In order: the calls without a session; a fresh session; the step, the walk and the three readings; skip, push and
 // pop; the record file; the record under the finger.
+#![tactic(auto)]
+
 ghost use Rattle.std.specs.Prelude.{◌≡◌, [], ◌∷◌, length, ◌/◌, ◌≤◌};
 ghost use Rattle.source.specs.Identifiers.{identifier_at};
 ghost use Rattle.state.specs.Calls.{skipped, pushed, popped};

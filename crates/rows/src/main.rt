@@ -1,6 +1,8 @@
 // Reads a script from standard input and prints its tokens, a row each: kind, line, column, position, detail, value
 // length, and where the step ended that wrote it.
 // Then `end` and the position, or `refused`, the number and its line, column and position.
+#![tactic(auto)]
+
 use byte::Octal;
 use libc::{STDERR_FILENO, STDIN_FILENO, STDOUT_FILENO};
 use outcome::Call;

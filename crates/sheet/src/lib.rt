@@ -1,6 +1,8 @@
 // The sheet reading of a nowdoc block: the closing line's indentation comes off each row, and the last break goes.
 // Of document 01, with request P1, not of the Rust. A label has at most 64 bytes, a source at most 65,536.
 // In order: the closing line (closing); what is left of a line and of the body; the scan, which writes nothing; the writer.
+#![tactic(auto)]
+
 ghost use Rattle.std.specs.Prelude.{◌≡◌, false, ◌+◌, ◌≤◌, min, length, drop};
 ghost use Rattle.byte.specs.Laid.{laid};
 ghost use Rattle.text.specs.Code.{measured};

@@ -1,5 +1,7 @@
 // The source: the first break or stop from a place on, the cursor, the identifier at a place; bytes by words (words).
 // Of the Rust: state/source.rs, and `peek_identifier` of mod.rs. A cursor is a value beside the lent bytes.
+#![tactic(auto)]
+
 ghost use Rattle.std.specs.Prelude.{◌≡◌, not, ◌+◌, ◌<◌, ◌≤◌, length, take, drop};
 ghost use Rattle.byte.specs.Words.{every};
 ghost use Rattle.byte.specs.Bytes.{is_identifier, is_no_break, is_none_of};

@@ -1,6 +1,8 @@
 // The session and what a host may do to it without reading: a fresh one, skip, push and pop.
 // Of the Rust: state/mod.rs and error.rs. Numbers have 32 bits, and a label's 16: a source has at most 65,536 bytes.
 // A call takes the session by value and gives it back in its turn, the same one where it refuses.
+#![tactic(auto)]
+
 ghost use Rattle.std.specs.Prelude.{◌≡◌, ◌≤◌};
 ghost use Rattle.source.specs.Cursor.{origin};
 ghost use Rattle.state.specs.Bounds.{is_label, is_frame, is_bottom, is_stack, are_within};

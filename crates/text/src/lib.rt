@@ -1,6 +1,8 @@
 // The six text readings: single, double, double_quote, shell_exec, heredoc, nowdoc. One loop reads all; another finds a nowdoc's end.
 // Of the Rust: the two string routines and the four text modes of mod.rs. A label has at most 64 bytes, a source at most 65,536.
 // In order: what stands at a place in each mode (units); what a unit is to a text; its bytes into a part; the reader; the scan.
+#![tactic(auto)]
+
 ghost use Rattle.std.specs.Prelude.{◌≡◌, [], ◌∷◌, ◌-◌, ◌≤◌, ◌<◌, length, take, drop};
 ghost use Rattle.unit.specs.declared.Mode.{Mode};
 ghost use Rattle.unit.specs.declared.TextUnit.{TextUnit};

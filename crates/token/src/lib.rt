@@ -1,5 +1,7 @@
 // Tokens: their kinds, their records in the lent list, their values in the lent pool, and the record file.
 // Of the Rust: token.rs. The list is lent numbers, eight a token; a write touches its own places and no other.
+#![tactic(auto)]
+
 ghost use Rattle.std.specs.Prelude.{◌≡◌, ◌+◌, ◌*◌, ◌≤◌, length, take, drop};
 ghost use Rattle.source.specs.Cursor.{origin};
 ghost use Rattle.byte.specs.Laid.{laid};

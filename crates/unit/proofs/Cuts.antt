@@ -221,6 +221,10 @@ module _ (m : Mode) (l : is_literal m ≡ true) where
   ended_on n b xs (Text value Stop.Interpolation from after) (left e) = left e
   ended_on n b xs (Refused number place) x = tt
   ended_on n b xs Wait x = tt
+  ended_on n b xs (Text value Stop.DollarLeftBrace from after) x = elim x [ ]
+  ended_on n b xs (Text value Stop.LeftBrace from after) x = elim x [ ]
+  ended_on n b xs (Text value (Stop.Variable _) from after) x = elim x [ ]
+  ended_on n b xs (Text value (Stop.Label _ _) from after) x = elim x [ ]
 
   ended_onto : (n : ℕ) (vs xs : List ℕ) (r : Reading) → EndedReading m n xs r → EndedReading m n xs (onto vs r)
   unfolding onto

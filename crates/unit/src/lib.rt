@@ -1,5 +1,7 @@
 // What a text is made of: the words in which the six text readings, their units and what ends them are told.
 // The definitions and theorems over them stand in specs/ and proofs/; the code that follows them in the crates escape, interpolation, closer and text.
+#![tactic(auto)]
+
 use byte::Octal;
 
 // How a text is read: the Rust's two string routines, its four modes. Those with octal escapes bear the choice of what

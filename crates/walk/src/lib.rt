@@ -1,6 +1,8 @@
 // The walk: a call and, where it is done, as many steps after it as are wanted, over the numbers of a host's session. The gate is asked
 // once; a slot is read where its frame is on top, and written where a step changes it; the place is read once and written once.
 // A step and each reading is a walk of one call.
+#![tactic(auto)]
+
 ghost use Rattle.std.specs.Prelude.{◌≡◌, ◌≤◌, length};
 ghost use Rattle.layout.specs.Sessions.{session_in};
 ghost use Rattle.plan.specs.Code.{Here};

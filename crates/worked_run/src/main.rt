@@ -4,6 +4,8 @@
 // its line, column and position.
 // A line of sheets x and y has marks in place of that, for 32 bytes from the one named on, as each follows a label: c where the block
 // closes, r where the label begins a row, w where the step waits.
+#![tactic(auto)]
+
 use byte::Octal;
 use libc::STDOUT_FILENO;
 use outcome::Call;

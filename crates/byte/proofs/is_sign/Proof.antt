@@ -9,4 +9,4 @@ pub is_sign_spec : {M : Type 1} → statement M
 is_sign_spec =
     tie.close
     (tie.spec (λ c κs. search rules)
-    (λ c. c.is-classed.ensures ∙ (classes_ruled c.before.args.b c.before.ranges.b.fits).sign))
+    (λ c. c.is_classed.ensures ∙ (classes_ruled c.before.args.b c.before.ranges.b.fits).sign))

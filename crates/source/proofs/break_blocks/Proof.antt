@@ -9,10 +9,10 @@ use Rattle.source.proofs.Blocks.{passing_block}
 use Rattle.source.proofs.break_blocks.Statement.{statement}
 use Rattle.source.proofs.break_blocks.Tie as tie
 
-abbrev Inv : tie.invariant-loop
+abbrev Inv : tie.invariant-loop-i
 Inv src at i₀ i = Passing is_no_break src at i
 
-abbrev left : tie.decreases-loop
+abbrev left : tie.decreases-loop-i
 left src at i₀ i = length src - i
 
 pub break_blocks_spec : {M : Type 1} → statement M

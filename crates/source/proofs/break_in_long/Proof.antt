@@ -5,10 +5,10 @@ use Rattle.source.proofs.Searches.{Searched, searched}
 use Rattle.source.proofs.break_in_long.Statement.{statement}
 use Rattle.source.proofs.break_in_long.Tie as tie
 
-abbrev Inv : tie.invariant-loop
+abbrev Inv : tie.invariant-loop-i
 Inv part last i₀ i = Searched part i
 
-abbrev left : tie.decreases-loop
+abbrev left : tie.decreases-loop-i
 left part last i₀ i = last - i
 
 pub break_in_long_spec : {M : Type 1} → statement M

@@ -7,16 +7,16 @@ use Rattle.source.proofs.Counts.{Counting, counting, counted}
 use Rattle.source.proofs.breaks.Statement.{statement}
 use Rattle.source.proofs.breaks.Tie as tie
 
-abbrev Blocks : tie.invariant-loop
+abbrev Blocks : tie.invariant-loop-i
 Blocks part n₀ i₀ n i = Counting part 0 (length part) n i i
 
-abbrev blocks_left : tie.decreases-loop
+abbrev blocks_left : tie.decreases-loop-i
 blocks_left part n₀ i₀ n i = length part - i
 
-abbrev Bytes : tie.invariant-loop2
+abbrev Bytes : tie.invariant-loop-i-2
 Bytes part n₀ i₀ n i = Counting part 0 (length part) n i i
 
-abbrev bytes_left : tie.decreases-loop2
+abbrev bytes_left : tie.decreases-loop-i-2
 bytes_left part n₀ i₀ n i = length part - i
 
 pub breaks_spec : {M : Type 1} → statement M

@@ -5,10 +5,10 @@ use Rattle.source.proofs.Counts.{walking_back}
 use Rattle.source.proofs.last_block.Statement.{statement}
 use Rattle.source.proofs.last_block.Tie as tie
 
-abbrev Inv : tie.invariant-loop
+abbrev Inv : tie.invariant-loop-i
 Inv part i₀ i = Unbroken part i
 
-abbrev left : tie.decreases-loop
+abbrev left : tie.decreases-loop-i
 left part i₀ i = i
 
 pub last_block_spec : {M : Type 1} → statement M

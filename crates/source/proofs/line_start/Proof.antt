@@ -5,10 +5,10 @@ use Rattle.source.proofs.Counts.{walking_back}
 use Rattle.source.proofs.line_start.Statement.{statement}
 use Rattle.source.proofs.line_start.Tie as tie
 
-abbrev Inv : tie.invariant-loop
+abbrev Inv : tie.invariant-loop-i
 Inv part i₀ i = Unbroken part i
 
-abbrev left : tie.decreases-loop
+abbrev left : tie.decreases-loop-i
 left part i₀ i = i
 
 pub line_start_spec : {M : Type 1} → statement M

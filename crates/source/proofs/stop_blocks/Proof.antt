@@ -9,10 +9,10 @@ use Rattle.source.proofs.Marks.{passing_words}
 use Rattle.source.proofs.stop_blocks.Statement.{statement}
 use Rattle.source.proofs.stop_blocks.Tie as tie
 
-abbrev Inv : tie.invariant-loop
+abbrev Inv : tie.invariant-loop-i
 Inv src at w x y z i₀ i = Passing (is_none_of w x y z) src at i
 
-abbrev left : tie.decreases-loop
+abbrev left : tie.decreases-loop-i
 left src at w x y z i₀ i = length src - i
 
 pub stop_blocks_spec : {M : Type 1} → statement M

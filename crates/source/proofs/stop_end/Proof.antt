@@ -8,10 +8,10 @@ use Rattle.source.proofs.Runs.{passing}
 use Rattle.source.proofs.stop_end.Statement.{statement}
 use Rattle.source.proofs.stop_end.Tie as tie
 
-abbrev Inv : tie.invariant-loop
+abbrev Inv : tie.invariant-loop-i
 Inv src at w x y z i₀ i = Passing (is_none_of w x y z) src at i
 
-abbrev left : tie.decreases-loop
+abbrev left : tie.decreases-loop-i
 left src at w x y z i₀ i = length src - i
 
 pub stop_end_spec : {M : Type 1} → statement M
