@@ -37,7 +37,7 @@ pub const BAD_SESSION: u32 = 12;
 pub const STRAY_INDENTATION: u32 = 13;
 
 // What an octal escape over 255 stands for: `\400` to `\777`.
-#[derive(Drop)]
+#[derive(Clone, Copy)]
 pub enum Octal {
     // Nothing: it is refused, as in the Rust.
     Rust,

@@ -20,7 +20,7 @@ use token::Token;
 use unit::Mode;
 
 // The cursor and the two fill marks.
-#[derive(Drop)]
+#[derive(Clone, Copy)]
 pub struct Mark {
     pub span: Span,
     pub tokens: u32,
@@ -28,7 +28,7 @@ pub struct Mark {
 }
 
 // What a step comes to, without the session: answer, cursor, marks and the change of frame.
-#[derive(Drop)]
+#[derive(Clone, Copy)]
 pub struct Next {
     pub answer: Answer,
     pub mark: Mark,

@@ -13,7 +13,7 @@ use outcome::Call;
 use state::{Choices, Frame};
 
 // Where a step stands, but for the frames: the cursor and the marks, and the depth of the mode stack.
-#[derive(Drop)]
+#[derive(Clone, Copy)]
 pub struct Place {
     pub mark: Mark,
     pub depth: u32,

@@ -11,7 +11,7 @@ ghost use Rattle.lookup.specs.Lookups.{position_in, end_in, record_before, searc
 use source::Span;
 
 // What was found.
-#[derive(Drop)]
+#[derive(Clone, Copy)]
 pub enum Found {
     // No record is at or before the byte.
     Nothing,
@@ -20,7 +20,7 @@ pub enum Found {
 }
 
 // What a look-up comes to.
-#[derive(Drop)]
+#[derive(Clone, Copy)]
 pub enum Lookup {
     // What was found, how many records were looked at, and where the step ended that wrote it: 0 for nothing.
     Told { found: Found, looks: u32, end: u32 },

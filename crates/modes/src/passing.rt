@@ -83,7 +83,7 @@ fn passed(call: Call, src: &[u8], f: Frame, p: Span) -> Span
 }
 
 // Where steps end that only pass bytes, and how many are left there.
-#[derive(Drop)]
+#[derive(Clone, Copy)]
 pub struct PassedOn {
     pub span: Span,
     pub left: u32,

@@ -12,7 +12,7 @@ use state::{Choices, Frame, Label, Reading};
 use unit::Mode;
 
 // The routine that is asked.
-#[derive(Drop)]
+#[derive(Clone, Copy)]
 pub enum Way {
     Number,
     Text,
@@ -29,7 +29,7 @@ pub enum Way {
 }
 
 // What is read: the mode and the place where the text starts are a text's alone, the label a text's or a sheet's.
-#[derive(Drop)]
+#[derive(Clone, Copy)]
 pub struct Row {
     pub way: Way,
     pub mode: Mode,

@@ -12,14 +12,14 @@ ghost use Rattle.number.specs.Code.{place_of, extent_of, closing_extent, WidthAt
 mod value;
 
 // What a number literal is.
-#[derive(Drop)]
+#[derive(Clone, Copy)]
 pub enum Literal {
     Integer,
     Float,
 }
 
 // What a scan found.
-#[derive(Drop)]
+#[derive(Clone, Copy)]
 pub enum Scanned {
     // The literal, the place after it, and how many bytes its value has.
     Number {
@@ -32,7 +32,7 @@ pub enum Scanned {
 }
 
 // What a literal's digits are of.
-#[derive(Drop)]
+#[derive(Clone, Copy)]
 pub enum Base {
     Binary,
     Octal,
@@ -41,7 +41,7 @@ pub enum Base {
 }
 
 // A look ahead at what follows.
-#[derive(Drop)]
+#[derive(Clone, Copy)]
 enum Ahead {
     Yes,
     No,
@@ -50,14 +50,14 @@ enum Ahead {
 }
 
 // Where digits end.
-#[derive(Drop)]
+#[derive(Clone, Copy)]
 enum Place {
     At(usize),
     Undecided,
 }
 
 // Where a literal ends, and its kind.
-#[derive(Drop)]
+#[derive(Clone, Copy)]
 enum Extent {
     Number { literal: Literal, after: usize },
     Undecided,

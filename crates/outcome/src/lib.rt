@@ -5,7 +5,7 @@
 use state::Frame;
 
 // What is asked for: a step, or one of the three readings.
-#[derive(Drop)]
+#[derive(Clone, Copy)]
 pub enum Call {
     Step,
     Number,
@@ -14,7 +14,7 @@ pub enum Call {
 }
 
 // What a step does to the mode stack.
-#[derive(Drop)]
+#[derive(Clone, Copy)]
 pub enum Change {
     Keep,
     // The top frame becomes this one.
@@ -26,7 +26,7 @@ pub enum Change {
 }
 
 // The tags that open a script.
-#[derive(Drop)]
+#[derive(Clone, Copy)]
 pub enum OpenTagKind {
     // `<?php` in any letter case.
     Full,
@@ -37,7 +37,7 @@ pub enum OpenTagKind {
 }
 
 // What stands at a `<` of inline text.
-#[derive(Drop)]
+#[derive(Clone, Copy)]
 pub enum Tag {
     Open(OpenTagKind),
     None,
@@ -46,7 +46,7 @@ pub enum Tag {
 }
 
 // The first tag of inline text.
-#[derive(Drop)]
+#[derive(Clone, Copy)]
 pub enum Tagged {
     At { kind: OpenTagKind, place: usize },
     // The text is over and has none.
@@ -55,14 +55,14 @@ pub enum Tagged {
 }
 
 // The text blocks.
-#[derive(Drop)]
+#[derive(Clone, Copy)]
 pub enum DocStringKind {
     Heredoc,
     Nowdoc,
 }
 
 // What stands at a `<` of a script: a block opens, with its label's range and the place after its break; or it is another byte.
-#[derive(Drop)]
+#[derive(Clone, Copy)]
 pub enum Opening {
     Block {
         kind: DocStringKind,
@@ -75,21 +75,21 @@ pub enum Opening {
 }
 
 // How many identifier bytes come, if the part does not end with them.
-#[derive(Drop)]
+#[derive(Clone, Copy)]
 pub enum Run {
     Over(usize),
     Undecided,
 }
 
 // The comments: `//` and `#` begin one of a single line, `/*` one that may have many.
-#[derive(Drop)]
+#[derive(Clone, Copy)]
 pub enum CommentKind {
     SingleLine,
     MultiLine,
 }
 
 // How many bytes of a comment come before its end.
-#[derive(Drop)]
+#[derive(Clone, Copy)]
 pub enum CommentEnd {
     At(usize),
     // The text is over, and there was none.

@@ -11,7 +11,7 @@ use state::Label;
 use unit::Mode;
 
 // How a token's value comes about.
-#[derive(Drop)]
+#[derive(Clone, Copy)]
 pub enum Making {
     // The source's own bytes.
     Copied,
@@ -25,7 +25,7 @@ pub enum Making {
 }
 
 // A token to be written: its value has `len` bytes and comes from the source's bytes from `from` up to `to`.
-#[derive(Drop)]
+#[derive(Clone, Copy)]
 pub struct Draft {
     pub kind: u32,
     pub detail: usize,
@@ -38,7 +38,7 @@ pub struct Draft {
 }
 
 // The tokens that a step writes: the first `count` of these, in order.
-#[derive(Drop)]
+#[derive(Clone, Copy)]
 pub struct Drafts {
     pub count: u32,
     pub first: Draft,
@@ -46,7 +46,7 @@ pub struct Drafts {
 }
 
 // What a step does: what it writes, the place after, the change of frame, and whether nothing is left to read.
-#[derive(Drop)]
+#[derive(Clone, Copy)]
 pub struct Work {
     pub drafts: Drafts,
     pub after: usize,
@@ -54,7 +54,7 @@ pub struct Work {
     pub finished: bool,
 }
 
-#[derive(Drop)]
+#[derive(Clone, Copy)]
 pub enum Plan {
     Told(Work),
     Refused { number: u32, place: usize },

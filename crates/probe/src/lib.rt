@@ -16,7 +16,7 @@ use unit::{Follow, Indentation, Mode, Stop};
 // What a scan found. Refused: `number` is not 0, and `place` says where. A text: what ended it as `stop`, the amount of a label's
 // indentation as `detail`, from where to where that stands, and how many bytes the value has.
 #[repr(C)]
-#[derive(Drop)]
+#[derive(Clone, Copy)]
 pub struct Probed {
     pub number: u32,
     pub stop: u32,

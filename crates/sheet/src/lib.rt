@@ -16,7 +16,7 @@ use unit::{Indentation, Stop};
 mod closing;
 
 // What a line is to the block.
-#[derive(Drop)]
+#[derive(Clone, Copy)]
 pub enum Line {
     // Blanks, then the label and no identifier byte: it closes the block.
     Closes {
@@ -30,7 +30,7 @@ pub enum Line {
 }
 
 // Where the block closes.
-#[derive(Drop)]
+#[derive(Clone, Copy)]
 pub enum Found {
     Closed {
         indentation: Indentation,
@@ -44,7 +44,7 @@ pub enum Found {
 }
 
 // How many bytes are left of a body, or the place of its first stray byte.
-#[derive(Drop)]
+#[derive(Clone, Copy)]
 pub enum Size {
     Kept(usize),
     Stray(usize),

@@ -13,7 +13,7 @@ ghost use Rattle.source.specs.Code.{word_of, marks_of};
 mod words;
 
 // A place in a script. Lines and columns count from 1, columns in bytes; the position counts from 0.
-#[derive(Drop)]
+#[derive(Clone, Copy)]
 pub struct Span {
     pub line: u32,
     pub column: u32,

@@ -13,14 +13,14 @@ use byte::Octal;
 use source::Span;
 
 // A text block's label: a range of the source.
-#[derive(Drop)]
+#[derive(Clone, Copy)]
 pub struct Label {
     pub start: u16,
     pub len: u16,
 }
 
 // What is being read.
-#[derive(Drop)]
+#[derive(Clone, Copy)]
 pub enum Frame {
     Initial,
     Scripting,
@@ -34,13 +34,13 @@ pub enum Frame {
 }
 
 // A place of the mode stack.
-#[derive(Drop)]
+#[derive(Clone, Copy)]
 pub struct Slot {
     pub frame: Frame,
 }
 
 // How Nowdoc frames are read.
-#[derive(Drop)]
+#[derive(Clone, Copy)]
 pub enum Reading {
     // As the Rust reads them.
     Ported,
@@ -49,7 +49,7 @@ pub enum Reading {
 }
 
 // What the session's owner chose.
-#[derive(Drop)]
+#[derive(Clone, Copy)]
 pub struct Choices {
     pub nowdocs: Reading,
     // What octal escapes over 255 stand for, in double quotes and heredocs.
@@ -57,7 +57,7 @@ pub struct Choices {
 }
 
 // Where a host is in its script, and how full its tables are. Frames from the depth on mean nothing.
-#[derive(Drop)]
+#[derive(Clone, Copy)]
 pub struct Session {
     pub position: u32,
     pub line: u32,
@@ -71,7 +71,7 @@ pub struct Session {
 }
 
 // What came of a call.
-#[derive(Drop)]
+#[derive(Clone, Copy)]
 pub enum Answer {
     Done,
     // Done, and nothing is left to read.
@@ -80,7 +80,7 @@ pub enum Answer {
 }
 
 // An answer, and the session after it. (A session holds an array, so the answer stands beside it.)
-#[derive(Drop)]
+#[derive(Clone, Copy)]
 pub struct Turn {
     pub answer: Answer,
     pub session: Session,

@@ -16,7 +16,7 @@ use unit::{Mode, Stop, TextUnit};
 mod units;
 
 // What a scan found: how many bytes the value has, what ended it, and from where to where that stands.
-#[derive(Drop)]
+#[derive(Clone, Copy)]
 pub enum Scanned {
     Text {
         len: usize,

@@ -56,7 +56,7 @@ pub const LITERAL_FLOAT: u32 = 20;
 pub const COMMENT: u32 = 21;
 
 // A token whose value stands in the pool: `len` bytes from `start` on. The step that wrote it ended at `end`.
-#[derive(Drop)]
+#[derive(Clone, Copy)]
 pub struct Token {
     pub kind: u32,
     // The indentation amount of an EndDocString, else 0.

@@ -6,7 +6,7 @@ use byte::Octal;
 
 // How a text is read: the Rust's two string routines, its four modes. Those with octal escapes bear the choice of what
 // one over 255 stands for.
-#[derive(Drop)]
+#[derive(Clone, Copy)]
 pub enum Mode {
     Single,
     Double(Octal),
@@ -17,7 +17,7 @@ pub enum Mode {
 }
 
 // What follows a variable's name: `[`, an arrow and a start byte, or anything else.
-#[derive(Drop)]
+#[derive(Clone, Copy)]
 pub enum Follow {
     Other,
     Offset,
@@ -25,14 +25,14 @@ pub enum Follow {
 }
 
 // A look at what follows, which may lie past the part.
-#[derive(Drop)]
+#[derive(Clone, Copy)]
 pub enum Look {
     Settled(Follow),
     Undecided,
 }
 
 // The blanks before a closing label.
-#[derive(Drop)]
+#[derive(Clone, Copy)]
 pub enum Indentation {
     None,
     Space,
@@ -41,7 +41,7 @@ pub enum Indentation {
 }
 
 // A label against the text: it stands there, it does not, or the part ends before that is told.
-#[derive(Drop)]
+#[derive(Clone, Copy)]
 pub enum Match {
     Whole,
     Other,
@@ -49,7 +49,7 @@ pub enum Match {
 }
 
 // What ends a text.
-#[derive(Drop)]
+#[derive(Clone, Copy)]
 pub enum Stop {
     // The closing quote or backtick.
     Quote,
@@ -69,7 +69,7 @@ pub enum Stop {
 }
 
 // What stands at a place of a text. `after` is the place after it.
-#[derive(Drop)]
+#[derive(Clone, Copy)]
 pub enum TextUnit {
     // One byte of the value.
     Byte {

@@ -19,7 +19,7 @@ use source::Span;
 use state::{Answer, Frame, Session, Turn};
 
 // How a walk ended: its last answer, and how many of its calls were done.
-#[derive(Drop)]
+#[derive(Clone, Copy)]
 pub struct Ended {
     pub answer: Answer,
     pub done: u32,
@@ -108,7 +108,7 @@ fn frame_after(session: &[u32], depth: u32, f: Frame, change: Change) -> Frame
 }
 
 // Where steps end that only pass bytes, and how many are left there.
-#[derive(Drop)]
+#[derive(Clone, Copy)]
 struct Along {
     mark: Mark,
     left: u32,

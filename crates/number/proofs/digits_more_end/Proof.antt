@@ -6,10 +6,10 @@ use Rattle.number.proofs.Runs.{Passing, passing}
 use Rattle.number.proofs.digits_more_end.Statement.{statement}
 use Rattle.number.proofs.digits_more_end.Tie as tie
 
-abbrev Inv : tie.invariant-loop
+abbrev Inv : tie.invariant-loop-i
 Inv src at end base i₀ i = Passing base end src at i
 
-abbrev left : tie.decreases-loop
+abbrev left : tie.decreases-loop-i
 left src at end base i₀ i = length src - i
 
 pub digits_more_end_spec : {M : Type 1} → statement M
