@@ -8,10 +8,10 @@ use Rattle.source.proofs.Runs.{passing}
 use Rattle.closer.proofs.blank_end.Statement.{statement}
 use Rattle.closer.proofs.blank_end.Tie as tie
 
-abbrev Inv : tie.invariant-loop
+abbrev Inv : tie.invariant-loop-i
 Inv src at i₀ i = Passing is_blank src at i
 
-abbrev left : tie.decreases-loop
+abbrev left : tie.decreases-loop-i
 left src at i₀ i = length src - i
 
 pub blank_end_spec : {M : Type 1} → statement M

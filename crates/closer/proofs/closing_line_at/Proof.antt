@@ -6,10 +6,10 @@ use Rattle.closer.proofs.Lines.{Indenting, indenting}
 use Rattle.closer.proofs.closing_line_at.Statement.{statement}
 use Rattle.closer.proofs.closing_line_at.Tie as tie
 
-abbrev Inv : tie.invariant-loop
+abbrev Inv : tie.invariant-loop-i
 Inv src label n end i₀ ind₀ amount₀ i ind amount = Indenting label src end n ind amount i
 
-abbrev left : tie.decreases-loop
+abbrev left : tie.decreases-loop-i
 left src label n end i₀ ind₀ amount₀ i ind amount = length src - i
 
 pub closing_line_at_spec : {M : Type 1} → statement M

@@ -6,10 +6,10 @@ use Rattle.closer.proofs.Lines.{Matching, matching}
 use Rattle.closer.proofs.match_at.Statement.{statement}
 use Rattle.closer.proofs.match_at.Tie as tie
 
-abbrev Inv : tie.invariant-loop
+abbrev Inv : tie.invariant-loop-k
 Inv src at label k₀ k = Matching label src at k
 
-abbrev left : tie.decreases-loop
+abbrev left : tie.decreases-loop-k
 left src at label k₀ k = length label - k
 
 pub match_at_spec : {M : Type 1} → statement M

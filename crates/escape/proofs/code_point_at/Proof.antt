@@ -6,10 +6,10 @@ use Rattle.escape.proofs.Escapes.{Pointing, pointing}
 use Rattle.escape.proofs.code_point_at.Statement.{statement}
 use Rattle.escape.proofs.code_point_at.Tie as tie
 
-abbrev Inv : tie.invariant-loop
+abbrev Inv : tie.invariant-loop-n
 Inv src at end some₀ value₀ n₀ some value n = Pointing src at end some value n
 
-abbrev left : tie.decreases-loop
+abbrev left : tie.decreases-loop-n
 left src at end some₀ value₀ n₀ some value n = length src - n
 
 pub code_point_at_spec : {M : Type 1} → statement M

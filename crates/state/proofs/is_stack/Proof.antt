@@ -5,10 +5,10 @@ use Rattle.state.proofs.Bounds.{Checking, checking}
 use Rattle.state.proofs.is_stack.Statement.{statement}
 use Rattle.state.proofs.is_stack.Tie as tie
 
-abbrev Inv : tie.invariant-loop
+abbrev Inv : tie.invariant-loop-i
 Inv src s depth i₀ i = Checking src s depth i
 
-abbrev left : tie.decreases-loop
+abbrev left : tie.decreases-loop-i
 left src s depth i₀ i = depth - i
 
 pub is_stack_spec : {M : Type 1} → statement M
