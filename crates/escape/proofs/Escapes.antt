@@ -1,6 +1,6 @@
 -- Laws of escapes, on each way through the functions that read them: no byte is left (`-past`), or one is. Assumes nothing.
 use Prim.Native.Nat.{ℕ, zero, suc, ◌+◌, ◌*◌, ◌≤◌, ◌<◌}
-use mathlib.Core.Path.{◌≡◌, refl, sym, ◌∙◌}
+use mathlib.Core.Path.{◌≡◌, refl, sym, ◌∙◌, ap}
 use mathlib.Core.Bool.{Bool, true, false, ◌&&◌, ◌||◌}
 use mathlib.Core.List.{List, [], ◌∷◌}
 use native.Mathlib.Omega.{arith}
@@ -47,7 +47,10 @@ module _ (octals : Octal) (src : List ℕ) (n : ℕ) (end : Bool) (base value : 
       pub digits_two : r ≡ digits octals end base 1 (value * base + digit) (n + 1) (drop (n + 1) src)
           → r ≡ digits octals end base 2 value n (drop n src)
       unfolding digits
-      digits_two f = f ∙ rw (drop-one src n inside, ← e, lt-ltb digit base small, add-one)
+      digits_two f =
+          let few : digit_value (get_or src n 0) < base = rw (← e) small in
+          f ∙ ap (λ (d : ℕ). digits octals end base 1 (value * base + d) (n + 1) (drop (n + 1) src)) e
+          ∙ rw (drop-one src n inside, lt-ltb (digit_value (get_or src n 0)) base few, add-one)
 
       pub digits_one : r ≡ fitted octals (value * base + digit) (n + 1)
           → r ≡ digits octals end base 1 value n (drop n src)

@@ -7,10 +7,10 @@ use Rattle.layout.specs.Sessions.{session_in}
 use Rattle.layout.proofs.is_stack_in.Statement.{statement}
 use Rattle.layout.proofs.is_stack_in.Tie as tie
 
-abbrev Inv : tie.invariant-loop
+abbrev Inv : tie.invariant-loop-i
 Inv src numbers depth most i₀ i = Checking src (session_in numbers) most i
 
-abbrev left : tie.decreases-loop
+abbrev left : tie.decreases-loop-i
 left src numbers depth most i₀ i = most - i
 
 pub is_stack_in_spec : {M : Type 1} → statement M

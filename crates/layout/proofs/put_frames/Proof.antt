@@ -5,10 +5,10 @@ use Rattle.layout.proofs.Sessions.{Puts, puts}
 use Rattle.layout.proofs.put_frames.Statement.{statement}
 use Rattle.layout.proofs.put_frames.Tie as tie
 
-abbrev Inv : tie.invariant-loop
+abbrev Inv : tie.invariant-loop-i
 Inv numbers₀ s i₀ numbers i = Puts s.frames numbers₀ numbers i
 
-abbrev left : tie.decreases-loop
+abbrev left : tie.decreases-loop-i
 left numbers₀ s i₀ numbers i = 64 - i
 
 pub put_frames_spec : {M : Type 1} → statement M

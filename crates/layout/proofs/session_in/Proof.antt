@@ -5,10 +5,10 @@ use Rattle.layout.proofs.Sessions.{Reads, reads}
 use Rattle.layout.proofs.session_in.Statement.{statement}
 use Rattle.layout.proofs.session_in.Tie as tie
 
-abbrev Inv : tie.invariant-loop
+abbrev Inv : tie.invariant-loop-i
 Inv numbers frames₀ i₀ frames i = Reads numbers frames i
 
-abbrev left : tie.decreases-loop
+abbrev left : tie.decreases-loop-i
 left numbers frames₀ i₀ frames i = 64 - i
 
 pub session_in_spec : {M : Type 1} → statement M

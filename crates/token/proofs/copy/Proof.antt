@@ -5,10 +5,10 @@ use Rattle.token.proofs.Copies.{Copying, copying}
 use Rattle.token.proofs.copy.Statement.{statement}
 use Rattle.token.proofs.copy.Tie as tie
 
-abbrev Inv : tie.invariant-loop
+abbrev Inv : tie.invariant-loop-i
 Inv part rest₀ last i₀ rest i = Copying part rest₀ rest i
 
-abbrev left : tie.decreases-loop
+abbrev left : tie.decreases-loop-i
 left part rest₀ last i₀ rest i = last - i
 
 pub copy_spec : {M : Type 1} → statement M

@@ -6,10 +6,10 @@ use Rattle.token.proofs.Copies.{Copying, copying}
 use Rattle.token.proofs.copy_few.Statement.{statement}
 use Rattle.token.proofs.copy_few.Tie as tie
 
-abbrev Inv : tie.invariant-loop
+abbrev Inv : tie.invariant-loop-i
 Inv part rest₀ i₀ rest i = Copying part rest₀ rest i
 
-abbrev left : tie.decreases-loop
+abbrev left : tie.decreases-loop-i
 left part rest₀ i₀ rest i = length part - i
 
 pub copy_few_spec : {M : Type 1} → statement M

@@ -5,10 +5,10 @@ use Rattle.token.proofs.Files.{Listing, listing}
 use Rattle.token.proofs.put_list.Statement.{statement}
 use Rattle.token.proofs.put_list.Tie as tie
 
-abbrev Inv : tie.invariant-loop
+abbrev Inv : tie.invariant-loop-i
 Inv file count list₀ i₀ list i = Listing file count list₀ list i
 
-abbrev left : tie.decreases-loop
+abbrev left : tie.decreases-loop-i
 left file count list₀ i₀ list i = count - i
 
 pub put_list_spec : {M : Type 1} → statement M

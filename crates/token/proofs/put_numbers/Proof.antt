@@ -6,10 +6,10 @@ use Rattle.token.proofs.Files.{Filing, filing}
 use Rattle.token.proofs.put_numbers.Statement.{statement}
 use Rattle.token.proofs.put_numbers.Tie as tie
 
-abbrev Inv : tie.invariant-loop
+abbrev Inv : tie.invariant-loop-i
 Inv list file₀ i₀ file i = Filing list file₀ file i
 
-abbrev left : tie.decreases-loop
+abbrev left : tie.decreases-loop-i
 left list file₀ i₀ file i = length list - i
 
 pub put_numbers_spec : {M : Type 1} → statement M
