@@ -6,10 +6,10 @@ use Rattle.sheet.proofs.Turns.{Finding, finding}
 use Rattle.sheet.proofs.closing.find_closer.Statement.{statement}
 use Rattle.sheet.proofs.closing.find_closer.Tie as tie
 
-abbrev Inv : tie.invariant-loop
+abbrev Inv : tie.invariant-loop-i
 Inv src label at end i₀ i = Finding label src at end i
 
-abbrev left : tie.decreases-loop
+abbrev left : tie.decreases-loop-i
 left src label at end i₀ i = length src - i
 
 pub find_closer_spec : {M : Type 1} → statement M
