@@ -118,7 +118,7 @@ unbroken_on b (c ∷ []) o = rw (||-neither (b is "\n") (b is "\r" && c is "\n")
 unbroken_on b (c ∷ d ∷ rest) o = refl
 
 -- the last break goes
-unbroken_last : {text newline : List ℕ} → Ended newline → Clean newline text → unbroken (text ++ newline) ≡ text
+unbroken_last : {newline text : List ℕ} → Ended newline → Clean newline text → unbroken (text ++ newline) ≡ text
 unfolding unbroken
 unbroken_last lf over = refl
 unbroken_last crlf over = refl
@@ -135,7 +135,7 @@ unbroken_newline (b ∷ []) h crlf = refl
 unbroken_newline (b ∷ c ∷ more) h lf = refl
 unbroken_newline (b ∷ c ∷ more) h crlf = refl
 
-unbroken_line : {text newline : List ℕ} (more : List ℕ) → 0 < length more → Ended newline → Clean newline text
+unbroken_line : {newline text : List ℕ} (more : List ℕ) → 0 < length more → Ended newline → Clean newline text
     → unbroken ((text ++ newline) ++ more) ≡ text ++ newline ++ unbroken more
 unbroken_line more h e over = unbroken_newline more h e
 unbroken_line {newline} more h e (on {b} {text} o c) =
