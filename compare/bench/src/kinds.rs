@@ -14,14 +14,14 @@ pub struct Kind {
 }
 
 pub const KINDS: [Kind; 9] = [
-    Kind { name: "mixed", most: 23.5, opening: PHP, put: mixed },
+    Kind { name: "mixed", most: 25.0, opening: PHP, put: mixed },
     Kind { name: "inline text", most: 10.5, opening: "", put: inline_text },
     Kind { name: "single quotes", most: 17.5, opening: PHP, put: single_quotes },
     Kind { name: "double quotes with escapes", most: 24.5, opening: PHP, put: double_quotes },
     Kind { name: "heredoc with variables", most: 40.0, opening: PHP, put: heredoc },
     Kind { name: NOWDOC, most: 9.8, opening: PHP, put: nowdoc },
-    Kind { name: "numbers", most: 76.0, opening: PHP, put: numbers },
-    Kind { name: "identifiers and punctuation", most: 27.5, opening: PHP, put: identifiers },
+    Kind { name: "numbers", most: 77.0, opening: PHP, put: numbers },
+    Kind { name: "identifiers and punctuation", most: 35.5, opening: PHP, put: identifiers },
     Kind { name: "comments", most: 10.8, opening: PHP, put: comments },
 ];
 

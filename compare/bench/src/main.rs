@@ -58,10 +58,9 @@ fn hold_all() -> Result<(), String> {
     hold(&mut reader, &kinds::one_comment(MOST_BYTES), PIECE)
 }
 
-/// A test for each kind: the walk takes no more instructions a byte than the kind's limit, a twentieth to a tenth
-/// over what it took when that was set, nor than the Rust. One for a long comment, beside nowdoc text; one for
-/// sheets, which the Rust does not read, beside the ported reading of the same blocks; two for texts in pieces; and
-/// one for a call for each step.
+/// A test for each kind: the walk takes no more instructions a byte than the kind's limit, a tenth over what it took when that was set,
+/// nor than the Rust. One for a long comment, beside nowdoc text; one for sheets, which the Rust does not read, beside the ported
+/// reading of the same blocks; two for texts in pieces; and one for a call for each step.
 fn short() -> Result<(), String> {
     for kind in &KINDS {
         let (ours, rust) = (instructions::a_byte(WALK, kind.name)?, instructions::a_byte(RUST, kind.name)?);

@@ -1,9 +1,9 @@
 -- A step at Scripting that only passes bytes, on each way through the functions that tell it. Assumes nothing.
---   passes_ats, quicks      the rulesets of `passed_at` and `passed`
---   Passes, quick_passes   what such a step tells of the call
+--   others, passes_ats, quicks   the rulesets of `is_other`, `passed_at` and `passed`
+--   Passes, quick_passes        what such a step tells of the call
 use Prim.Native.Nat.{ℕ, suc, ◌+◌, ◌-◌, ◌<◌, ◌≤◌}
 use mathlib.Core.Path.{◌≡◌, refl, sym, ◌∙◌}
-use mathlib.Core.Bool.{Bool, true, false, not, ◌&&◌, ◌||◌, and-false, false≢true}
+use mathlib.Core.Bool.{Bool, true, false, not, ◌&&◌, and-false, false≢true}
 use mathlib.Core.List.{List, [], ◌∷◌}
 use native.Mathlib.Omega.{arith}
 use native.Mathlib.Numerals.{add-one}
@@ -14,12 +14,11 @@ use borrow.Author.Tests.{eqb-true, ne_eqb, leb-true, lt-leb, ltb-true, lt-ltb, l
 use Rattle.state.specs.Bounds.{is_scripting}
 use Rattle.byte.specs.Words.{if◌then◌else◌, run, every}
 use Rattle.byte.specs.Bytes.{is_digit, is_start, is_letter, is_identifier, is_no_break, is_none_of}
-use Rattle.byte.specs.Classes.{is_sign, is_alone}
 use Rattle.byte.specs.declared.Octal.{Octal}
 use Rattle.source.specs.Code.{RunEnd, Unbroken, LineStart}
 use Rattle.source.specs.Cursor.{passed_byte, passed}
 use Rattle.source.specs.declared.Span.{Span}
-use Rattle.byte.proofs.Tests.{&&-left, &&-right, &&-both, ||-neither, none_of, choice}
+use Rattle.byte.proofs.Tests.{&&-left, &&-right, &&-both, none_of, choice}
 use Rattle.byte.proofs.Words.{drop-one}
 use Rattle.source.proofs.Cursor.{passed_position}
 use Rattle.source.proofs.Counts.{passed_same}
@@ -31,6 +30,7 @@ use Rattle.outcome.specs.Outcomes.{goes}
 use Rattle.outcome.specs.Lookings.{named}
 use Rattle.outcome.specs.Scripts.{word, scripting}
 use Rattle.outcome.specs.Steps.{framed, call_at}
+use Rattle.plan.specs.Code.{Here}
 use Rattle.modes.specs.Code.{is_step, is_other, quick_at, quick, PassesAt}
 use Rattle.modes.proofs.Looks.{named_run}
 
@@ -61,32 +61,31 @@ is_step_call Call.Double e = absurd (false≢true e)
 
 -- ---- a byte of the last row
 
-other_alone : (digit signs brackets comments : Bool)
-    → (not digit && signs && brackets && comments)
-    ≡ (not (not (signs && brackets && comments)) && not (digit || false))
-other_alone true true true true = refl
-other_alone true true true false = refl
-other_alone true true false comments = refl
-other_alone true false brackets comments = refl
-other_alone false true true true = refl
-other_alone false true true false = refl
-other_alone false true false comments = refl
-other_alone false false brackets comments = refl
+pub is_other_arm : (b arm : ℕ) → b ≡ arm → false ≡ is_other arm → false ≡ is_other b
+is_other_arm b arm e h = rw e h
 
--- where no identifier starts, such a byte is passed alone
-is_other_alone : (b : ℕ) → is_start b ≡ false → is_other b ≡ is_alone b
-unfolding is_other is_alone is_sign is_identifier
-is_other_alone b s =
-    let signs = is_none_of 39 34 96 46 b in
-    let brackets = is_none_of 123 125 63 60 b in
-    let comments = is_none_of 47 35 47 35 b in
-    rw (s) (other_alone (is_digit b) signs brackets comments)
+-- none of the table's bytes
+module _ (b : ℕ) (single : b ≡ 39 → ⊥) (double : b ≡ 34 → ⊥) (tick : b ≡ 96 → ⊥) (point : b ≡ 46 → ⊥) (opens : b ≡ 123 → ⊥)
+    (closes : b ≡ 125 → ⊥) (question : b ≡ 63 → ⊥) (less : b ≡ 60 → ⊥) (slash : b ≡ 47 → ⊥) (hash : b ≡ 35 → ⊥) where
+  pub is_other_none : (digit : Bool) → digit ≡ is_digit b → not digit ≡ is_other b
+  unfolding is_other is_none_of
+  is_other_none true d = rw (← d)
+  is_other_none false d =
+      rw (
+        ← d,
+        ne_eqb b 39 single,
+        ne_eqb b 34 double,
+        ne_eqb b 96 tick,
+        ne_eqb b 46 point,
+        ne_eqb b 123 opens,
+        ne_eqb b 125 closes,
+        ne_eqb b 63 question,
+        ne_eqb b 60 less,
+        ne_eqb b 47 slash,
+        ne_eqb b 35 hash,
+      )
 
-alone_start : (b : ℕ) → is_alone b ≡ true → is_start b ≡ false
-unfolding is_alone is_identifier
-alone_start b e =
-    let named = not-true (is_digit b || is_start b) (&&-right (not (is_sign b)) (not (is_digit b || is_start b)) e) in
-    (||-neither (is_digit b) (is_start b) named).1
+pub ruleset others = (is_other_arm, is_other_none)
 
 -- the last row
 scripting_last : (octals : Octal) (depth : ℕ) (end : Bool) (n b : ℕ) (rest : List ℕ) → is_start b ≡ false
@@ -153,10 +152,10 @@ run_line (b ∷ rest) = go (is_identifier b) refl (run_line rest)
 
 -- ---- so many bytes at a place
 
--- an LF is passed only alone
+-- an LF is passed only alone, as the one byte
 record Facts (n : ℕ) (xs : List ℕ) (k : ℕ) : Type 0 where
   inside : k ≤ length xs
-  line : is_alone (get_or xs 0 0) ≡ false → every is_no_break (take k xs) ≡ true
+  line : (k ≡ 1 → ⊥) → every is_no_break (take k xs) ≡ true
   told : (k ≡ 0 → ⊥) → (octals : Octal) (depth : ℕ) (end : Bool)
       → scripting octals depth end n xs ≡ goes (n + k) Change.Keep
 
@@ -180,7 +179,7 @@ module _ (n b : ℕ) (rest : List ℕ) where
   facts_other : is_start b ≡ false → is_other b ≡ true → Facts n (b ∷ rest) 1
   facts_other s o = record {
     inside = omega arith;
-    line = λ k. absurd (false≢true (sym k ∙ sym (is_other_alone b s) ∙ o));
+    line = λ k. absurd (k refl);
     told = λ k octals depth end. rw (add-one n) (scripting_last octals depth end n b rest s o);
   }
 
@@ -194,22 +193,25 @@ quick_at_facts n (b ∷ rest) =
     (λ s. choice P (ltb (run is_identifier rest) (length rest)) _ _ (facts_word n b rest s) (λ h. none))
     (λ s. choice P (is_other b) _ _ (facts_other n b rest s) (λ o. none))
 
-module _ (src : List ℕ) (at : ℕ) (h : at < length src) where
+module _ (src : List ℕ) (at : ℕ) (here : Here src at) where
   passes_at_whole : (k : ℕ) → k ≡ quick_at (drop at src) → PassesAt src at k
   passes_at_whole k e =
       let inside = (quick_at_facts at (drop at src)).inside in
-      record { whole = e; inside = omega (arith, h, length-drop at src) }
+      record { whole = e; inside = omega (arith, here.inside, length-drop at src) }
 
-  module _ (start : Bool) (f : start ≡ is_start (get_or src at 0)) where
-    module _ (n : ℕ) (u : not start ≡ false) (e : RunEnd is_identifier src (at + 1) n) where
+  pub passes_at_past : length src ≤ at → PassesAt src at 0
+  unfolding quick_at
+  passes_at_past h = passes_at_whole 0 (rw (drop_of_length-le src h))
+
+  module _ (h : at < length src) (start : Bool) (f : start ≡ is_start (get_or src at 0)) where
+    module _ (n : ℕ) (t : start ≡ true) (e : RunEnd is_identifier src (at + 1) n) where
       -- the name may go on
       pub passes_at_cut : n ≡ length src → PassesAt src at 0
       unfolding quick_at
       passes_at_cut o =
           let size = run is_identifier (drop (at + 1) src) in
           let long : length (drop (at + 1) src) ≤ size = omega (arith, length-drop (at + 1) src, e.place) in
-          let go = not-false start u in
-          passes_at_whole 0 (rw (drop-one src at h, ← f, go, le-ltb size (length (drop (at + 1) src)) long))
+          passes_at_whole 0 (rw (drop-one src at h, ← f, t, le-ltb size (length (drop (at + 1) src)) long))
 
       pub passes_at_word : (n ≡ length src → ⊥) → PassesAt src at (n - at)
       unfolding quick_at
@@ -217,20 +219,18 @@ module _ (src : List ℕ) (at : ℕ) (h : at < length src) where
           let size = run is_identifier (drop (at + 1) src) in
           let short : size < length (drop (at + 1) src) = omega (arith, length-drop (at + 1) src, e.place, e.inside, o) in
           let count : n - at ≡ suc size = omega (arith, e.place) in
-          let go = not-false start u in
-          passes_at_whole (n - at)
-          (rw (drop-one src at h, ← f, go, lt-ltb size (length (drop (at + 1) src)) short) count)
+          passes_at_whole (n - at) (rw (drop-one src at h, ← f, t, lt-ltb size (length (drop (at + 1) src)) short) count)
 
-    -- no identifier, and none that is passed alone
-    pub passes_at_none : is_alone (get_or src at 0) ≡ false → not start ≡ true → PassesAt src at 0
-    unfolding quick_at
-    passes_at_none a t =
-        let b = get_or src at 0 in
-        let s : is_start b ≡ false = sym f ∙ not-true start t in
-        let o : is_other b ≡ false = is_other_alone b s ∙ a in
-        passes_at_whole 0 (rw (drop-one src at h, s, o))
+    module _ (other : Bool) (t : start ≡ false) (g : other ≡ is_other (get_or src at 0)) where
+      pub passes_at_other : other ≡ true → PassesAt src at 1
+      unfolding quick_at
+      passes_at_other u = passes_at_whole 1 (rw (drop-one src at h, ← f, t, ← g, u))
 
-pub ruleset passes_ats = (passes_at_cut, passes_at_word, passes_at_none)
+      pub passes_at_none : other ≡ false → PassesAt src at 0
+      unfolding quick_at
+      passes_at_none u = passes_at_whole 0 (rw (drop-one src at h, ← f, t, ← g, u))
+
+pub ruleset passes_ats = (passes_at_past, passes_at_cut, passes_at_word, passes_at_other, passes_at_none)
 
 -- ---- the place after
 
@@ -244,46 +244,29 @@ module _ (call : Call) (src : List ℕ) (f : Frame) (p : Span) (step : Bool) (g 
     unfolding quick
     quick_frame t = rw (← g, not-false step u, ← e, not-true flag t)
 
-    module _ (t : not flag ≡ false) where
-      quick-at : (k : ℕ) → k ≡ quick_at (drop p.position src) → (r : Span)
-          → r ≡ passed p (take k (drop p.position src)) → r ≡ quick call src f p
+    module _ (t : not flag ≡ false) (k : ℕ) (q : PassesAt src p.position k) where
+      quick-at : (r : Span) → r ≡ passed p (take k (drop p.position src)) → r ≡ quick call src f p
       unfolding quick
-      quick-at k w r s = rw (← g, not-false step u, ← e, not-false flag t, ← w) s
+      quick-at r s = rw (← g, not-false step u, ← e, not-false flag t, ← q.whole) s
 
-      pub quick_past : length src ≤ p.position → p ≡ quick call src f p
-      unfolding quick_at passed
-      quick_past h = quick-at 0 (rw (drop_of_length-le src h)) p refl
+      pub quick_byte : (r : Span) → k ≡ 1 → r ≡ passed_byte p (get_or src p.position 0) → r ≡ quick call src f p
+      unfolding passed
+      quick_byte r o s =
+          let h : p.position < length src = omega (arith, q.inside) in
+          quick-at r (s ∙ rw (o, drop-one src p.position h))
 
-      module _ (h : p.position < length src) (alone : Bool) (a : alone ≡ is_alone (get_or src p.position 0)) where
-        pub quick_byte : (r : Span) → alone ≡ true
-            → r ≡ passed_byte p (get_or src p.position 0) → r ≡ quick call src f p
-        unfolding passed quick_at
-        quick_byte r o s =
-            let b = get_or src p.position 0 in
-            let lies : is_alone b ≡ true = sym a ∙ o in
-            let start = alone_start b lies in
-            let whole : 1 ≡ quick_at (drop p.position src) =
-            rw (drop-one src p.position h, start, is_other_alone b start, lies) in
-            quick-at 1 whole r (s ∙ rw (drop-one src p.position h))
+      pub quick_line : (k ≡ 1 → ⊥)
+          → record { line = p.line; column = p.column + k; position = p.position + k } ≡ quick call src f p
+      quick_line o =
+          let xs = drop p.position src in
+          let bytes = take k xs in
+          let size : length bytes ≡ k = length-take-le k xs (rw (length-drop p.position src) (omega (arith, q.inside))) in
+          let clear = (quick_at_facts p.position xs).line (λ z. o (q.whole ∙ z)) in
+          let last : Unbroken bytes 0 = record { inside = omega arith; clear = rw q.whole clear } in
+          let start : LineStart bytes 0 = record { last = last; behind = λ h. absurd (omega arith) } in
+          quick-at _ (rw size at (passed_same bytes p 0 start refl))
 
-        pub quick_line : alone ≡ false → (k : ℕ) → PassesAt src p.position k
-            → record { line = p.line; column = p.column + k; position = p.position + k } ≡ quick call src f p
-        quick_line o k q =
-            let xs = drop p.position src in
-            let bytes = take k xs in
-            let size : length bytes ≡ k =
-            length-take-le k xs (rw (length-drop p.position src) (omega (arith, q.inside))) in
-            let first : is_alone (get_or xs 0 0) ≡ false = rw (drop-one src p.position h) (sym a ∙ o) in
-            let clear = (quick_at_facts p.position xs).line first in
-            let last : Unbroken bytes 0 = record { inside = omega arith; clear = rw q.whole clear } in
-            let start : LineStart bytes 0 = record { last = last; behind = λ h. absurd (omega arith) } in
-            quick-at k q.whole _ (rw size at (passed_same bytes p 0 start refl))
-
--- a test that was told to fail
-pub told_none : {test stated : Bool} → test ≡ stated → test ≡ false → stated ≡ false
-told_none e f = sym e ∙ f
-
-pub ruleset quicks = (quick_call, quick_frame, quick_past, quick_byte, quick_line)
+pub ruleset quicks = (quick_call, quick_frame, quick_byte, quick_line)
 
 -- ---- what such a step tells
 

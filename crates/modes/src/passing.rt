@@ -1,10 +1,9 @@
 // A step at Scripting that only passes bytes: it writes nothing and keeps the frame, so it is told ahead of any plan.
-ghost use Rattle.std.specs.Prelude.{◌≡◌, false, length, get_or, ◌<◌};
-ghost use Rattle.byte.specs.Classes.{is_alone};
+ghost use Rattle.std.specs.Prelude.{◌≡◌, length};
 ghost use Rattle.state.specs.Bounds.{is_scripting};
 ghost use Rattle.source.specs.Code.{Reaches};
 ghost use Rattle.plan.specs.Code.{Here};
-ghost use Rattle.modes.specs.Code.{is_step, quick, quick_on, PassesAt, Near};
+ghost use Rattle.modes.specs.Code.{is_step, is_other, quick, quick_on, PassesAt, Near};
 
 use outcome::Call;
 use source::Span;
@@ -39,20 +38,45 @@ pub fn is_scripting(f: Frame) -> bool
     }
 }
 
-// How many bytes such a step passes from a byte on that is not passed alone: those of an identifier that is over;
-// 0 where the step is another, or would wait.
+// A byte of the table's last row, if no identifier starts with it: it is passed alone.
+fn is_other(b: u8) -> bool
+    ensures { result ≡ is_other b }
+{
+    match b {
+        b'\'' => false,
+        b'"' => false,
+        b'`' => false,
+        b'.' => false,
+        b'{' => false,
+        b'}' => false,
+        b'?' => false,
+        b'<' => false,
+        b'/' => false,
+        b'#' => false,
+        _ => !byte::is_digit(b),
+    }
+}
+
+// How many bytes such a step passes from a place on; 0 where the step is another, or would wait.
 fn passed_at(src: &[u8], at: usize) -> usize
-    requires { (at < length src.now) × (is_alone (get_or src.now at 0) ≡ false) }
+    requires { Here src.now at }
     ensures { PassesAt src.now at result }
 {
-    if !byte::is_start(src[at]) {
+    if src.len() <= at {
         return 0;
     }
-    let n = source::run_end(src, at + 1);
-    if n == src.len() {
-        return 0;
+    let b = src[at];
+    if byte::is_start(b) {
+        let n = source::run_end(src, at + 1);
+        if n == src.len() {
+            return 0;
+        }
+        return n - at;
     }
-    n - at
+    if is_other(b) {
+        return 1;
+    }
+    0
 }
 
 // The place after such a step; the place itself where the call is another.
@@ -67,14 +91,10 @@ fn passed(call: Call, src: &[u8], f: Frame, p: Span) -> Span
         return p;
     }
     let at = p.position as usize;
-    if src.len() <= at {
-        return p;
-    }
-    let b = src[at];
-    if byte::is_alone(b) {
-        return source::past_byte(p, b);
-    }
     let k = passed_at(src, at);
+    if k == 1 {
+        return source::past_byte(p, src[at]);
+    }
     Span {
         line: p.line,
         column: p.column + k as u32,

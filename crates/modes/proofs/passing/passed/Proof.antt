@@ -1,7 +1,6 @@
--- `modes::passing::passed` meets its contract: another call or frame, the end, a byte alone, or an identifier.
--- Assumes nothing.
+-- `modes::passing::passed` meets its contract: another call, another frame, one byte, or no LF. Assumes nothing.
 use borrow.Author.Rules.{rules}
-use Rattle.modes.proofs.Passes.{quicks, told_none}
+use Rattle.modes.proofs.Passes.{quicks}
 use Rattle.modes.proofs.passing.passed.Statement.{statement}
 use Rattle.modes.proofs.passing.passed.Tie as tie
 
@@ -9,6 +8,6 @@ pub passed_spec : {M : Type 1} → statement M
 passed_spec =
     tie.close
     (tie.spec (λ c κs. search rules) (λ c. search quicks) (λ c κs. search rules) (λ c. search quicks)
-    (λ c. search rules) (λ c. search quicks) (λ c. search rules) (λ c κs. search rules) (λ c κs. search rules)
-    (λ c. search quicks) (λ c κs. search (rules, told_none)) (λ c. search rules) (λ c. search rules)
-    (λ c. search rules) (λ c. search rules) (λ c. search quicks))
+    (λ c. search rules) (λ c κs. search rules) (λ c. search rules)
+    (λ c κs. search rules) (λ c. search quicks) (λ c. search rules) (λ c. search rules) (λ c. search rules)
+    (λ c. search rules) (λ c. search quicks))
