@@ -32,8 +32,8 @@ loop-i-smaller c = search looking
 pub loop-i-preserved : goal.loop-i-preserved
 loop-i-preserved c =
     elim c.if-src-k-eq10.branch [
-      then-src-k-eq10+else-width_of-eq0 w ↦ search looking
-    | else-src-k-eq10 w ↦ search looking
+      | then-src-k-eq10+else-width_of-eq0 w ↦ search looking
+      | else-src-k-eq10 w ↦ search looking
     ]
 
 pub returns : goal.returns
