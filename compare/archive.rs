@@ -17,9 +17,10 @@ pub fn link(library: &str) {
     };
     if !archive.is_file() {
         refuse(&format!(
-            "the proved library {} is missing: run hosts/view or `rt staticlib {}` in the repository, or set \
-             PURETAKOI_ARCHIVE to where it is",
+            "the proved library {} is missing: run hosts/view or hosts/install in the repository, or `rt lib` in its \
+             crates/{}, and set PURETAKOI_ARCHIVE to where it is then, out/lib{}.a",
             archive.display(),
+            library,
             library
         ));
     }

@@ -28,7 +28,7 @@ need() {
 # Looks for what building over a crate's archive needs; the kit only where the archive is still to be made.
 need_to_build() {
     local needs=(cc cargo rustc)
-    is_made "$1" || needs=(rt "${needs[@]}")
+    is_made "$(archive_of "$1")" || needs=(rt "${needs[@]}")
     need_all "${needs[@]}"
 }
 
@@ -78,30 +78,42 @@ say_kit() {
     echo "The proofs were checked with $pinned; this kit is ${here:-of no version}, and may judge them otherwise." >&2
 }
 
+# The program rows, proved here.
 make_rows() {
-    prove check rows
+    make_proved rows run "$root/target/bin/rows"
 }
 
-# The archive of a crate that is proved here; no other archive is linked. One that is newer than all of crates/ is not
-# made again.
+# The archive of a crate that is proved here; no other archive is linked.
 make_archive() {
     unset PURETAKOI_ARCHIVE
-    is_made "$1" && return
+    make_proved "$1" lib "$(archive_of "$1")"
+}
+
+archive_of() {
+    echo "$root/target/staticlib/lib$1.a"
+}
+
+# Proves a crate and what it needs, and copies what that built, its archive or its program, to where it is looked for. One
+# that is newer than all that is proved is not made again: make_proved CRATE lib|run FILE
+make_proved() {
+    is_made "$3" && return
     echo "proving $1 and what it needs, $(crates_for "$1") crates: some minutes" >&2
-    prove staticlib "$1"
+    prove "$2" "$1" || return
+    mkdir -p "$(dirname "$3")" && cp "$root/crates/$1/out/$(basename "$3")" "$3" 2>"$log" && return
+    count_failure "copy of what rt $2 built in crates/$1" "$(cat "$log")"
+    return 1
 }
 
-# Whether a crate's archive is newer than all of crates/.
+# Whether an archive or a program is newer than all that is proved.
 is_made() {
-    local archive="$root/target/staticlib/lib$1.a"
-    [ -f "$archive" ] && [ -z "$(find "$root/crates" "$root/crates.txt" -newer "$archive" -print -quit)" ]
+    [ -f "$1" ] && [ -z "$(cd "$root" && find crates.txt crates/*/{src,specs,proofs} -newer "$1" -print -quit 2>/dev/null)" ]
 }
 
-# Runs rt on a crate and shows how far it is: prove check|staticlib CRATE
+# Runs rt in a crate's folder and shows how far it is: prove lib|run CRATE. A program that it runs reads no bytes.
 prove() {
-    (cd "$root" && rt "$@") 2>&1 | show_proofs "$(crates_for "$2")"
+    (cd "$root/crates/$2" && rt "$1" </dev/null) 2>&1 | show_proofs "$(crates_for "$2")"
     [ "${PIPESTATUS[0]}" -eq 0 ] && return
-    count_failure "rt $*" "$(cat "$log")"
+    count_failure "rt $1 in crates/$2" "$(grep -v ': proved$' "$log")"
     return 1
 }
 
@@ -113,22 +125,25 @@ crates_for() {
             count++
             for (i = split(needs[name], words, " "); i > 0; i--) visit(words[i])
         }
-        !/^ *(#|$)/ { needs[$1] = $2 }
+        !/^ *(#|$)/ { split($1, words, " "); needs[words[1]] = $2 }
         END { visit(crate); print count + 0 }' "$root/crates.txt"
 }
 
 # Shows how far rt is by what it says, which goes into the log: a bar on a terminal, else a line for each crate that
 # was still to be proved. show_proofs COUNT
 show_proofs() {
-    local count=$1 proved=0 name="" line part="" began=$SECONDS
+    local count=$1 proved=0 name="" told="" checked=0 line part="" began=$SECONDS
     : >"$log"
     while :; do
         if IFS= read -r -t 1 line; then
             line=$part$line part=""
             printf '%s\n' "$line" >>"$log"
-            [[ $line =~ ^rt:\ (target/staticlib/lib)?([A-Za-z0-9_]+)(\ proved|\.a\ ) ]] || continue
-            proved=$((proved + 1)) name=${BASH_REMATCH[2]}
-            case $line in *'(unchanged '*) [ -t 2 ] || continue ;; esac
+            if [[ $line =~ ^crate\ ([A-Za-z0-9_]+):\ modules\ loaded=[0-9]+\ checked=([0-9]+)$ ]]; then
+                name=${BASH_REMATCH[1]} checked=${BASH_REMATCH[2]}
+            fi
+            [[ $line == logic=proved* && $name != "$told" ]] || continue
+            proved=$((proved + 1)) told=$name
+            [ "$checked" -gt 0 ] || [ -t 2 ] || continue
         elif [ $? -le 128 ]; then
             break
         else

@@ -4,9 +4,10 @@ x86_64_packages=(cargo rustc libstd-rust-dev:amd64 gcc-x86-64-linux-gnu g++-x86-
     qemu-user libffi8:amd64 zlib1g:amd64 libexpat1:amd64)
 x86_64_python=(python3.11-minimal:amd64 libpython3.11-minimal:amd64 libpython3.11-stdlib:amd64)
 
-# Puts compilers and a Python for x86-64 before those of the machine; fails with a line where that can't be done.
+# Puts compilers and a Python for x86-64 before those of the machine, from a folder outside the repository, for there rt ci
+# refuses every link; fails with a line where that can't be done.
 use_x86_64() {
-    local tools="$root/target/x86-64" name
+    local tools="${XDG_CACHE_HOME:-${HOME:-/root}/.cache}/puretakoi/x86-64" name
     is_x86_64 && return
     [ "${RUSTC_WRAPPER-}" = "$root/compare/rustc-x86-64" ] ||
         echo "This machine is $(uname -sm): the library is for x86-64 Linux, so programs over it are emulated here." >&2

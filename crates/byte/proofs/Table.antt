@@ -3,6 +3,7 @@
 --   table_ruled     one test over the table, computed, carries its rule to each entry: it is the class of its byte
 --   classes_ruled   which classes each test of bytes looks for, computed for all 256 bytes
 --   table_holds     a quarter of the table is a number whose bits tell its bytes
+use Rattle.std.specs.Prelude.{if◌then◌else◌}
 use Prim.Native.Nat.{ℕ, zero, suc, ◌+◌, ◌-◌, ◌*◌, ◌/◌, ◌%◌, ◌^◌, ◌≤◌, ◌<◌}
 use mathlib.Core.Path.{◌≡◌, refl, sym, ◌∙◌, ap}
 use mathlib.Core.Bool.{Bool, true, false, not, ◌&&◌}
@@ -14,7 +15,6 @@ use borrow.Author.Tests.{eqb-true, eqb-false, ltb-true, ltb-false}
 use lib.ListN.{length, get_or, length-append, get_or-append}
 use lib.Seq.{get_or-append-add}
 use lib.Pow.{shr-shr}
-use Rattle.byte.specs.Words.{if◌then◌else◌}
 use Rattle.byte.specs.Bytes.{is_digit, is_octal, is_hex, is_letter, is_start, is_identifier, is_blank, is_none_of}
 use Rattle.byte.specs.Classes.{is_sign, is_alone, class_of, classes_of}
 use Rattle.byte.specs.Code.{is_from, Table, one, binary, Bits, Holds}

@@ -1,5 +1,6 @@
 -- Laws of tests and of statements: a conjunction, a byte that is none of four, a choice that a test decides, the
 -- arms of a match, a refusal that was not given, and that a statement `r ≡ ..` has one result. Assumes nothing.
+use Rattle.std.specs.Prelude.{if◌then◌else◌}
 use Prim.Native.Nat.{ℕ, suc, ◌+◌}
 use mathlib.Core.Path.{◌≡◌, refl, sym, ◌∙◌}
 use mathlib.Core.Bool.{Bool, true, false, not, ◌&&◌, ◌||◌, false≢true}
@@ -7,7 +8,6 @@ use native.Mathlib.Omega.{arith}
 use native.Mathlib.Numerals.{add-one}
 use lib.Dec.{eqb}
 use borrow.Author.Tests.{eq-eqb, ne_eqb, not-true}
-use Rattle.byte.specs.Words.{if◌then◌else◌}
 use Rattle.byte.specs.Bytes.{is_none_of}
 
 -- both sides of a conjunction that holds

@@ -1,4 +1,5 @@
 -- Laws of `run` and of `every`: one byte more, the end, the loop that asks each, and lists put together. Assumes nothing.
+use Rattle.std.specs.Prelude.{if◌then◌else◌}
 use mathlib.Core.Path.{◌≡◌, refl, sym, ◌∙◌}
 use mathlib.Core.Bool.{Bool, true, false, not, ◌&&◌, and_assoc, false≢true}
 use mathlib.Core.List.{List, [], ◌∷◌, ◌++◌}
@@ -9,7 +10,7 @@ use lib.Dec.{ltb, eqb, eqb-suc-suc, eqb-zero-suc}
 use lib.ListN.{length, get_or, set, take, drop, length-take, drop_of_length-le, get_or-eq_default}
 use lib.Seq.{drop-cons, get_or-take, take-nil, take_all, take-suc-set, set_out}
 use borrow.Author.Tests.{not-true, not-false, ltb-true, ltb-false}
-use Rattle.byte.specs.Words.{if◌then◌else◌, run, every}
+use Rattle.byte.specs.Words.{run, every}
 use Rattle.byte.proofs.Tests.{&&-left, &&-right, &&-both}
 
 -- the list from i on, by its byte at i

@@ -4,9 +4,8 @@
 --   class_of     the number of a byte's class: 0 to 7 are the table's letters S O E H L U N B in this order. `Ruled`
 --               (proofs/Table.antt) says which numbers each test looks for
 --   classes_of   all that a byte counts as, a flag each, as a host is told
-use Rattle.std.specs.Prelude.{ℕ, ◌+◌, Bool, ◌&&◌, not, ◌≡◌, refl}
+use Rattle.std.specs.Prelude.{ℕ, ◌+◌, Bool, ◌&&◌, not, ◌≡◌, refl, if◌then◌else◌}
 use Prim.Native.Char.{code}
-use Rattle.byte.specs.Words.{if◌then◌else◌}
 use Rattle.byte.specs.Bytes.{is_digit, is_octal, is_hex, is_letter, is_start, is_identifier, is_blank, is_none_of}
 
 unfoldable pub is_sign : ℕ → Bool

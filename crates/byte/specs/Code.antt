@@ -5,8 +5,7 @@
 --   binary   the number whose bits say which entries of a list pass a test, the first entry's the lowest
 --   Bits     a number below a limit is that of the entries which have one of these classes
 --   Holds    the bits of a number say which of the 64 bytes of a quarter have one of these classes
-use Rattle.std.specs.Prelude.{ℕ, ◌+◌, ◌*◌, ◌/◌, ◌%◌, ◌^◌, ◌<◌, Bool, ◌&&◌, List, [], ◌∷◌, ◌≡◌, leb, length, get_or}
-use Rattle.byte.specs.Words.{if◌then◌else◌}
+use Rattle.std.specs.Prelude.{ℕ, ◌+◌, ◌*◌, ◌/◌, ◌%◌, ◌^◌, ◌<◌, Bool, ◌&&◌, List, [], ◌∷◌, ◌≡◌, leb, length, get_or, if◌then◌else◌}
 use Rattle.byte.specs.Classes.{class_of}
 
 unfoldable pub is_from : ℕ → ℕ → ℕ → Bool

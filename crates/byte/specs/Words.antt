@@ -1,18 +1,12 @@
 -- The words that definitions over bytes are written with.
---   if_then_else_   a choice
 --   _is_, _from_to_ a byte told by its character. ASCII alone: bytes from 0x80 on are written as numbers
 --   bytes           the bytes of a text in quotes
 --   every           whether all that a list holds passes a test
 --   run             how many bytes from the first on pass a test
 --   announced       whether a host's number says that the end is announced: any but 0
-use Rattle.std.specs.Prelude.{ℕ, suc, Bool, true, false, not, ◌&&◌, List, [], ◌∷◌, leb, eqb}
+use Rattle.std.specs.Prelude.{ℕ, suc, Bool, true, false, not, ◌&&◌, List, [], ◌∷◌, leb, eqb, if◌then◌else◌}
 use Prim.Native.Char.{Char, code}
 use Prim.Native.String.{String}
-
-infix 10 if◌then◌else◌
-abbrev pub if◌then◌else◌ {ℓ} : {A : Type ℓ} → Bool → A → A → A
-if true then a else b = a
-if false then a else b = b
 
 infix 40 ◌is◌
 abbrev pub ◌is◌ : ℕ → Char → Bool

@@ -2,8 +2,7 @@
 // Of the Rust: the byte tests of its macros, and error.rs.
 #![tactic(auto)]
 
-ghost use Rattle.std.specs.Prelude.{◌≡◌, ◌≤◌};
-ghost use Rattle.byte.specs.Words.{if◌then◌else◌};
+ghost use Rattle.std.specs.Prelude.{◌≡◌, ◌≤◌, if◌then◌else◌};
 ghost use Rattle.byte.specs.Bytes.{is_digit, is_octal, is_hex, is_letter, is_start, is_identifier, is_blank, is_no_break, is_none_of};
 ghost use Rattle.byte.specs.Classes.{is_sign, is_alone, classes_of};
 

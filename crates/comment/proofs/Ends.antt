@@ -1,4 +1,5 @@
 -- The search for a comment's end, run by run: the loop of `comment_end` keeps `Searching`. Assumes nothing.
+use Rattle.std.specs.Prelude.{if◌then◌else◌}
 use Prim.Native.Nat.{ℕ, suc, ◌+◌, ◌-◌, ◌<◌, ◌≤◌}
 use mathlib.Core.Path.{◌≡◌, sym, ap, ◌∙◌}
 use mathlib.Core.Bool.{Bool, true, false, ◌&&◌, ◌||◌}
@@ -8,7 +9,7 @@ use native.Mathlib.Nat.{add-zero}
 use lib.Dec.{eqb}
 use lib.ListN.{length, get_or, drop, drop_of_length-le}
 use lib.Seq.{drop-drop}
-use Rattle.byte.specs.Words.{if◌then◌else◌, run}
+use Rattle.byte.specs.Words.{run}
 use Rattle.source.specs.Code.{RunEnd}
 use Rattle.byte.proofs.Tests.{choice, none_of}
 use Rattle.byte.proofs.Words.{drop-one}

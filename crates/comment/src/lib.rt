@@ -2,9 +2,8 @@
 // Of the Rust: the rows of `scripting` that read comments. Here the LF is not taken, `/*/` is open, and an open `/*` is refused.
 #![tactic(auto)]
 
-ghost use Rattle.std.specs.Prelude.{◌≡◌, ◌+◌, ◌≤◌, ◌<◌, length, get_or, drop};
+ghost use Rattle.std.specs.Prelude.{◌≡◌, ◌+◌, ◌≤◌, ◌<◌, length, get_or, drop, if◌then◌else◌};
 ghost use Rattle.source.specs.Code.{RunEnd};
-ghost use Rattle.byte.specs.Words.{if◌then◌else◌};
 ghost use Rattle.outcome.specs.declared.CommentEnd.{CommentEnd};
 ghost use Rattle.outcome.specs.Comments.{is_next, ends, end_taken, comment_end, endless, comment_at, slash, hash};
 ghost use Rattle.plan.specs.Code.{Plans};

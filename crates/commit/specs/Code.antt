@@ -10,8 +10,7 @@
 --   advanced, Advances     the numbers after so many tokens and value bytes, and that they fit
 --   Commits, Works         what `commit` asks of its plan, and of what the plan tells
 --   Committed              what it gives
-use Rattle.std.specs.Prelude.{ℕ, ◌+◌, ◌*◌, ◌/◌, ◌≤◌, Bool, false, List, [], ◌∷◌, ◌≡◌, eqb, leb, length}
-use Rattle.byte.specs.Words.{if◌then◌else◌}
+use Rattle.std.specs.Prelude.{ℕ, ◌+◌, ◌*◌, ◌/◌, ◌≤◌, Bool, false, List, [], ◌∷◌, ◌≡◌, eqb, leb, length, if◌then◌else◌}
 use Rattle.source.specs.declared.Span.{Span}
 use Rattle.token.specs.declared.Token.{Token}
 use Rattle.outcome.specs.declared.Change.{Change}

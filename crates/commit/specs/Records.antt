@@ -10,8 +10,7 @@
 --   answer_of         done, or finished
 --   stays, advances  a refusal: the numbers are as they were; or an answer, and the numbers after the pieces
 --   reached          what contracts cite: room is asked after all that the outcome refuses
-use Rattle.std.specs.Prelude.{ℕ, ◌+◌, ◌-◌, ◌*◌, Bool, List, [], ◌∷◌, ◌++◌, eqb, length, take, drop}
-use Rattle.byte.specs.Words.{if◌then◌else◌}
+use Rattle.std.specs.Prelude.{ℕ, ◌+◌, ◌-◌, ◌*◌, Bool, List, [], ◌∷◌, ◌++◌, eqb, length, take, drop, if◌then◌else◌}
 use Rattle.byte.specs.Laid.{laid}
 use Rattle.byte.specs.Refusals.{wait}
 use Rattle.source.specs.Cursor.{passed}

@@ -1,6 +1,7 @@
 -- A script that comes in parts gives the records, value bytes, end and answer of the uncut one: `cuts`, for the same tables, and
 -- `cuts_fresh`, from a fresh session. Assumes nothing.
 --   walk_longer   a walk over a part, with more announced: it is the walk over every longer script, or it waits somewhere on its way
+use Rattle.std.specs.Prelude.{if◌then◌else◌}
 use Prim.Native.Nat.{ℕ, zero, suc, ◌+◌, ◌≤◌}
 use mathlib.Core.Path.{◌≡◌, refl, sym, ap, subst, ◌∙◌}
 use mathlib.Core.Bool.{Bool, true, false, false≢true}
@@ -9,7 +10,7 @@ use native.Mathlib.Omega.{arith}
 use native.Mathlib.Nat.{suc-add}
 use lib.ListN.{length, length-append}
 use lib.Seq.{take-append_seam}
-use Rattle.byte.specs.Words.{if◌then◌else◌, every}
+use Rattle.byte.specs.Words.{every}
 use Rattle.byte.specs.Demand.{is_byte}
 use Rattle.state.specs.declared.Answer.{Answer}
 use Rattle.state.specs.declared.Choices.{Choices}

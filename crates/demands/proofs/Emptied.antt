@@ -5,6 +5,7 @@
 --   walked_emptied_room   and 16 numbers, with as many bytes as the source has, are room enough for it
 --   cuts_emptied     a script in parts, the tables emptied before each part, gives what the uncut script gives
 -- All go by way of what is handed without any tables (call_handed, walk_handed, fed_handed).
+use Rattle.std.specs.Prelude.{if◌then◌else◌}
 use Prim.Native.Nat.{ℕ, zero, suc, ◌+◌, ◌*◌, ◌-◌, ◌≤◌, ◌<◌}
 use mathlib.Core.Path.{◌≡◌, refl, sym, ap, ◌∙◌}
 use mathlib.Core.Bool.{Bool, true, false, false≢true}
@@ -13,7 +14,7 @@ use native.Mathlib.Omega.{arith}
 use lib.ListN.{length, length-append}
 use borrow.Author.Tests.{eqb-true}
 use Rattle.byte.specs.Refusals.{wait}
-use Rattle.byte.specs.Words.{if◌then◌else◌, every}
+use Rattle.byte.specs.Words.{every}
 use Rattle.byte.specs.Demand.{is_byte}
 use Rattle.byte.proofs.Tests.{choice}
 use Rattle.state.specs.declared.Answer.{Answer}

@@ -4,6 +4,7 @@
 --   walk_chosen     so does a walk; calledOn-chosen: a call and the steps after it
 --   fed_choices, fed_chosen   a script in parts keeps the choices, and gives the same
 --   calls_done_chosen   as many calls are done
+use Rattle.std.specs.Prelude.{if◌then◌else◌}
 use Prim.Native.Nat.{ℕ, zero, suc}
 use mathlib.Core.Path.{◌≡◌, refl, sym, ap, ◌∙◌}
 use mathlib.Core.Bool.{Bool, true, false, ◌||◌, false≢true}
@@ -12,7 +13,6 @@ use lib.Dec.{eqb}
 use lib.ListN.{length}
 use Rattle.byte.specs.declared.Octal.{Octal}
 use Rattle.byte.specs.Refusals.{invalid_octal_escape, octal_refusals, is_among}
-use Rattle.byte.specs.Words.{if◌then◌else◌}
 use Rattle.byte.proofs.Tests.{choice, if_both}
 use Rattle.source.specs.declared.Span.{Span}
 use Rattle.state.specs.declared.Answer.{Answer}

@@ -11,8 +11,7 @@
 --   taking       what a call from any session has given, but for its marks; unmarked: of what was handed
 --   walked_emptied   at most so many steps, the tables emptied before each
 --   fed_emptied      a script in parts, the tables emptied before each part
-use Rattle.std.specs.Prelude.{ℕ, zero, suc, ◌-◌, ◌*◌, Bool, true, false, ◌||◌, List, [], ◌∷◌, ◌++◌, eqb, get_or, take, drop}
-use Rattle.byte.specs.Words.{if◌then◌else◌}
+use Rattle.std.specs.Prelude.{ℕ, zero, suc, ◌-◌, ◌*◌, Bool, true, false, ◌||◌, List, [], ◌∷◌, ◌++◌, eqb, get_or, take, drop, if◌then◌else◌}
 use Rattle.byte.specs.Refusals.{list_full, pool_full}
 use Rattle.source.specs.declared.Span.{Span}
 use Rattle.state.specs.declared.Answer.{Answer}

@@ -9,8 +9,7 @@
 --   joined   the script that parts make
 --   fed      a script in parts: each part is stepped, with more announced, up to a wait; the next part comes after it, the session,
 --            list and pool as the wait found them; after the last part the end is announced
-use Rattle.std.specs.Prelude.{ℕ, zero, suc, Bool, true, false, List, [], ◌∷◌, ◌++◌, eqb}
-use Rattle.byte.specs.Words.{if◌then◌else◌}
+use Rattle.std.specs.Prelude.{ℕ, zero, suc, Bool, true, false, List, [], ◌∷◌, ◌++◌, eqb, if◌then◌else◌}
 use Rattle.byte.specs.Refusals.{wait}
 use Rattle.state.specs.declared.Answer.{Answer}
 use Rattle.state.specs.declared.Session.{Session}

@@ -3,6 +3,7 @@
 --   held_value   the scratch part begins with the value
 --   text_plans   the plan of a text that was measured makes its outcome
 --   text_planned   the same of what the scan answered
+use Rattle.std.specs.Prelude.{if◌then◌else◌}
 use Prim.Native.Nat.{ℕ, ◌+◌, ◌≤◌}
 use mathlib.Core.Path.{◌≡◌, refl, sym, ap, ◌∙◌}
 use mathlib.Core.Bool.{Bool, true, false, false≢true}
@@ -12,7 +13,6 @@ use lib.Dec.{eqb}
 use lib.ListN.{length, take, drop, length-take}
 use lib.Seq.{take-take, take-append-le}
 use borrow.Author.Tests.{leb-true, eqb-true, eqb-false, eq-eqb, ne_eqb}
-use Rattle.byte.specs.Words.{if◌then◌else◌}
 use Rattle.byte.specs.Laid.{laid}
 use Rattle.byte.proofs.Tests.{choice}
 use Rattle.byte.proofs.Laid.{length_laid}

@@ -9,8 +9,7 @@
 --   literal_plan, number_plan   a quoted string; a number
 --   Placed        a text that was measured lies before what ends it
 --   text_work, read_plan, number_work   a scan: found, refused, or wait
-use Rattle.std.specs.Prelude.{ℕ, ◌+◌, ◌-◌, ◌≤◌, Bool, false, eqb, leb}
-use Rattle.byte.specs.Words.{if◌then◌else◌}
+use Rattle.std.specs.Prelude.{ℕ, ◌+◌, ◌-◌, ◌≤◌, Bool, false, eqb, leb, if◌then◌else◌}
 use Rattle.state.specs.declared.Frame.{Frame}
 use Rattle.state.specs.declared.Label.{Label}
 use Rattle.token.specs.Kinds.{string_part, literal_single_quoted_string, literal_double_quoted_string}

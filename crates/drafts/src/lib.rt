@@ -2,8 +2,7 @@
 // Of the Rust: what double_quote, shell_exec, docstring and nowdoc push after their loops, and `tokenize_number`.
 #![tactic(auto)]
 
-ghost use Rattle.std.specs.Prelude.{◌≡◌, ◌+◌, ◌≤◌, drop};
-ghost use Rattle.byte.specs.Words.{if◌then◌else◌};
+ghost use Rattle.std.specs.Prelude.{◌≡◌, ◌+◌, ◌≤◌, drop, if◌then◌else◌};
 ghost use Rattle.state.specs.Bounds.{label_bytes};
 ghost use Rattle.token.specs.Kinds.{string_part};
 ghost use Rattle.unit.specs.Readings.{text_at, gap, text_end};

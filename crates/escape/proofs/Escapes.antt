@@ -1,4 +1,5 @@
 -- Laws of escapes, on each way through the functions that read them: no byte is left (`-past`), or one is. Assumes nothing.
+use Rattle.std.specs.Prelude.{if◌then◌else◌}
 use Prim.Native.Nat.{ℕ, zero, suc, ◌+◌, ◌*◌, ◌≤◌, ◌<◌}
 use mathlib.Core.Path.{◌≡◌, refl, sym, ◌∙◌, ap}
 use mathlib.Core.Bool.{Bool, true, false, ◌&&◌, ◌||◌}
@@ -9,7 +10,6 @@ use lib.Dec.{eqb, ltb}
 use lib.ListN.{length, get_or, drop, drop_of_length-le}
 use borrow.Author.Tests.{eq-eqb, ne_eqb, lt-ltb, le-ltb, le-leb, ltb-false}
 use Rattle.byte.specs.declared.Octal.{Octal}
-use Rattle.byte.specs.Words.{if◌then◌else◌}
 use Rattle.byte.proofs.Tests.{arms}
 use Rattle.byte.proofs.Words.{drop-one}
 use Rattle.unit.specs.declared.TextUnit.{TextUnit}

@@ -2,8 +2,7 @@
 // Of the Rust: the escapes of its string routines, read by one reader. In the order of unit's definitions, Digits and then Escapes.
 #![tactic(auto)]
 
-ghost use Rattle.std.specs.Prelude.{◌≡◌, true, false, ltb, ◌+◌, ◌*◌, ◌≤◌, ◌<◌, length, drop};
-ghost use Rattle.byte.specs.Words.{if◌then◌else◌};
+ghost use Rattle.std.specs.Prelude.{◌≡◌, true, false, ltb, ◌+◌, ◌*◌, ◌≤◌, ◌<◌, length, drop, if◌then◌else◌};
 ghost use Rattle.byte.specs.Laid.{laid};
 ghost use Rattle.unit.specs.declared.TextUnit.{TextUnit};
 ghost use Rattle.unit.specs.Digits.{digit_value, is_scalar, utf8};

@@ -3,8 +3,8 @@
 // In order: the tag at a `<`; the first tag of a text; the plan.
 #![tactic(auto)]
 
-ghost use Rattle.std.specs.Prelude.{◌≡◌, ◌+◌, ◌≤◌, ◌<◌, length, get_or, drop};
-ghost use Rattle.byte.specs.Words.{if◌then◌else◌, ◌is◌, bytes};
+ghost use Rattle.std.specs.Prelude.{◌≡◌, ◌+◌, ◌≤◌, ◌<◌, length, get_or, drop, if◌then◌else◌};
+ghost use Rattle.byte.specs.Words.{◌is◌, bytes};
 ghost use Rattle.outcome.specs.declared.Tag.{Tag};
 ghost use Rattle.outcome.specs.Initials.{lower, full_tag, open_tag, tag, tagged, tag_kind, tag_length, initial};
 ghost use Rattle.plan.specs.Code.{Here, Plans};

@@ -1,4 +1,5 @@
 -- Each look at what stands after a sign or a name, on each way through it. Assumes nothing.
+use Rattle.std.specs.Prelude.{if◌then◌else◌}
 use Prim.Native.Nat.{ℕ, suc, ◌+◌, ◌<◌, ◌≤◌}
 use mathlib.Core.Path.{◌≡◌, sym, ◌∙◌}
 use mathlib.Core.Bool.{Bool, true, false}
@@ -7,7 +8,7 @@ use native.Mathlib.Omega.{arith}
 use native.Mathlib.Nat.{add-zero}
 use lib.ListN.{length, get_or, drop, drop_of_length-le}
 use lib.Seq.{drop-drop}
-use Rattle.byte.specs.Words.{if◌then◌else◌, run}
+use Rattle.byte.specs.Words.{run}
 use Rattle.byte.specs.Bytes.{is_identifier}
 use Rattle.source.specs.Code.{RunEnd}
 use Rattle.byte.proofs.Tests.{arms}

@@ -4,6 +4,7 @@
 --   held_in                    what is read is such a session, whatever the numbers
 --   held_moved, held_entered, held_left   it stays one at another place, with a frame more, with a frame less
 --   good_session, no_session   numbers that are no session are refused: 11 for a source or tables that are too large, else 12
+use Rattle.std.specs.Prelude.{if◌then◌else◌}
 use Prim.Native.Nat.{ℕ, zero, suc, ◌≤◌, ◌<◌, ◌/◌, ◌%◌}
 use mathlib.Core.Path.{◌≡◌, refl, sym, ◌∙◌}
 use mathlib.Core.Bool.{Bool, true, false, ◌&&◌, false≢true}
@@ -13,7 +14,7 @@ use lib.Dec.{eqb}
 use lib.ListN.{length, get_or, set, take, drop, length-set}
 use borrow.Author.Tests.{eqb-true, eqb-false, lt-ltb, ltb-true}
 use Rattle.byte.specs.declared.Octal.{Octal}
-use Rattle.byte.specs.Words.{if◌then◌else◌, every}
+use Rattle.byte.specs.Words.{every}
 use Rattle.byte.specs.Laid.{laid}
 use Rattle.byte.specs.Refusals.{too_large, bad_session}
 use Rattle.byte.proofs.Tests.{&&-left, &&-right, &&-both, choice}

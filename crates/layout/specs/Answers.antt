@@ -2,8 +2,7 @@
 --   answer_numbers, refusal_in   an answer in five numbers, and its refusal alone, or 0
 --   session_after               the session's slice: changed where the call is not refused, and then alone
 --   Turned                     a turn written back: the refusal or 0, and what the two slices hold
-use Rattle.std.specs.Prelude.{ℕ, List, [], ◌∷◌, ◌≡◌, eqb}
-use Rattle.byte.specs.Words.{if◌then◌else◌}
+use Rattle.std.specs.Prelude.{ℕ, List, [], ◌∷◌, ◌≡◌, eqb, if◌then◌else◌}
 use Rattle.byte.specs.Laid.{laid}
 use Rattle.state.specs.declared.Answer.{Answer}
 use Rattle.state.specs.declared.Turn.{Turn}

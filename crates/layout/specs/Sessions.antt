@@ -8,9 +8,8 @@
 -- What is no frame is read as a text block without a label, and a session with a bit set that is no flag has depth 0: the gate refuses
 -- both (12), and looks at no slot above the depth. `no_session` says so, and `session_again` that reading what was written gives the
 -- session again (proofs/Again.antt).
-use Rattle.std.specs.Prelude.{ℕ, zero, suc, ◌+◌, ◌*◌, ◌/◌, ◌%◌, Bool, true, ◌&&◌, ◌||◌, not, List, [], ◌∷◌, ◌++◌, leb, ltb, eqb, get_or, drop}
+use Rattle.std.specs.Prelude.{ℕ, zero, suc, ◌+◌, ◌*◌, ◌/◌, ◌%◌, Bool, true, ◌&&◌, ◌||◌, not, List, [], ◌∷◌, ◌++◌, leb, ltb, eqb, get_or, drop, if◌then◌else◌}
 use Rattle.byte.specs.declared.Octal.{Octal}
-use Rattle.byte.specs.Words.{if◌then◌else◌}
 use Rattle.state.specs.declared.Label.{Label}
 use Rattle.state.specs.declared.Frame.{Frame}
 use Rattle.state.specs.declared.Slot.{Slot}

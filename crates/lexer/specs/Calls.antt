@@ -3,8 +3,7 @@
 --   gated     the gate's refusal, 11 or 12, at the script's beginning; or what the call gives
 --   called    a call: the step or a reading
 --   stepped   the step
-use Rattle.std.specs.Prelude.{ℕ, Bool, List, eqb, length}
-use Rattle.byte.specs.Words.{if◌then◌else◌}
+use Rattle.std.specs.Prelude.{ℕ, Bool, List, eqb, length, if◌then◌else◌}
 use Rattle.source.specs.Cursor.{origin}
 use Rattle.state.specs.declared.Session.{Session}
 use Rattle.state.specs.Gates.{lent_refusal}

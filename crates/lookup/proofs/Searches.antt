@@ -7,6 +7,7 @@
 --   searched_agrees              positions that agree on the records looked at give the same search
 --   searched_seen                what is found was looked at
 --   searched_reached             and is at or before the byte, on every list
+use Rattle.std.specs.Prelude.{if◌then◌else◌}
 use Prim.Native.Nat.{ℕ, zero, suc, ◌+◌, ◌-◌, ◌/◌, ◌^◌, ◌≤◌, ◌<◌}
 use mathlib.Core.Path.{◌≡◌, refl, sym, ap, ◌∙◌}
 use mathlib.Core.Bool.{Bool, true, false, or-true}
@@ -16,7 +17,7 @@ use native.Mathlib.Omega.{arith}
 use lib.Dec.{leb, ltb, eqb}
 use lib.ListN.{length}
 use borrow.Author.Tests.{le-leb, lt-leb, leb-true, leb-false, lt-ltb, eq-eqb, eqb-true}
-use Rattle.byte.specs.Words.{if◌then◌else◌, every}
+use Rattle.byte.specs.Words.{every}
 use Rattle.byte.proofs.Tests.{choice, &&-left, &&-right, &&-both, suc_one}
 use Rattle.lookup.specs.declared.Found.{Found}
 use Rattle.byte.specs.Refusals.{is_among}

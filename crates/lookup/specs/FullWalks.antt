@@ -7,8 +7,7 @@
 --   AsFullWalk   the look-up finds what the full walk finds
 --   is_seen       what is found was looked at
 --   IsReached    what is found is at or before the byte
-use Rattle.std.specs.Prelude.{ℕ, zero, suc, ◌≤◌, ◌<◌, Bool, true, List, ◌≡◌, leb, length}
-use Rattle.byte.specs.Words.{if◌then◌else◌}
+use Rattle.std.specs.Prelude.{ℕ, zero, suc, ◌≤◌, ◌<◌, Bool, true, List, ◌≡◌, leb, length, if◌then◌else◌}
 use Rattle.byte.specs.Refusals.{is_among}
 use Rattle.lookup.specs.declared.Found.{Found}
 use Rattle.lookup.specs.declared.Lookup.{Lookup}

@@ -13,8 +13,7 @@
 --   looked_up      the refusal, at the script's beginning; or what the search comes to
 -- FullWalks.antt has the full walk. Where positions never fall both find the same; on other lists only this is
 -- promised.
-use Rattle.std.specs.Prelude.{ℕ, zero, suc, ◌+◌, ◌-◌, ◌*◌, ◌/◌, List, [], ◌∷◌, leb, eqb, length, get_or}
-use Rattle.byte.specs.Words.{if◌then◌else◌}
+use Rattle.std.specs.Prelude.{ℕ, zero, suc, ◌+◌, ◌-◌, ◌*◌, ◌/◌, List, [], ◌∷◌, leb, eqb, length, get_or, if◌then◌else◌}
 use Rattle.byte.specs.Refusals.{too_large, bad_session}
 use Rattle.source.specs.Cursor.{origin}
 use Rattle.lookup.specs.declared.Found.{Found}

@@ -1,4 +1,5 @@
 -- Scripting's table row by row, where no literal and no number starts. Assumes nothing.
+use Rattle.std.specs.Prelude.{if◌then◌else◌}
 use Prim.Native.Nat.{ℕ, suc, ◌+◌, ◌<◌, ◌≤◌}
 use mathlib.Core.Path.{◌≡◌, refl}
 use mathlib.Core.Bool.{Bool, true, false}
@@ -8,7 +9,6 @@ use native.Mathlib.Numerals.{add-one}
 use lib.Dec.{ltb}
 use lib.ListN.{length, get_or, drop, drop_of_length-le}
 use borrow.Author.Tests.{ne_eqb, lt-ltb, le-ltb}
-use Rattle.byte.specs.Words.{if◌then◌else◌}
 use Rattle.byte.specs.Bytes.{is_digit, is_start, is_letter}
 use Rattle.byte.specs.declared.Octal.{Octal}
 use Rattle.byte.proofs.Words.{drop-one}

@@ -1,4 +1,5 @@
 -- LookingForVarname, LookingForProperty and VarOffset on each way through them, and runs of identifier bytes. Assumes nothing.
+use Rattle.std.specs.Prelude.{if◌then◌else◌}
 use Prim.Native.Nat.{ℕ, suc, ◌+◌, ◌-◌, ◌^◌, ◌<◌, ◌≤◌}
 use mathlib.Core.Path.{◌≡◌, sym, ◌∙◌}
 use mathlib.Core.Bool.{Bool, true, false, not, ◌||◌}
@@ -9,7 +10,7 @@ use lib.Dec.{eqb, ltb, leb-suc-suc}
 use lib.ListN.{length, get_or, drop, length-drop, drop_of_length-le}
 use lib.Seq.{drop-drop}
 use borrow.Author.Tests.{ne_eqb, lt-ltb, le-ltb, not-true, not-false}
-use Rattle.byte.specs.Words.{if◌then◌else◌, run}
+use Rattle.byte.specs.Words.{run}
 use Rattle.byte.specs.Bytes.{is_start, is_identifier}
 use Rattle.source.specs.Code.{RunEnd}
 use Rattle.byte.specs.Refusals.{unexpected_end_of_file, no_property}

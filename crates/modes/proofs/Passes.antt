@@ -1,6 +1,7 @@
 -- A step at Scripting that only passes bytes, on each way through the functions that tell it. Assumes nothing.
 --   others, passes_ats, quicks   the rulesets of `is_other`, `passed_at` and `passed`
 --   Passes, quick_passes        what such a step tells of the call
+use Rattle.std.specs.Prelude.{if◌then◌else◌}
 use Prim.Native.Nat.{ℕ, suc, ◌+◌, ◌-◌, ◌<◌, ◌≤◌}
 use mathlib.Core.Path.{◌≡◌, refl, sym, ◌∙◌}
 use mathlib.Core.Bool.{Bool, true, false, not, ◌&&◌, and-false, false≢true}
@@ -12,7 +13,7 @@ use lib.ListN.{length, get_or, take, drop, length-drop, drop_of_length-le}
 use lib.Seq.{length-take-le}
 use borrow.Author.Tests.{eqb-true, ne_eqb, leb-true, lt-leb, ltb-true, lt-ltb, le-ltb, not-true, not-false}
 use Rattle.state.specs.Bounds.{is_scripting}
-use Rattle.byte.specs.Words.{if◌then◌else◌, run, every}
+use Rattle.byte.specs.Words.{run, every}
 use Rattle.byte.specs.Bytes.{is_digit, is_start, is_letter, is_identifier, is_no_break, is_none_of}
 use Rattle.byte.specs.declared.Octal.{Octal}
 use Rattle.source.specs.Code.{RunEnd, Unbroken, LineStart}

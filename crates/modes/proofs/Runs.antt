@@ -2,6 +2,7 @@
 --   near_passed   the cursor past bytes stays near its position
 --   Running       the steps left end where all of them do, and the next can be asked
 --   running       the ruleset of the loop
+use Rattle.std.specs.Prelude.{if◌then◌else◌}
 use Prim.Native.Nat.{ℕ, zero, suc, ◌+◌, ◌-◌, ◌<◌, ◌≤◌}
 use mathlib.Core.Path.{◌≡◌, refl, sym, ◌∙◌}
 use mathlib.Core.Bool.{Bool, true, false}
@@ -10,7 +11,6 @@ use native.Mathlib.Omega.{arith}
 use lib.Dec.{eqb}
 use lib.ListN.{length, take, drop}
 use borrow.Author.Tests.{eq-eqb, ne_eqb}
-use Rattle.byte.specs.Words.{if◌then◌else◌}
 use Rattle.source.specs.Code.{Reaches}
 use Rattle.source.specs.Cursor.{passed_byte, passed}
 use Rattle.source.specs.declared.Span.{Span}

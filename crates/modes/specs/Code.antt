@@ -16,9 +16,9 @@
 --   Near          a cursor's line and column are no larger than its position and one
 -- What a quick step tells holds of every session with this frame on top, at the announced end or before it:
 -- `quick_passes` (proofs/Passes.antt).
-use Rattle.std.specs.Prelude.{ℕ, zero, suc, ◌+◌, ◌≤◌, ◌≡◌, Bool, true, false, not, ◌&&◌, List, [], ◌∷◌, eqb, ltb, length, get_or, take, drop}
+use Rattle.std.specs.Prelude.{ℕ, zero, suc, ◌+◌, ◌≤◌, ◌≡◌, Bool, true, false, not, ◌&&◌, List, [], ◌∷◌, eqb, ltb, length, get_or, take, drop, if◌then◌else◌}
 use Prim.Native.Char.{code}
-use Rattle.byte.specs.Words.{if◌then◌else◌, run}
+use Rattle.byte.specs.Words.{run}
 use Rattle.byte.specs.Bytes.{is_digit, is_start, is_identifier, is_none_of}
 use Rattle.byte.specs.declared.Octal.{Octal}
 use Rattle.byte.specs.Refusals.{out_of_place}

@@ -1,6 +1,5 @@
 // What a call reads: which routine is asked, and of which text, by one look at the call, the frame and the byte there.
-ghost use Rattle.std.specs.Prelude.{◌≡◌, true, get_or};
-ghost use Rattle.byte.specs.Words.{if◌then◌else◌};
+ghost use Rattle.std.specs.Prelude.{◌≡◌, true, get_or, if◌then◌else◌};
 ghost use Rattle.state.specs.Bounds.{is_frame, is_scripting};
 ghost use Rattle.plan.specs.Code.{Here};
 ghost use Rattle.modes.specs.Code.{plain_row, digit_way, nowdoc_way, scripts, steps, calls, Reads};

@@ -1,8 +1,7 @@
 // The mode Scripting: document 01's table, which tells by the byte at the cursor, with document 02's comments.
 // Literals and numbers are rows of their own (rows).
 // Of the Rust: the routine `scripting`.
-ghost use Rattle.std.specs.Prelude.{◌≡◌, false, ◌+◌, ◌≤◌, ◌<◌, ltb, length, get_or, drop};
-ghost use Rattle.byte.specs.Words.{if◌then◌else◌};
+ghost use Rattle.std.specs.Prelude.{◌≡◌, false, ◌+◌, ◌≤◌, ◌<◌, ltb, length, get_or, drop, if◌then◌else◌};
 ghost use Rattle.byte.specs.Bytes.{is_digit};
 ghost use Rattle.byte.specs.declared.Octal.{Octal};
 ghost use Rattle.outcome.specs.declared.Change.{Change};

@@ -1,5 +1,6 @@
 -- The ways through the code that finds where a number ends, each a law: what the tests and calls on it tell gives the contract.
 -- In the source's order, a `ruleset` for each function or two. Assumes nothing.
+use Rattle.std.specs.Prelude.{if◌then◌else◌}
 use Prim.Native.Nat.{ℕ, suc, ◌+◌, ◌-◌, ◌≤◌, ◌<◌}
 use mathlib.Core.Path.{◌≡◌, sym, ◌∙◌}
 use mathlib.Core.Bool.{Bool, true, false}
@@ -9,7 +10,6 @@ use native.Mathlib.Numerals.{add-one}
 use lib.ListN.{length, get_or, drop, length-drop, drop_of_length-le}
 use lib.Seq.{drop-drop}
 use borrow.Author.Tests.{eq-eqb, ne_eqb}
-use Rattle.byte.specs.Words.{if◌then◌else◌}
 use Rattle.byte.specs.Bytes.{is_digit}
 use Rattle.byte.proofs.Words.{drop-one}
 use Rattle.number.specs.declared.Ahead.{Ahead}

@@ -5,6 +5,7 @@
 --   number_bare_exponent   a point, then an exponent without a digit: the literal, the exponent's letter and its sign
 --   number_loose_octal     08, 0_1: all decimal digits; the literal is the 0 and the octal digits right after it
 --   number-none            where no literal begins: nothing, or a point or an exponent without digits before it
+use Rattle.std.specs.Prelude.{if◌then◌else◌}
 use Prim.Native.Nat.{ℕ, ◌+◌, ◌≤◌, ◌<◌}
 use Prim.Native.Char.{code}
 use mathlib.Core.Path.{◌≡◌, refl, sym, ap, subst, ◌∙◌}
@@ -15,7 +16,7 @@ use lib.Dec.{ltb}
 use lib.ListN.{length, take, drop}
 use lib.Seq.{drop-append_seam, length-take-le}
 use borrow.Author.Tests.{eqb-true, ltb-true, ltb-false, not-true}
-use Rattle.byte.specs.Words.{if◌then◌else◌, ◌is◌}
+use Rattle.byte.specs.Words.{◌is◌}
 use Rattle.byte.specs.Bytes.{is_digit, is_octal}
 use Rattle.byte.proofs.Tests.{&&-left, &&-right, ||-neither}
 use Rattle.number.specs.declared.Literal.{Literal}

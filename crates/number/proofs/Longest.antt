@@ -3,6 +3,7 @@
 --   longest_literal   and it is the longest (proofs/Covers.antt)
 --   no_literal        where no number begins there is none
 --   longest_one       a text has no two longest literals, and its longest has one kind
+use Rattle.std.specs.Prelude.{if◌then◌else◌}
 use Prim.Native.Nat.{ℕ, ◌≤◌}
 use mathlib.Core.Path.{◌≡◌, refl, sym, ap, subst, ◌∙◌}
 use mathlib.Core.Bool.{true, false, ◌&&◌, ◌||◌, false≢true}
@@ -11,7 +12,7 @@ use native.Mathlib.Omega.{arith}
 use lib.Dec.{leb}
 use lib.ListN.{length, take, drop}
 use borrow.Author.Tests.{leb-true, le-leb, eqb-true, eqb-false}
-use Rattle.byte.specs.Words.{if◌then◌else◌, ◌is◌, ◌from◌to◌}
+use Rattle.byte.specs.Words.{◌is◌, ◌from◌to◌}
 use Rattle.byte.specs.Bytes.{is_digit, is_octal}
 use Rattle.byte.proofs.Tests.{&&-left, &&-right, &&-both, choice}
 use Rattle.number.specs.declared.Literal.{Literal}

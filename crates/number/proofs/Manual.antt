@@ -6,6 +6,7 @@
 --   integer_read      decimal, hexadecimal, octal, binary
 --   float_read        DNUM, EXPONENT_DNUM
 --   differences       texts that the manual does not have as literals, and what is read of them
+use Rattle.std.specs.Prelude.{if◌then◌else◌}
 use Prim.Native.Nat.{ℕ, suc, ◌+◌, ◌-◌, ◌≤◌}
 use mathlib.Core.Path.{◌≡◌, refl, ap, ◌∙◌}
 use mathlib.Core.Bool.{Bool, true, false, not, ◌&&◌, ◌||◌, false≢true}
@@ -15,7 +16,7 @@ use lib.Dec.{eqb, leb}
 use lib.ListN.{length, drop, length-append}
 use lib.Seq.{drop_at, take-append_seam}
 use borrow.Author.Tests.{leb-true, le-leb, eqb-true}
-use Rattle.byte.specs.Words.{if◌then◌else◌, bytes}
+use Rattle.byte.specs.Words.{bytes}
 use Rattle.byte.specs.Bytes.{is_digit, is_octal, is_hex, is_letter, is_start, is_identifier}
 use Rattle.byte.proofs.Tests.{&&-left, &&-right, &&-both, choice}
 use Rattle.number.specs.declared.Ahead.{Ahead}

@@ -1,6 +1,7 @@
 -- With the end announced, what is read of every text, by its kind and its text: `number_text`. Assumes nothing.
 --   read_text       the text that is read: a prefix and its digits; or whole digits, and what is read after them
 --   number_text    it is what is read
+use Rattle.std.specs.Prelude.{if◌then◌else◌}
 use Prim.Native.Nat.{ℕ, suc, ◌+◌, ◌-◌, ◌≤◌}
 use mathlib.Core.Path.{◌≡◌, refl, ap, ◌∙◌}
 use mathlib.Core.Bool.{true, not, ◌&&◌, false≢true}
@@ -8,7 +9,7 @@ use mathlib.Core.List.{List, [], ◌∷◌, ◌++◌}
 use native.Mathlib.Omega.{arith}
 use lib.ListN.{length, take, drop, length-append}
 use lib.Seq.{length-take-le}
-use Rattle.byte.specs.Words.{if◌then◌else◌, ◌is◌}
+use Rattle.byte.specs.Words.{◌is◌}
 use Rattle.byte.specs.Bytes.{is_digit}
 use Rattle.byte.proofs.Tests.{choice}
 use Rattle.number.specs.declared.Ahead.{Ahead}

@@ -7,6 +7,7 @@
 --   number_at_fits           of every number
 --   number_waits            demand 3
 -- Assumes nothing.
+use Rattle.std.specs.Prelude.{if◌then◌else◌}
 use Prim.Native.Nat.{ℕ, suc, ◌+◌, ◌-◌, ◌≤◌, ◌<◌}
 use mathlib.Core.Path.{◌≡◌, refl, sym, ap, subst, ◌∙◌}
 use mathlib.Core.Bool.{Bool, true, false, ◌&&◌}
@@ -16,7 +17,7 @@ use lib.Dec.{eqb}
 use lib.ListN.{length, drop, length-drop, length-append, drop_of_length-le}
 use lib.Seq.{drop-append-le}
 use borrow.Author.Tests.{eqb-true}
-use Rattle.byte.specs.Words.{if◌then◌else◌, every}
+use Rattle.byte.specs.Words.{every}
 use Rattle.byte.specs.Bytes.{is_digit, is_octal, is_hex}
 use Rattle.byte.specs.Demand.{Waits}
 use Rattle.byte.proofs.Demand.{waits}

@@ -20,9 +20,9 @@
 -- begins there is none, and there are no two. `number_longest`, `number_bare_prefix`, `number_bare_exponent`,
 -- `number_loose_octal`, `number-none` (proofs/Grammar.antt): what is read of every text. `integer_read`, `Float-read`
 -- (proofs/Manual.antt): a literal that something closes is read whole, with more to come too.
-use Rattle.std.specs.Prelude.{ℕ, ◌+◌, ◌≤◌, Bool, true, false, not, ◌&&◌, ◌||◌, List, [], ◌∷◌, ◌++◌, ◌≡◌, refl, ltb, length, take, drop}
+use Rattle.std.specs.Prelude.{ℕ, ◌+◌, ◌≤◌, Bool, true, false, not, ◌&&◌, ◌||◌, List, [], ◌∷◌, ◌++◌, ◌≡◌, refl, ltb, length, take, drop, if◌then◌else◌}
 use Prim.Native.Char.{code}
-use Rattle.byte.specs.Words.{if◌then◌else◌, ◌is◌, ◌from◌to◌, bytes}
+use Rattle.byte.specs.Words.{◌is◌, ◌from◌to◌, bytes}
 use Rattle.byte.specs.Bytes.{is_digit, is_octal, is_hex, is_identifier}
 use Rattle.number.specs.declared.Base.{Base}
 use Rattle.number.specs.declared.Literal.{Literal}

@@ -7,10 +7,10 @@
 --   scanned                what a scan tells of it: the value by its length
 --   spelled, value_of       a literal's text as a value has it: no `_`, and `e` for `E` (proofs/Values.antt: it is the value)
 -- n is the position of the text's head. `end`: the end is announced; with more to come, what is not yet known is a wait.
-use Rattle.std.specs.Prelude.{ℕ, suc, ◌-◌, Bool, true, false, ◌&&◌, ◌||◌, List, [], ◌∷◌, ◌++◌, ◌≡◌, refl, length, take, drop}
+use Rattle.std.specs.Prelude.{ℕ, suc, ◌-◌, Bool, true, false, ◌&&◌, ◌||◌, List, [], ◌∷◌, ◌++◌, ◌≡◌, refl, length, take, drop, if◌then◌else◌}
 use Prim.Native.Char.{code}
 use Prim.Native.String.{String}
-use Rattle.byte.specs.Words.{if◌then◌else◌, ◌is◌, ◌from◌to◌, bytes}
+use Rattle.byte.specs.Words.{◌is◌, ◌from◌to◌, bytes}
 use Rattle.byte.specs.Bytes.{is_digit, is_octal, is_hex}
 use Rattle.number.specs.declared.Ahead.{Ahead}
 use Rattle.number.specs.declared.Base.{Base}

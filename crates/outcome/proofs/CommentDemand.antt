@@ -1,6 +1,7 @@
 -- Demand 3 for comments: `slash_answers`, `hash_answers`, from any position on. Assumes nothing.
 -- A wait's two continuations: of a line's comment the end and one byte more, which it takes; of an open `/*` the end, where it is
 -- refused, and `*/`; after a lone `/` the end and another; after a lone `#` the end and `[`.
+use Rattle.std.specs.Prelude.{if◌then◌else◌}
 use mathlib.Core.Path.{◌≡◌, refl, sym, ap, ◌∙◌}
 use mathlib.Core.Bool.{Bool, true, false, ◌&&◌, ◌||◌, false≢true}
 use mathlib.Core.List.{List, [], ◌∷◌, ◌++◌}
@@ -9,7 +10,7 @@ use Prim.Native.Char.{code}
 use native.Mathlib.Omega.{arith}
 use lib.ListN.{length, length-append}
 use lib.Seq.{take-append-le}
-use Rattle.byte.specs.Words.{if◌then◌else◌, ◌is◌, every, bytes}
+use Rattle.byte.specs.Words.{◌is◌, every, bytes}
 use Rattle.byte.specs.Refusals.{unexpected_end_of_file}
 use Rattle.byte.proofs.Tests.{choice, &&-right}
 use Rattle.token.specs.Kinds.{comment}

@@ -1,6 +1,7 @@
 -- Where a comment's end lies: not before what was passed, and what is taken of it is within the text. Assumes nothing.
 --   comment_end_inside   where it lies
 --   comment_end_taken    a comment that is cut out has its end where it had it, or is over
+use Rattle.std.specs.Prelude.{if◌then◌else◌}
 use Prim.Native.Nat.{ℕ, zero, suc, ◌+◌, ◌-◌, ◌≤◌}
 use Prim.Native.Char.{code}
 use mathlib.Core.Path.{◌≡◌, refl}
@@ -8,7 +9,7 @@ use mathlib.Core.Bool.{Bool, true, false, ◌&&◌, false≢true}
 use mathlib.Core.List.{List, [], ◌∷◌}
 use native.Mathlib.Omega.{arith}
 use lib.ListN.{length, take}
-use Rattle.byte.specs.Words.{if◌then◌else◌, ◌is◌}
+use Rattle.byte.specs.Words.{◌is◌}
 use Rattle.byte.proofs.Tests.{choice, &&-right, ||-neither}
 use Rattle.unit.proofs.Stays.{clash}
 use Rattle.outcome.specs.declared.CommentEnd.{CommentEnd}

@@ -5,12 +5,13 @@
 --   Answers        the same at one part, so that a choice goes way by way
 --   limited_waits  a mode's demand 3 at each depth, with the limit of 64 frames
 --   waits_along    demand 3 of the rest of a text is demand 3 of the text
+use Rattle.std.specs.Prelude.{if◌then◌else◌}
 use mathlib.Core.Path.{◌≡◌, refl, sym, ap, ◌∙◌}
 use mathlib.Core.Bool.{Bool, true, false}
 use mathlib.Core.List.{List, [], ◌∷◌, ◌++◌, append-nil}
 use Prim.Native.Nat.{ℕ}
 use lib.Dec.{ltb}
-use Rattle.byte.specs.Words.{if◌then◌else◌, every}
+use Rattle.byte.specs.Words.{every}
 use Rattle.byte.specs.Demand.{is_byte, Apart, Waits}
 use Rattle.byte.specs.Refusals.{stack_full}
 use Rattle.byte.proofs.Demand.{apart_by, waits}

@@ -1,6 +1,7 @@
 -- Demand 3 for runs of identifier bytes and for the modes LookingForVarname, LookingForProperty and VarOffset. Assumes nothing.
 --   named_stays, named_cut, named_told   a run that is told stays; one that is not goes on after the part; at the end it is told
 --   looking_for_varname_demands, looking_for_property_demands, var_offset_demands   the modes, from any position on
+use Rattle.std.specs.Prelude.{if◌then◌else◌}
 use mathlib.Core.Path.{◌≡◌, refl, ap, ◌∙◌}
 use mathlib.Core.Bool.{Bool, true, false}
 use mathlib.Core.List.{List, [], ◌∷◌, ◌++◌}
@@ -8,7 +9,7 @@ use Prim.Native.Nat.{ℕ, suc, ◌+◌, ◌≤◌, ◌<◌}
 use native.Mathlib.Omega.{arith}
 use lib.ListN.{length, drop, length-drop}
 use lib.Seq.{take-append-le, drop-append-le, drop-append_seam}
-use Rattle.byte.specs.Words.{if◌then◌else◌, ◌is◌, every, bytes}
+use Rattle.byte.specs.Words.{◌is◌, every, bytes}
 use Rattle.byte.specs.Bytes.{is_start, is_identifier, is_letter, is_digit}
 use Rattle.byte.specs.Refusals.{unexpected_end_of_file, no_property}
 use Rattle.byte.proofs.Tests.{choice}

@@ -2,6 +2,7 @@
 --   comment_whole     a `/` or a `#` comes to the comment that the manual's words tell, a CR being no end of a line
 --   comment_manual    where a line's comment has no CR, or a block is opened, PHP's comment is the same one
 --   comment_returns   PHP's comment of a line is the same up to its first CR
+use Rattle.std.specs.Prelude.{if◌then◌else◌}
 use Prim.Native.Nat.{ℕ, suc, ◌+◌, ◌≤◌}
 use Prim.Native.Char.{code}
 use mathlib.Core.Path.{◌≡◌, refl, ap, ◌∙◌}
@@ -11,7 +12,7 @@ use native.Mathlib.Omega.{arith}
 use lib.ListN.{length, take, length-take}
 use borrow.Author.Tests.{eqb-true}
 use Rattle.byte.specs.declared.Octal.{Octal}
-use Rattle.byte.specs.Words.{if◌then◌else◌, ◌is◌, every, run}
+use Rattle.byte.specs.Words.{◌is◌, every, run}
 use Rattle.byte.specs.Bytes.{is_digit, is_start, is_letter}
 use Rattle.byte.proofs.Tests.{choice, &&-left, &&-right, if_both}
 use Rattle.byte.proofs.Words.{every_run}

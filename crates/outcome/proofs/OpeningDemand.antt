@@ -1,12 +1,13 @@
 -- Demand 3 for the opening of a text block: `opened_demands`, the step at a `<`. Assumes nothing.
 -- What is not told is another byte at the end, and a block with the bytes that complete it. In the definitions' order, one law for
 -- each look ahead, with `if_looks` for a choice.
+use Rattle.std.specs.Prelude.{if◌then◌else◌}
 use mathlib.Core.Path.{◌≡◌, refl, sym, ap, ◌∙◌}
 use mathlib.Core.Bool.{Bool, true, false}
 use mathlib.Core.List.{List, [], ◌∷◌, ◌++◌, append-nil}
 use Prim.Native.Nat.{ℕ, suc}
 use lib.Dec.{ltb}
-use Rattle.byte.specs.Words.{if◌then◌else◌, ◌is◌, every, bytes}
+use Rattle.byte.specs.Words.{◌is◌, every, bytes}
 use Rattle.byte.specs.Bytes.{is_start, is_identifier, is_letter, is_digit}
 use Rattle.byte.specs.Demand.{is_byte}
 use Rattle.unit.proofs.Stays.{Stays, clash}

@@ -1,12 +1,13 @@
 -- What tells no literal and no comment: the frames but Scripting. Each law is its definition again. Assumes nothing.
 --   NoLiteral, TellsNone   no piece is a literal or a comment
 --   texted_none, initial_none, looking_for_varname_none, looking_for_property_none, var_offset_none
+use Rattle.std.specs.Prelude.{if◌then◌else◌}
 use Prim.Native.Nat.{ℕ}
 use mathlib.Core.Path.{◌≡◌, refl}
 use mathlib.Core.Bool.{Bool, true, false, not}
 use mathlib.Core.List.{List, [], ◌∷◌, ◌++◌}
 use lib.ListN.{drop}
-use Rattle.byte.specs.Words.{if◌then◌else◌, ◌is◌, every}
+use Rattle.byte.specs.Words.{◌is◌, every}
 use Rattle.byte.specs.Bytes.{is_start}
 use Rattle.byte.specs.Refusals.{is_among}
 use Rattle.byte.proofs.Tests.{choice}

@@ -3,6 +3,7 @@
 --   row_opens      at such a row a block opens
 --   opens_row      where a block opens, there is such a row
 --   opening_row    so each is said by the other
+use Rattle.std.specs.Prelude.{if◌then◌else◌}
 use Prim.Native.Nat.{ℕ, suc, ◌+◌, ◌≤◌}
 use mathlib.Core.Path.{◌≡◌, refl, subst, ◌∙◌}
 use mathlib.Core.Bool.{Bool, true, false, ◌&&◌, false≢true}
@@ -13,7 +14,7 @@ use native.Mathlib.Nat.{zero-add, suc-add}
 use lib.Dec.{ltb}
 use lib.ListN.{length, length-append}
 use borrow.Author.Tests.{eqb-true, ltb-true, lt-ltb}
-use Rattle.byte.specs.Words.{if◌then◌else◌, ◌is◌, every, bytes}
+use Rattle.byte.specs.Words.{◌is◌, every, bytes}
 use Rattle.byte.specs.Bytes.{is_start, is_identifier, is_letter, is_digit}
 use Rattle.byte.proofs.Words.{every_append}
 use Rattle.byte.proofs.Tests.{choice, &&-left, &&-right, &&-both}

@@ -1,5 +1,6 @@
 -- The outcomes of inline text and of Scripting's table, row by row: each lies within the source, leaves the stack good
 -- and goes on (Ways). Assumes nothing.
+use Rattle.std.specs.Prelude.{if◌then◌else◌}
 use Prim.Native.Nat.{ℕ, suc, ◌+◌, ◌-◌, ◌≤◌, ◌<◌}
 use Prim.Native.Char.{code}
 use mathlib.Core.Path.{◌≡◌, refl, sym, ap, ◌∙◌}
@@ -12,7 +13,7 @@ use lib.Seq.{drop-drop}
 use borrow.Author.Tests.{ltb-true, le-leb}
 use Rattle.byte.specs.declared.Octal.{Octal}
 use Rattle.byte.specs.Refusals.{is_among}
-use Rattle.byte.specs.Words.{if◌then◌else◌, ◌is◌, every}
+use Rattle.byte.specs.Words.{◌is◌, every}
 use Rattle.byte.specs.Bytes.{is_digit, is_start, is_identifier}
 use Rattle.byte.proofs.Tests.{choice, &&-both}
 use Rattle.state.specs.declared.Frame.{Frame}

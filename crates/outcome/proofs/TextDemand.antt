@@ -3,6 +3,7 @@
 --   literal_demands, numbered_demands   the readings
 -- A wait's two continuations are the reading's own, and the outcome tells them apart: of a text by its ending, of a number
 -- altogether.
+use Rattle.std.specs.Prelude.{if◌then◌else◌}
 use mathlib.Core.Path.{◌≡◌, refl, sym, ap, ◌∙◌}
 use mathlib.Core.Bool.{Bool, true, false, false≢true}
 use mathlib.Core.List.{List, [], ◌∷◌, ◌++◌}
@@ -11,7 +12,6 @@ use native.Mathlib.Omega.{arith}
 use lib.Dec.{eqb}
 use lib.ListN.{length, drop, length-drop}
 use lib.Seq.{take-append-le, drop-append-le}
-use Rattle.byte.specs.Words.{if◌then◌else◌}
 use Rattle.byte.specs.Demand.{Apart}
 use Rattle.byte.proofs.Demand.{apart_by}
 use Rattle.state.specs.declared.Frame.{Frame}

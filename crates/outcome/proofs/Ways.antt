@@ -11,6 +11,7 @@
 --                                  and what may be refused
 --   Ways                           of an outcome from the place n on
 -- Assumes nothing.
+use Rattle.std.specs.Prelude.{if◌then◌else◌}
 use Prim.Native.Nat.{ℕ, suc, ◌+◌, ◌-◌, ◌≤◌, ◌<◌}
 use mathlib.Core.Path.{◌≡◌, refl, sym}
 use mathlib.Core.Bool.{Bool, true, false, not, ◌||◌, false≢true}
@@ -20,7 +21,7 @@ use lib.Dec.{eqb}
 use lib.ListN.{length, take, drop}
 use borrow.Author.Tests.{eqb-true, not-true}
 use Rattle.byte.specs.declared.Octal.{Octal}
-use Rattle.byte.specs.Words.{if◌then◌else◌, ◌is◌, every}
+use Rattle.byte.specs.Words.{◌is◌, every}
 use Rattle.byte.specs.Refusals.{unexpected_end_of_file, invalid_unicode_escape, octal_refusals, invalid_doc_indentation}
 use Rattle.byte.specs.Refusals.{no_property, wait, stack_full, stray_indentation, is_among}
 use Rattle.byte.specs.Bytes.{is_start, is_identifier}

@@ -5,6 +5,7 @@
 --   framed_written                any frame
 --   call_written                  the step and the three readings
 --   outcome_written               in a session, with the limit of 64 frames
+use Rattle.std.specs.Prelude.{if◌then◌else◌}
 use Prim.Native.Nat.{ℕ, suc, ◌-◌, ◌≤◌, ◌<◌}
 use Prim.Native.Char.{code}
 use mathlib.Core.Path.{◌≡◌, refl}
@@ -14,7 +15,7 @@ use native.Mathlib.Omega.{arith}
 use lib.ListN.{length, take}
 use borrow.Author.Tests.{eqb-true}
 use Rattle.byte.specs.declared.Octal.{Octal}
-use Rattle.byte.specs.Words.{if◌then◌else◌, ◌is◌}
+use Rattle.byte.specs.Words.{◌is◌}
 use Rattle.byte.specs.Bytes.{is_digit, is_start, is_letter}
 use Rattle.byte.proofs.Tests.{choice}
 use Rattle.state.specs.declared.Choices.{Choices}

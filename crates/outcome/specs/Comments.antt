@@ -8,9 +8,9 @@
 --   comment_at     the comment at n, k bytes of which were passed: xs starts with it, and `rest` is after those
 --   slash, hash   what a `/` or a `#` at n begins: xs starts with it, and `rest` is after it
 -- `end` says that the text is all there.
-use Rattle.std.specs.Prelude.{ℕ, suc, ◌+◌, Bool, false, ◌&&◌, ◌||◌, List, [], ◌∷◌, eqb, length}
+use Rattle.std.specs.Prelude.{ℕ, suc, ◌+◌, Bool, false, ◌&&◌, ◌||◌, List, [], ◌∷◌, eqb, length, if◌then◌else◌}
 use Prim.Native.Char.{code}
-use Rattle.byte.specs.Words.{if◌then◌else◌, ◌is◌}
+use Rattle.byte.specs.Words.{◌is◌}
 use Rattle.byte.specs.Refusals.{unexpected_end_of_file}
 use Rattle.token.specs.Kinds.{comment}
 use Rattle.outcome.specs.declared.Change.{Change}

@@ -4,8 +4,8 @@
 --   tagged                  the first tag from n on
 --   initial                 what contracts cite: the text before the tag, if there is some, and the tag with its own span
 -- `end` says that the text is all there.
-use Rattle.std.specs.Prelude.{ℕ, suc, ◌+◌, ◌-◌, Bool, true, false, List, [], ◌∷◌, ◌++◌, ◌≡◌, refl, eqb, length, take, drop}
-use Rattle.byte.specs.Words.{if◌then◌else◌, ◌is◌, ◌from◌to◌, bytes}
+use Rattle.std.specs.Prelude.{ℕ, suc, ◌+◌, ◌-◌, Bool, true, false, List, [], ◌∷◌, ◌++◌, ◌≡◌, refl, eqb, length, take, drop, if◌then◌else◌}
+use Rattle.byte.specs.Words.{◌is◌, ◌from◌to◌, bytes}
 use Rattle.state.specs.declared.Frame.{Frame}
 use Rattle.token.specs.Kinds.{inline_html, open_tag_full, open_tag_echo, open_tag_short}
 use Rattle.outcome.specs.declared.Change.{Change}

@@ -4,8 +4,8 @@
 --   looking_for_property   after a variable: `?->`, `->`, or a name, with which the frame is left; else 5, at the cursor
 --   var_offset            in `$a[..]`: one byte is passed, and at `]` the frame is left; nothing left is 1
 -- n is the position of the text's head, `end` says that the text is all there.
-use Rattle.std.specs.Prelude.{ℕ, suc, ◌+◌, Bool, false, ◌||◌, List, [], ◌∷◌, take, drop}
-use Rattle.byte.specs.Words.{if◌then◌else◌, ◌is◌}
+use Rattle.std.specs.Prelude.{ℕ, suc, ◌+◌, Bool, false, ◌||◌, List, [], ◌∷◌, take, drop, if◌then◌else◌}
+use Rattle.byte.specs.Words.{◌is◌}
 use Rattle.byte.specs.Bytes.{is_start, is_identifier}
 use Rattle.byte.specs.Refusals.{unexpected_end_of_file, no_property}
 use Rattle.state.specs.declared.Frame.{Frame}

@@ -8,9 +8,9 @@
 --   is_no_return, opens_block   no CR; a text that begins with `/*`
 -- The manual does not say whether a CR ends a line; to PHP it does, to document 02 it does not. `comment_whole`, `comment_manual` and
 -- `comment_returns` (proofs/Manual.antt) join the step at Scripting to these.
-use Rattle.std.specs.Prelude.{ℕ, suc, ◌+◌, Bool, true, false, not, ◌&&◌, ◌||◌, List, [], ◌∷◌, ◌≡◌, refl, length, drop}
+use Rattle.std.specs.Prelude.{ℕ, suc, ◌+◌, Bool, true, false, not, ◌&&◌, ◌||◌, List, [], ◌∷◌, ◌≡◌, refl, length, drop, if◌then◌else◌}
 use Prim.Native.Char.{code}
-use Rattle.byte.specs.Words.{if◌then◌else◌, ◌is◌, bytes}
+use Rattle.byte.specs.Words.{◌is◌, bytes}
 use Rattle.byte.specs.Refusals.{unexpected_end_of_file}
 use Rattle.token.specs.Kinds.{comment}
 use Rattle.outcome.specs.declared.Change.{Change}

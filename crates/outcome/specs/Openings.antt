@@ -8,8 +8,8 @@
 --   opening              after the first `<`
 --   opened               what contracts cite: the step at that `<`
 --   OpeningRow           the row itself, as a text; `opening_row` (proofs/Rows.antt) says that a block opens exactly at such a text
-use Rattle.std.specs.Prelude.{ℕ, suc, ◌≤◌, Bool, true, false, ◌&&◌, List, [], ◌∷◌, ◌++◌, ◌⊎◌, ◌≡◌, refl, ltb, length}
-use Rattle.byte.specs.Words.{if◌then◌else◌, ◌is◌, every, bytes}
+use Rattle.std.specs.Prelude.{ℕ, suc, ◌≤◌, Bool, true, false, ◌&&◌, List, [], ◌∷◌, ◌++◌, ◌⊎◌, ◌≡◌, refl, ltb, length, if◌then◌else◌}
+use Rattle.byte.specs.Words.{◌is◌, every, bytes}
 use Rattle.byte.specs.Bytes.{is_start, is_identifier, is_letter, is_digit}
 use Rattle.state.specs.declared.Frame.{Frame}
 use Rattle.state.specs.declared.Label.{Label}

@@ -6,8 +6,7 @@
 --   goes       nothing is written
 --   ending     nothing is left of the text: this at the announced end, else wait
 --   limited    the 64-frame limit: refusal 9, at the cursor n
-use Rattle.std.specs.Prelude.{ℕ, Bool, false, List, [], ◌∷◌, ◌++◌, ltb}
-use Rattle.byte.specs.Words.{if◌then◌else◌}
+use Rattle.std.specs.Prelude.{ℕ, Bool, false, List, [], ◌∷◌, ◌++◌, ltb, if◌then◌else◌}
 use Rattle.byte.specs.Refusals.{stack_full}
 use Rattle.outcome.specs.declared.Change.{Change}
 

@@ -4,9 +4,9 @@
 --   word         an identifier start: the whole run is passed
 --   close_tag     `?>`: passed, and the top becomes Initial
 --   scripting    what contracts cite
-use Rattle.std.specs.Prelude.{ℕ, suc, ◌+◌, Bool, true, List, [], ◌∷◌, ltb}
+use Rattle.std.specs.Prelude.{ℕ, suc, ◌+◌, Bool, true, List, [], ◌∷◌, ltb, if◌then◌else◌}
 use Prim.Native.Char.{code}
-use Rattle.byte.specs.Words.{if◌then◌else◌, ◌is◌}
+use Rattle.byte.specs.Words.{◌is◌}
 use Rattle.byte.specs.Bytes.{is_digit, is_start}
 use Rattle.byte.specs.declared.Octal.{Octal}
 use Rattle.state.specs.declared.Frame.{Frame}

@@ -5,8 +5,7 @@
 --   call_at          the step, or a reading, whose token bears the span at the cursor
 --   call_outcome     what contracts cite: the same in a session, with the 64-frame limit
 --   step_outcome     the step's
-use Rattle.std.specs.Prelude.{ℕ, ◌-◌, Bool, List, [], get_or, drop}
-use Rattle.byte.specs.Words.{if◌then◌else◌}
+use Rattle.std.specs.Prelude.{ℕ, ◌-◌, Bool, List, [], get_or, drop, if◌then◌else◌}
 use Rattle.byte.specs.Refusals.{out_of_place}
 use Rattle.state.specs.declared.Frame.{Frame}
 use Rattle.state.specs.declared.Reading.{Reading}

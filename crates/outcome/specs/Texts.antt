@@ -6,8 +6,7 @@
 --   literal      a quoted string: closed, it is one token; before an interpolation its part, empty or not
 --   text_read     either of them, by its mode
 --   numbered     a number
-use Rattle.std.specs.Prelude.{ℕ, ◌-◌, Bool, true, false, List, [], ◌∷◌, ◌++◌, take, drop}
-use Rattle.byte.specs.Words.{if◌then◌else◌}
+use Rattle.std.specs.Prelude.{ℕ, ◌-◌, Bool, true, false, List, [], ◌∷◌, ◌++◌, take, drop, if◌then◌else◌}
 use Rattle.state.specs.declared.Frame.{Frame}
 use Rattle.token.specs.Kinds.{string_part, dollar_left_brace, left_brace, double_quote, backtick, variable}
 use Rattle.token.specs.Kinds.{end_doc_string_none, end_doc_string_space, end_doc_string_tab, literal_integer, literal_float}

@@ -9,8 +9,7 @@
 --   Plans             the same without one: what the contract of each routine says that fills none
 --   Here              a place of a source that is not too long; its end is one
 --   Named             a label's range within the source
-use Rattle.std.specs.Prelude.{ℕ, ◌+◌, ◌-◌, ◌≤◌, Bool, false, List, [], ◌∷◌, ◌≡◌, eqb, length, take, drop}
-use Rattle.byte.specs.Words.{if◌then◌else◌}
+use Rattle.std.specs.Prelude.{ℕ, ◌+◌, ◌-◌, ◌≤◌, Bool, false, List, [], ◌∷◌, ◌≡◌, eqb, length, take, drop, if◌then◌else◌}
 use Rattle.state.specs.declared.Label.{Label}
 use Rattle.state.specs.Bounds.{label_bytes}
 use Rattle.unit.specs.Readings.{text_at}

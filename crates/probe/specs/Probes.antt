@@ -7,8 +7,8 @@
 --   numbered     a reading without its bytes, in seven numbers
 --   value_refusal, written  a value for a part with so much room: why it is not written, and what the part holds then
 --   Valued       both
-use Rattle.std.specs.Prelude.{ℕ, List, ◌≡◌, leb, eqb, length, drop}
-use Rattle.byte.specs.Words.{if◌then◌else◌, announced}
+use Rattle.std.specs.Prelude.{ℕ, List, ◌≡◌, leb, eqb, length, drop, if◌then◌else◌}
+use Rattle.byte.specs.Words.{announced}
 use Rattle.byte.specs.Laid.{laid}
 use Rattle.byte.specs.declared.Octal.{Octal}
 use Rattle.byte.specs.Refusals.{wait, pool_full, out_of_place, too_large}

@@ -5,6 +5,7 @@
 --   finds_refused   where it is not 0, nothing is written
 --   finds_looks     the third number is 17 at most
 --   finds_end       the fourth, where it is lent, is the found record's eighth number, or 0
+use Rattle.std.specs.Prelude.{if◌then◌else◌}
 use Prim.Native.Nat.{ℕ, ◌≤◌, ◌<◌}
 use mathlib.Core.Path.{◌≡◌, refl, sym, ap, ◌∙◌}
 use mathlib.Core.Bool.{Bool, true, false}
@@ -14,7 +15,6 @@ use lib.Dec.{leb, eqb}
 use lib.ListN.{length, get_or, set}
 use lib.Seq.{sets-eq}
 use borrow.Author.Tests.{le-leb, lt-leb, eqb-true}
-use Rattle.byte.specs.Words.{if◌then◌else◌}
 use Rattle.byte.specs.Laid.{laid}
 use Rattle.byte.specs.Refusals.{out_of_place, too_large, bad_session, is_among}
 use Rattle.byte.proofs.Laid.{length_laid, laid_append, set_laid}

@@ -4,6 +4,7 @@
 --   host_skip, host_push, host_pop
 --   fresh_which, past_which, file_which, list_which   the calls without a turn
 --   which_most                so it is 13 at most
+use Rattle.std.specs.Prelude.{if◌then◌else◌}
 use Prim.Native.Nat.{ℕ, ◌/◌, ◌%◌, ◌≤◌}
 use mathlib.Core.Path.{◌≡◌, refl, sym, ◌∙◌}
 use mathlib.Core.Bool.{Bool, true, false, ◌&&◌}
@@ -13,7 +14,7 @@ use native.Mathlib.Omega.{arith}
 use lib.Dec.{leb, eqb}
 use lib.ListN.{length}
 use borrow.Author.Tests.{leb-true, eq-eqb}
-use Rattle.byte.specs.Words.{if◌then◌else◌, every, announced}
+use Rattle.byte.specs.Words.{every, announced}
 use Rattle.byte.specs.Refusals.{list_full, pool_full, stack_full, out_of_place, too_large, bad_session, is_among}
 use Rattle.byte.proofs.Tests.{choice, &&-left}
 use Rattle.state.specs.declared.Answer.{Answer}

@@ -6,6 +6,7 @@
 --   choose_filled                      it may do so between calls: its list stays one that was filled from empty
 --   host_chosen                        where the Rust's choice does not give 3, the same call under the manual's
 --                                      gives the same
+use Rattle.std.specs.Prelude.{if◌then◌else◌}
 use Prim.Native.Nat.{ℕ, zero, suc, ◌+◌, ◌/◌, ◌%◌, ◌≤◌, ◌<◌}
 use mathlib.Core.Path.{◌≡◌, refl, sym, ap, ◌∙◌}
 use mathlib.Core.Bool.{Bool, true, false, false≢true}
@@ -17,7 +18,7 @@ use borrow.Author.Tests.{eqb-true, lt-ltb}
 use Rattle.byte.specs.declared.Octal.{Octal}
 use Rattle.byte.specs.Refusals.{invalid_octal_escape, octal_refusals, is_among}
 use Rattle.byte.specs.Laid.{laid}
-use Rattle.byte.specs.Words.{if◌then◌else◌, announced}
+use Rattle.byte.specs.Words.{announced}
 use Rattle.source.specs.declared.Span.{Span}
 use Rattle.state.specs.declared.Answer.{Answer}
 use Rattle.state.specs.declared.Choices.{Choices}

@@ -2,6 +2,7 @@
 --   Shows, stands_shows     what a host has after a call, but for the sixth number of the answer, which counts the calls
 --   DoneSteps, steps_here   steps in a row that are all told done, and where they lead
 --   walk_steps              a walk and its steps
+use Rattle.std.specs.Prelude.{if◌then◌else◌}
 use Prim.Native.Nat.{ℕ, ◌+◌, ◌-◌, ◌<◌}
 use mathlib.Core.Path.{◌≡◌, refl, sym, ap, subst, ◌∙◌}
 use mathlib.Core.Bool.{Bool, true, false}
@@ -11,7 +12,7 @@ use native.Mathlib.Omega.{arith}
 use lib.Dec.{leb}
 use lib.ListN.{length, get_or, take}
 use lib.Seq.{get_or-take}
-use Rattle.byte.specs.Words.{if◌then◌else◌, announced}
+use Rattle.byte.specs.Words.{announced}
 use Rattle.byte.specs.Laid.{laid}
 use Rattle.state.specs.declared.Answer.{Answer}
 use Rattle.outcome.specs.declared.Call.{Call}

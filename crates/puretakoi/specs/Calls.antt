@@ -8,8 +8,8 @@
 --   Answered, Turns, Walked   of one call, of a call and steps after it, and of steps
 --   fresh_refusal, Begun   a fresh session
 --   Filed                 a record file or a list: the refusal or 0, and what the lent slice holds
-use Rattle.std.specs.Prelude.{ℕ, Bool, true, false, ◌&&◌, List, [], ◌∷◌, ◌++◌, ◌≡◌, leb, eqb, length}
-use Rattle.byte.specs.Words.{if◌then◌else◌, announced}
+use Rattle.std.specs.Prelude.{ℕ, Bool, true, false, ◌&&◌, List, [], ◌∷◌, ◌++◌, ◌≡◌, leb, eqb, length, if◌then◌else◌}
+use Rattle.byte.specs.Words.{announced}
 use Rattle.byte.specs.Laid.{laid}
 use Rattle.byte.specs.Refusals.{out_of_place, bad_session}
 use Rattle.state.specs.declared.Answer.{Answer}

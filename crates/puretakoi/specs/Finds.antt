@@ -4,8 +4,7 @@
 --   finds_number     the refusal of a look-up, or 0
 --   found_after      the slice after it: a refusal changes nothing
 --   Finds           the refusal or 0, and what the slice holds: 10 first, for fewer than three numbers
-use Rattle.std.specs.Prelude.{ℕ, List, [], ◌∷◌, ◌++◌, ◌≡◌, leb, length}
-use Rattle.byte.specs.Words.{if◌then◌else◌}
+use Rattle.std.specs.Prelude.{ℕ, List, [], ◌∷◌, ◌++◌, ◌≡◌, leb, length, if◌then◌else◌}
 use Rattle.byte.specs.Laid.{laid}
 use Rattle.byte.specs.Refusals.{out_of_place}
 use Rattle.lookup.specs.declared.Found.{Found}

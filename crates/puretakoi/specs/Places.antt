@@ -3,8 +3,7 @@
 --   is_small             no number of a place is over 65,537
 --   past_refusal         11 for a part over 65,536 bytes, 10 for no three numbers, 12 for a number over 65,537, or 0
 --   Past                the refusal, and what the three numbers are then: past the part, or as they were
-use Rattle.std.specs.Prelude.{ℕ, Bool, ◌&&◌, List, [], ◌∷◌, ◌≡◌, leb, eqb, length, get_or}
-use Rattle.byte.specs.Words.{if◌then◌else◌}
+use Rattle.std.specs.Prelude.{ℕ, Bool, ◌&&◌, List, [], ◌∷◌, ◌≡◌, leb, eqb, length, get_or, if◌then◌else◌}
 use Rattle.source.specs.Cursor.{passed}
 use Rattle.source.specs.declared.Span.{Span}
 use Rattle.byte.specs.Refusals.{out_of_place, too_large, bad_session}

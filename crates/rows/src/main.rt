@@ -3,56 +3,48 @@
 // Then `end` and the position, or `refused`, the number and its line, column and position.
 #![tactic(auto)]
 
+ghost use Rattle.std.specs.Prelude.{length, ◌≤◌, IfOk};
+
 use byte::Octal;
-use libc::{STDERR_FILENO, STDIN_FILENO, STDOUT_FILENO};
 use outcome::Call;
 use source::Span;
 use state::{Answer, Choices, Reading};
-
-// A number, and a byte after it.
-fn print_number(n: u32, after: u8) {
-    io::print_decimal(STDOUT_FILENO, n as u64);
-    let sign = [after];
-    io::write_all(STDOUT_FILENO, &sign);
-}
+use std::io;
+use std::io::{BufWriter, Read, Write};
 
 // The row of the token at a place of the list.
-fn print_row(list: &[u32], place: u32) {
+fn print_row<W: Write>(out: &mut W, list: &[u32], place: u32) -> io::Result<()> {
     let at = place as usize * 8;
     if list.len() < at + 8 {
-        return;
+        return Ok(());
     }
-    print_number(list[at], b' ');
-    print_number(list[at + 2], b' ');
-    print_number(list[at + 3], b' ');
-    print_number(list[at + 4], b' ');
-    print_number(list[at + 1], b' ');
-    print_number(list[at + 6], b' ');
-    print_number(list[at + 7], b'\n');
+    let kind = list[at];
+    let detail = list[at + 1];
+    let line = list[at + 2];
+    let column = list[at + 3];
+    let position = list[at + 4];
+    let len = list[at + 6];
+    let end = list[at + 7];
+    writeln!(
+        out,
+        "{kind} {line} {column} {position} {detail} {len} {end}"
+    )
 }
 
 // The rows of the first `count` tokens.
-fn print_rows(list: &[u32], count: u32) {
-    let mut place = 0;
-    while place < count {
-        print_row(list, place);
-        place += 1;
+fn print_rows<W: Write>(out: &mut W, list: &[u32], count: u32) -> io::Result<()> {
+    for place in 0..count {
+        print_row(out, list, place)?;
     }
-}
-
-// The end of the script.
-fn print_end(position: u32) {
-    io::write_all(STDOUT_FILENO, b"end ");
-    print_number(position, b'\n');
+    Ok(())
 }
 
 // A refusal's number and its span.
-fn print_refusal(number: u32, span: Span) {
-    io::write_all(STDOUT_FILENO, b"refused ");
-    print_number(number, b' ');
-    print_number(span.line, b' ');
-    print_number(span.column, b' ');
-    print_number(span.position, b'\n');
+fn print_refusal<W: Write>(out: &mut W, number: u32, span: Span) -> io::Result<()> {
+    let line = span.line;
+    let column = span.column;
+    let position = span.position;
+    writeln!(out, "refused {number} {line} {column} {position}")
 }
 
 // Whether a refusal says that a table is full.
@@ -62,7 +54,7 @@ fn is_full(number: u32) -> bool {
 
 // Walks to the script's end; where a table is full the rows are printed and both are emptied, and they have room for any step. A step that
 // is done moves the cursor on or is the one after a `${`, so there are no more than two to a byte.
-fn print_script(src: &[u8]) {
+fn print_script<W: Write>(out: &mut W, src: &[u8]) -> io::Result<()> {
     let mut list = [0u32; 2048];
     let mut pool = [0u8; 16384];
     let choices = Choices {
@@ -70,55 +62,60 @@ fn print_script(src: &[u8]) {
         octals: Octal::Rust,
     };
     let mut s = state::fresh(choices);
-    let mut left: u32 = 32770;
-    while 0 < left {
+    for _ in 0..32770 {
         let t = walk::calls(Call::Step, src, true, 32770, s, &mut list, &mut pool);
         s = t.session;
-        print_rows(&list, s.tokens);
-        let a = t.answer;
-        match a {
+        print_rows(out, &list, s.tokens)?;
+        match t.answer {
             Answer::Done => {}
             Answer::Finished => {
-                print_end(s.position);
-                return;
+                let position = s.position;
+                return writeln!(out, "end {position}");
             }
             Answer::Refused { number, span } => {
                 if !is_full(number) {
-                    print_refusal(number, span);
-                    return;
+                    return print_refusal(out, number, span);
                 }
             }
         }
         s.tokens = 0;
         s.bytes = 0;
-        left -= 1;
     }
+    Ok(())
 }
 
-// Whether standard input can't be read: after its last byte a read fails, and does not end.
-fn is_unreadable() -> bool {
-    let mut space = [0u8; 1];
-    libc::read(STDIN_FILENO, &mut space) < 0
+// Reads until the buffer is full or the input ends, and says how many bytes there are.
+fn read_full<R: Read>(input: &mut R, buffer: &mut [u8]) -> io::Result<usize>
+    ensures { IfOk result (λ n. n ≤ length buffer.new) }
+{
+    let mut done = 0;
+    while done < buffer.len() {
+        let n = input.read(&mut buffer[done..])?;
+        if n == 0 {
+            break;
+        }
+        done += n;
+    }
+    Ok(done)
 }
 
-fn main() {
+fn main(rt: HostRuntime) -> io::Result<()> {
     let mut buffer = [0u8; 16385];
-    let n = io::read_full(STDIN_FILENO, &mut buffer);
+    let Ok(n) = read_full(&mut rt.reader(), &mut buffer) else {
+        return eprintln!(rt;
+            "rows: standard input can't be read: give it a script, as in rows < sheet.php"
+        );
+    };
+    let mut out = BufWriter::new(rt.alloc(), io::writer(&rt))?;
     if 16384 < n {
         let first = Span {
             line: 1,
             column: 1,
             position: 0,
         };
-        print_refusal(byte::TOO_LARGE, first);
-        return;
+        print_refusal(&mut out, byte::TOO_LARGE, first)?;
+    } else {
+        print_script(&mut out, &buffer[..n])?;
     }
-    if is_unreadable() {
-        io::write_all(
-            STDERR_FILENO,
-            b"rows: standard input can't be read: give it a script, as in rows < sheet.php\n",
-        );
-        return;
-    }
-    print_script(&buffer[..n]);
+    out.flush()
 }

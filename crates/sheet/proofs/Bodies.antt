@@ -3,6 +3,7 @@
 --   body_break        what is left of lines ends in their last break
 --   unbroken_break    a text without its last break has so many bytes less
 -- Assumes nothing.
+use Rattle.std.specs.Prelude.{if◌then◌else◌}
 use Prim.Native.Nat.{ℕ, zero, suc, ◌+◌, ◌<◌, ◌≤◌}
 use Prim.Native.Char.{code}
 use mathlib.Core.Path.{◌≡◌, refl, sym, ◌∙◌}
@@ -12,7 +13,7 @@ use native.Mathlib.Omega.{arith}
 use lib.Dec.{eqb}
 use lib.ListN.{length, drop, length-append}
 use borrow.Author.Tests.{eqb-true}
-use Rattle.byte.specs.Words.{if◌then◌else◌, ◌is◌, run, every}
+use Rattle.byte.specs.Words.{◌is◌, run, every}
 use Rattle.byte.specs.Bytes.{is_blank}
 use Rattle.byte.proofs.Tests.{&&-left, &&-right}
 use Rattle.unit.proofs.Openings.{other_byte}

@@ -3,12 +3,13 @@
 --   label_waits      with more announced it waits
 --   label_settled    one byte after it settles it, whether or not more is announced
 --   behind_label     worked sheets x and y: what the reading says for each byte after the label EOT
+use Rattle.std.specs.Prelude.{if◌then◌else◌}
 use Prim.Native.Nat.{ℕ}
 use mathlib.Core.Path.{◌≡◌, refl}
 use mathlib.Core.Bool.{Bool, true, false}
 use mathlib.Core.List.{List, [], ◌∷◌, ◌++◌, append-nil}
 use borrow.Author.Tests.{eq-eqb}
-use Rattle.byte.specs.Words.{if◌then◌else◌, ◌is◌, run, bytes}
+use Rattle.byte.specs.Words.{◌is◌, run, bytes}
 use Rattle.byte.specs.Bytes.{is_blank, is_identifier}
 use Rattle.byte.proofs.Tests.{choice}
 use Rattle.unit.specs.declared.Indentation.{Indentation}

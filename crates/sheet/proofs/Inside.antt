@@ -7,6 +7,7 @@
 --   sheet_moves    a sheet ends after its start, as its label has a byte or more
 --   sheet_stops    it ends at its label
 -- Assumes nothing.
+use Rattle.std.specs.Prelude.{if◌then◌else◌}
 use Prim.Native.Nat.{ℕ, suc, ◌+◌, ◌-◌, ◌<◌, ◌≤◌}
 use mathlib.Core.Path.{◌≡◌, refl, sym, ap, ◌∙◌}
 use mathlib.Core.Bool.{Bool, true, false, ◌&&◌, false≢true}
@@ -17,7 +18,7 @@ use lib.ListN.{length, take, drop, length-append, length-drop}
 use lib.Seq.{take-append-add}
 use borrow.Author.Tests.{eqb-true, eq-eqb}
 use Rattle.byte.specs.Refusals.{unexpected_end_of_file, invalid_doc_indentation, stray_indentation, is_among}
-use Rattle.byte.specs.Words.{if◌then◌else◌, ◌is◌, run, every}
+use Rattle.byte.specs.Words.{◌is◌, run, every}
 use Rattle.byte.specs.Bytes.{is_blank}
 use Rattle.byte.proofs.Tests.{choice, &&-both}
 use Rattle.unit.specs.declared.Indentation.{Indentation}

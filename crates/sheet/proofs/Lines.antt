@@ -5,13 +5,14 @@
 --   Grown, lines_grown       the lines of a text and with one byte more, no break: the last line goes on, or one begins
 --   flat, flat_lines, lines_flat   the lines of a text one after the other are the text, and back
 -- Assumes nothing.
+use Rattle.std.specs.Prelude.{if◌then◌else◌}
 use Prim.Native.Nat.{ℕ, suc, ◌+◌}
 use mathlib.Core.Path.{◌≡◌, refl, ap, ◌∙◌}
 use mathlib.Core.Bool.{Bool, true, false, ◌||◌, false≢true}
 use mathlib.Core.List.{List, [], ◌∷◌, ◌++◌}
 use native.Mathlib.Omega.{arith}
 use lib.ListN.{length}
-use Rattle.byte.specs.Words.{if◌then◌else◌, ◌is◌, every}
+use Rattle.byte.specs.Words.{◌is◌, every}
 use Rattle.byte.proofs.Tests.{choice, &&-left, &&-right}
 use Rattle.unit.proofs.Openings.{one_more}
 use Rattle.sheet.specs.Bodies.{in_front, lines}

@@ -2,6 +2,7 @@
 --   sheet_whole    on every text, where a line of nothing but a part of the indentation is empty
 --   sheet_manual   where the manual says what the block is, it is that
 -- Line by line, with the body so far. Assumes nothing.
+use Rattle.std.specs.Prelude.{if◌then◌else◌}
 use Prim.Native.Nat.{ℕ, suc, ◌+◌, ◌≤◌}
 use mathlib.Core.Path.{◌≡◌, refl, sym, ap}
 use mathlib.Core.Bool.{Bool, true, false, false≢true}
@@ -9,7 +10,7 @@ use mathlib.Core.List.{List, [], ◌∷◌, ◌++◌}
 use native.Mathlib.Omega.{arith}
 use lib.Dec.{eqb}
 use lib.ListN.{length, length-append}
-use Rattle.byte.specs.Words.{if◌then◌else◌, ◌is◌, every}
+use Rattle.byte.specs.Words.{◌is◌, every}
 use Rattle.byte.specs.Bytes.{is_blank, is_identifier}
 use Rattle.byte.proofs.Tests.{choice, if_both}
 use Rattle.unit.specs.declared.Indentation.{Indentation}

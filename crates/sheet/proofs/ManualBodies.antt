@@ -3,6 +3,7 @@
 --   SameBody    the lines of a body in both words, each with its break
 --   SameText, same_text   a body without its indentation and its last break
 -- Assumes nothing.
+use Rattle.std.specs.Prelude.{if◌then◌else◌}
 use Prim.Native.Nat.{ℕ, suc, ◌+◌, ◌≤◌, ◌<◌}
 use Prim.Native.Char.{code}
 use mathlib.Core.Path.{◌≡◌, refl, sym, ap, ◌∙◌}
@@ -12,7 +13,7 @@ use native.Mathlib.Omega.{arith}
 use lib.Dec.{eqb, leb-zero, leb-suc-zero, leb-suc-suc}
 use lib.ListN.{length, length-append}
 use borrow.Author.Tests.{eqb-true, eq-eqb, ne_eqb}
-use Rattle.byte.specs.Words.{if◌then◌else◌, ◌is◌, run, every}
+use Rattle.byte.specs.Words.{◌is◌, run, every}
 use Rattle.byte.specs.Bytes.{is_blank}
 use Rattle.byte.proofs.Tests.{&&-left, &&-right, ||-neither}
 use Rattle.sheet.specs.Bodies.{Text, Indent, is_break, is_over, unindented, followed, body_text, unbroken}
@@ -118,7 +119,7 @@ unbroken_on b (c ∷ []) o = rw (||-neither (b is "\n") (b is "\r" && c is "\n")
 unbroken_on b (c ∷ d ∷ rest) o = refl
 
 -- the last break goes
-unbroken_last : {text newline : List ℕ} → Ended newline → Clean newline text → unbroken (text ++ newline) ≡ text
+unbroken_last : {newline text : List ℕ} → Ended newline → Clean newline text → unbroken (text ++ newline) ≡ text
 unfolding unbroken
 unbroken_last lf over = refl
 unbroken_last crlf over = refl
@@ -135,7 +136,7 @@ unbroken_newline (b ∷ []) h crlf = refl
 unbroken_newline (b ∷ c ∷ more) h lf = refl
 unbroken_newline (b ∷ c ∷ more) h crlf = refl
 
-unbroken_line : {text newline : List ℕ} (more : List ℕ) → 0 < length more → Ended newline → Clean newline text
+unbroken_line : {newline text : List ℕ} (more : List ℕ) → 0 < length more → Ended newline → Clean newline text
     → unbroken ((text ++ newline) ++ more) ≡ text ++ newline ++ unbroken more
 unbroken_line more h e over = unbroken_newline more h e
 unbroken_line {newline} more h e (on {b} {text} o c) =

@@ -4,6 +4,7 @@
 --   kind_of_line, closes_last, closes_broken   a line closes a block in both, after the same blanks
 --   pure_kind, pure_blanks   the kind of its indentation, and its bytes
 -- Assumes nothing.
+use Rattle.std.specs.Prelude.{if◌then◌else◌}
 use Prim.Native.Nat.{ℕ, suc, ◌+◌}
 use Prim.Native.Char.{code}
 use mathlib.Core.Path.{◌≡◌, refl, sym, ◌∙◌}
@@ -14,7 +15,7 @@ use lib.Dec.{eqb}
 use lib.ListN.{length, take, drop}
 use lib.Seq.{length-take-le}
 use borrow.Author.Tests.{eqb-true}
-use Rattle.byte.specs.Words.{if◌then◌else◌, ◌is◌, run, every}
+use Rattle.byte.specs.Words.{◌is◌, run, every}
 use Rattle.byte.specs.Bytes.{is_blank, is_identifier, is_start, is_letter, is_digit}
 use Rattle.byte.proofs.Tests.{choice, &&-left, &&-right, if_both}
 use Rattle.unit.specs.declared.Indentation.{Indentation}

@@ -2,6 +2,7 @@
 --   nowdoc_sheet   where the ported one closes without an indentation, no identifier byte stands after its label,
 --                  its value does not end in a CR, and the first line does not close
 -- Byte by byte: the ported reading from a place within a line, and the lines after that one. Assumes nothing.
+use Rattle.std.specs.Prelude.{if◌then◌else◌}
 use Prim.Native.Nat.{ℕ, suc, ◌+◌, ◌-◌, ◌<◌}
 use Prim.Native.Char.{code}
 use mathlib.Core.Path.{◌≡◌, refl, sym, ap, ◌∙◌}
@@ -11,7 +12,7 @@ use native.Mathlib.Omega.{arith}
 use lib.Dec.{eqb}
 use lib.ListN.{length, take, drop, get_or}
 use borrow.Author.Tests.{eqb-true}
-use Rattle.byte.specs.Words.{if◌then◌else◌, ◌is◌, run}
+use Rattle.byte.specs.Words.{◌is◌, run}
 use Rattle.byte.specs.Bytes.{is_blank}
 use Rattle.byte.proofs.Tests.{choice}
 use Rattle.unit.specs.declared.Indentation.{Indentation}

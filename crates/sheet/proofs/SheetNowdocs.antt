@@ -2,6 +2,7 @@
 --   sheet_nowdoc   where the sheet reading closes without an indentation, not on the first line, after an LF alone,
 --                  and no line between begins with blanks and the label, the ported one gives the same
 -- Byte by byte, as `nowdoc_sheet` (Nowdocs), which gives the value. Assumes nothing.
+use Rattle.std.specs.Prelude.{if◌then◌else◌}
 use Prim.Native.Nat.{ℕ, zero, suc, ◌+◌, ◌-◌, ◌<◌, ◌≤◌}
 use Prim.Native.Char.{code}
 use mathlib.Core.Path.{◌≡◌, refl, sym, ◌∙◌}
@@ -11,7 +12,7 @@ use native.Mathlib.Omega.{arith}
 use lib.ListN.{length, take, drop, get_or}
 use lib.Seq.{length-take-le, get_or-take}
 use borrow.Author.Tests.{eqb-true}
-use Rattle.byte.specs.Words.{if◌then◌else◌, ◌is◌, run}
+use Rattle.byte.specs.Words.{◌is◌, run}
 use Rattle.byte.specs.Bytes.{is_blank}
 use Rattle.byte.proofs.Tests.{&&-left, &&-right}
 use Rattle.unit.specs.declared.Indentation.{Indentation}

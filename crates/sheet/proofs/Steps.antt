@@ -1,4 +1,5 @@
 -- The code of a line on each way through: where it ends, what it is to the block, what comes off it, its break. Assumes nothing.
+use Rattle.std.specs.Prelude.{if◌then◌else◌}
 use Prim.Native.Nat.{ℕ, zero, suc, ◌+◌, ◌-◌, ◌<◌, ◌≤◌, min}
 use mathlib.Core.Path.{◌≡◌, refl, sym, ap, ◌∙◌}
 use mathlib.Core.Bool.{Bool, true, false, not}
@@ -8,7 +9,7 @@ use lib.Dec.{eqb}
 use lib.ListN.{length, get_or, take, drop, length-drop, drop_of_length-le}
 use lib.Seq.{get_or-drop, drop-drop}
 use borrow.Author.Tests.{eq-eqb, ne_eqb, le-leb, lt-leb}
-use Rattle.byte.specs.Words.{if◌then◌else◌, ◌is◌, run}
+use Rattle.byte.specs.Words.{◌is◌, run}
 use Rattle.byte.specs.Bytes.{is_blank, is_identifier, is_no_break}
 use Rattle.source.specs.Code.{RunEnd}
 use Rattle.byte.proofs.Words.{drop-one}

@@ -1,5 +1,6 @@
 -- The loops over lines: the one that finds the closing line, and the one that measures the body. Each turn takes the first line
 -- off what is left, as the definitions do. Assumes nothing.
+use Rattle.std.specs.Prelude.{if◌then◌else◌}
 use Prim.Native.Nat.{ℕ, suc, ◌+◌, ◌-◌, ◌^◌, ◌<◌, ◌≤◌, min}
 use mathlib.Core.Path.{◌≡◌, refl, sym, ap, ◌∙◌}
 use mathlib.Core.Bool.{Bool, true, false, not}
@@ -9,7 +10,7 @@ use lib.Dec.{eqb, leb}
 use lib.ListN.{length, take, drop, length-drop, length-append, drop_of_length-le}
 use lib.Seq.{drop-drop, length-take-le}
 use borrow.Author.Tests.{leb-true, leb-false, le-leb}
-use Rattle.byte.specs.Words.{if◌then◌else◌, ◌is◌, run}
+use Rattle.byte.specs.Words.{◌is◌, run}
 use Rattle.unit.specs.declared.Indentation.{Indentation}
 use Rattle.sheet.specs.declared.Found.{Found}
 use Rattle.sheet.specs.declared.Line.{Line}

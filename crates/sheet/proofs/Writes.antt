@@ -1,4 +1,5 @@
 -- The writer of a sheet's value: it goes over the lines as the scan does, and stops before the last break. Assumes nothing.
+use Rattle.std.specs.Prelude.{if◌then◌else◌}
 use Prim.Native.Nat.{ℕ, ◌+◌, ◌-◌, ◌^◌, ◌<◌, ◌≤◌, min}
 use mathlib.Core.Path.{◌≡◌, refl, sym, ap, ◌∙◌}
 use mathlib.Core.Bool.{Bool, true, false, ◌&&◌}
@@ -8,7 +9,7 @@ use lib.Dec.{ltb}
 use lib.ListN.{length, take, drop, length-append, length-drop, drop_of_length-le}
 use lib.Seq.{length-take-le, take-take, drop-drop}
 use borrow.Author.Tests.{ltb-true, ltb-false}
-use Rattle.byte.specs.Words.{if◌then◌else◌, ◌is◌}
+use Rattle.byte.specs.Words.{◌is◌}
 use Rattle.byte.specs.Laid.{laid}
 use Rattle.byte.proofs.Laid.{laid_nil, laid_append, length_laid}
 use Rattle.unit.specs.declared.Stop.{Stop}

@@ -4,8 +4,8 @@
 --   unindented   what is left of one line, or where its first stray byte stands
 --   body_text     what is left of all lines, the first stray byte first
 --   unbroken     a text without its last break
-use Rattle.std.specs.Prelude.{ℕ, ◌+◌, Bool, true, false, ◌&&◌, ◌||◌, List, [], ◌∷◌, ◌++◌, ◌≡◌, refl, leb, eqb, length, drop}
-use Rattle.byte.specs.Words.{if◌then◌else◌, ◌is◌, run, bytes}
+use Rattle.std.specs.Prelude.{ℕ, ◌+◌, Bool, true, false, ◌&&◌, ◌||◌, List, [], ◌∷◌, ◌++◌, ◌≡◌, refl, leb, eqb, length, drop, if◌then◌else◌}
+use Rattle.byte.specs.Words.{◌is◌, run, bytes}
 
 -- a closing line's indentation: which byte, and how many
 pub record Indent : Type 0 where

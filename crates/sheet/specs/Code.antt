@@ -11,9 +11,9 @@
 --   blank_of, indent_of, Closing   the blank of a closing line's indentation, and what comes off each line by it
 --   left_of, sheet_of     the bytes that are left of a body, and the value of a body at n: what `write_sheet` writes
 --   Left          when the value of a body may be written: it is there, and there is room
-use Rattle.std.specs.Prelude.{ℕ, suc, ◌+◌, ◌≤◌, ◌<◌, min, Bool, true, false, not, List, [], ◌∷◌, ◌≡◌, leb, eqb, length, drop}
+use Rattle.std.specs.Prelude.{ℕ, suc, ◌+◌, ◌≤◌, ◌<◌, min, Bool, true, false, not, List, [], ◌∷◌, ◌≡◌, leb, eqb, length, drop, if◌then◌else◌}
 use Prim.Native.Char.{code}
-use Rattle.byte.specs.Words.{if◌then◌else◌, ◌is◌, run, every}
+use Rattle.byte.specs.Words.{◌is◌, run, every}
 use Rattle.unit.specs.declared.Indentation.{Indentation}
 use Rattle.unit.specs.declared.Stop.{Stop}
 use Rattle.unit.specs.Closers.{indented}

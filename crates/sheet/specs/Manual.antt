@@ -9,9 +9,9 @@
 --   kind_of, Agrees   a block of the manual and the reading of the same text
 -- The manual does not say what a line is that has nothing but a part of the indentation: `short` says it. Document 01 takes it for an empty
 -- line (`empty_line`). `sheet_whole` and `sheet_manual` (proofs/Manual.antt) join the sheet reading to this.
-use Rattle.std.specs.Prelude.{ℕ, ◌+◌, ◌≤◌, ◌<◌, Bool, true, false, not, ◌&&◌, ◌||◌, List, [], ◌∷◌, ◌++◌, ◌≡◌, refl, eqb, length, take, drop}
+use Rattle.std.specs.Prelude.{ℕ, ◌+◌, ◌≤◌, ◌<◌, Bool, true, false, not, ◌&&◌, ◌||◌, List, [], ◌∷◌, ◌++◌, ◌≡◌, refl, eqb, length, take, drop, if◌then◌else◌}
 use Rattle.byte.specs.Refusals.{unexpected_end_of_file, invalid_doc_indentation, stray_indentation}
-use Rattle.byte.specs.Words.{if◌then◌else◌, ◌is◌, run, every, bytes}
+use Rattle.byte.specs.Words.{◌is◌, run, every, bytes}
 use Rattle.byte.specs.Bytes.{is_blank, is_identifier, is_start, is_letter, is_digit}
 use Rattle.unit.specs.declared.Indentation.{Indentation}
 use Rattle.unit.specs.declared.Stop.{Stop}

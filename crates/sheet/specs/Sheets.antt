@@ -6,10 +6,10 @@
 --                  source's end
 --   sheet_at        what contracts cite: a mixed indentation is 4, at the label, before any 13; the indentation comes off each
 --                  earlier line; the last break goes
-use Rattle.std.specs.Prelude.{ℕ, suc, ◌+◌, Bool, true, List, [], ◌∷◌, ◌≡◌, refl, eqb, length}
+use Rattle.std.specs.Prelude.{ℕ, suc, ◌+◌, Bool, true, List, [], ◌∷◌, ◌≡◌, refl, eqb, length, if◌then◌else◌}
 use Prim.Native.Char.{code}
 use Rattle.byte.specs.Refusals.{unexpected_end_of_file, invalid_doc_indentation, stray_indentation}
-use Rattle.byte.specs.Words.{if◌then◌else◌, run, bytes}
+use Rattle.byte.specs.Words.{run, bytes}
 use Rattle.byte.specs.Bytes.{is_blank, is_identifier}
 use Rattle.unit.specs.declared.Indentation.{Indentation}
 use Rattle.unit.specs.declared.Match.{Match}

@@ -1,5 +1,6 @@
 -- Laws of blocks: their bytes, one byte more of a block that is looked through, the loop that passes block after block.
 -- Assumes nothing.
+use Rattle.std.specs.Prelude.{if◌then◌else◌}
 use mathlib.Core.Path.{◌≡◌, refl, sym, ◌∙◌}
 use mathlib.Core.Bool.{Bool, true, false, not, ◌&&◌, ◌||◌, and-true, not-not}
 use mathlib.Core.List.{List, [], ◌∷◌}
@@ -9,7 +10,7 @@ use lib.Dec.{eqb}
 use lib.ListN.{length, get_or, take, drop, length-drop}
 use lib.Seq.{take-add, drop-drop}
 use borrow.Author.Tests.{not-false}
-use Rattle.byte.specs.Words.{if◌then◌else◌, run, every}
+use Rattle.byte.specs.Words.{run, every}
 use Rattle.byte.specs.Bytes.{is_no_break}
 use Rattle.source.specs.Code.{Passing}
 use Rattle.byte.proofs.Tests.{&&-left, &&-right}

@@ -1,5 +1,6 @@
 -- Laws of the cursor by counting: how many LFs a part has, where its last line starts, and that the cursor counted so is the
 -- one that passes byte after byte. Assumes nothing.
+use Rattle.std.specs.Prelude.{if◌then◌else◌}
 use mathlib.Core.Path.{◌≡◌, refl, sym, ap, ◌∙◌}
 use mathlib.Core.Bool.{Bool, true, false, not, false≢true}
 use mathlib.Core.List.{List, [], ◌∷◌, ◌++◌}
@@ -11,7 +12,7 @@ use lib.Dec.{eqb, ltb}
 use lib.ListN.{length, get_or, take, drop, length-drop, take-append-drop, length-append, drop_of_length-le}
 use lib.Seq.{take-add, drop-drop, take_all, take-suc, length-take-le, get_or-drop}
 use borrow.Author.Tests.{eq-eqb, ne_eqb, not-true, not-false, eqb-false, ltb-true, ltb-false}
-use Rattle.byte.specs.Words.{if◌then◌else◌, every}
+use Rattle.byte.specs.Words.{every}
 use Rattle.byte.specs.Bytes.{is_no_break}
 use Rattle.source.specs.Cursor.{passed_byte, passed}
 use Rattle.source.specs.Code.{Reaches, breaks, Unbroken, LineStart}

@@ -1,5 +1,6 @@
 -- Laws of the cursor: passing a and then b is passing a + b, its position counts the bytes, and its line and column stay near it.
 -- Assumes nothing.
+use Rattle.std.specs.Prelude.{if◌then◌else◌}
 use mathlib.Core.Path.{◌≡◌, refl, ◌∙◌}
 use mathlib.Core.Bool.{Bool, true, false}
 use mathlib.Core.List.{List, [], ◌∷◌, ◌++◌}
@@ -9,7 +10,6 @@ use lib.Dec.{eqb}
 use lib.ListN.{length, take, drop}
 use lib.Seq.{take-add, drop-drop}
 use borrow.Author.Tests.{eq-eqb, ne_eqb}
-use Rattle.byte.specs.Words.{if◌then◌else◌}
 use Rattle.source.specs.Cursor.{passed_byte, passed}
 use Rattle.source.specs.declared.Span.{Span}
 

@@ -1,5 +1,6 @@
 -- Laws of words: what the code computes of eight bytes at once is what it would compute of each, since no byte carries
 -- into the next; and how many bytes stand before the first mark. Assumes nothing.
+use Rattle.std.specs.Prelude.{if◌then◌else◌}
 use mathlib.Core.Path.{◌≡◌, refl, sym, ap, ap₂, ◌∙◌}
 use mathlib.Core.Bool.{Bool, true, false, not, ◌&&◌}
 use mathlib.Core.List.{List, [], ◌∷◌}
@@ -14,7 +15,7 @@ use lib.Pow.{pow-add}
 use lib.Bits.{bit_and, bit_or, bit_xor, and_block, or_block, xor_block, and_le_l, and_le_r, or_lt, xor_lt}
 use lib.Bits.{xor_self, xor_add_and, shifted_half, shifted_even}
 use borrow.Author.Tests.{eqb-true, eqb-false}
-use Rattle.byte.specs.Words.{if◌then◌else◌, run}
+use Rattle.byte.specs.Words.{run}
 use Rattle.byte.specs.Bytes.{is_none_of}
 use Rattle.byte.proofs.Table.{below, below_each}
 use Rattle.source.specs.Code.{word_of, repeated, is_not, mark, marks_of, Small, Word}

@@ -6,8 +6,8 @@
 --   word_of, repeated        the number that bytes are, the first of them lowest; that of n bytes which are all c
 --   is_not, marks_of          any byte but c; 128 in place of each byte that fails a test, 0 in place of any other
 --   Word                    a number is the word of these bytes, and they are bytes
-use Rattle.std.specs.Prelude.{ℕ, zero, suc, ◌+◌, ◌-◌, ◌*◌, ◌<◌, ◌≤◌, Bool, true, false, not, List, [], ◌∷◌, ◌≡◌, eqb, length, get_or, drop}
-use Rattle.byte.specs.Words.{if◌then◌else◌, ◌is◌, run, every}
+use Rattle.std.specs.Prelude.{ℕ, zero, suc, ◌+◌, ◌-◌, ◌*◌, ◌<◌, ◌≤◌, Bool, true, false, not, List, [], ◌∷◌, ◌≡◌, eqb, length, get_or, drop, if◌then◌else◌}
+use Rattle.byte.specs.Words.{◌is◌, run, every}
 use Rattle.byte.specs.Bytes.{is_no_break}
 use Rattle.source.specs.declared.Span.{Span}
 use Rattle.source.specs.Identifiers.{identifier_length}

@@ -3,8 +3,8 @@
 --   passed       past each byte of a list
 -- The code counts: it finds the start of the last line and counts the LFs before; `Passed-lines` (proofs/Counts.antt) says
 -- that this gives the same.
-use Rattle.std.specs.Prelude.{ℕ, ◌+◌, List, [], ◌∷◌, ◌≡◌, refl}
-use Rattle.byte.specs.Words.{if◌then◌else◌, ◌is◌, bytes}
+use Rattle.std.specs.Prelude.{ℕ, ◌+◌, List, [], ◌∷◌, ◌≡◌, refl, if◌then◌else◌}
+use Rattle.byte.specs.Words.{◌is◌, bytes}
 use Rattle.source.specs.declared.Span.{Span}
 
 -- where a script begins

@@ -1,8 +1,8 @@
 -- The identifier at a place (document 01, "Identifiers"): a start byte and the identifier bytes after it.
 --   identifier_length   its length at the head of a text; 0 where there is none
 --   identifier_at       its bytes at a place of the source, a part of the source itself; empty where there is none
-use Rattle.std.specs.Prelude.{ℕ, suc, List, [], ◌∷◌, ◌≡◌, refl, take, drop}
-use Rattle.byte.specs.Words.{if◌then◌else◌, run, bytes}
+use Rattle.std.specs.Prelude.{ℕ, suc, List, [], ◌∷◌, ◌≡◌, refl, take, drop, if◌then◌else◌}
+use Rattle.byte.specs.Words.{run, bytes}
 use Rattle.byte.specs.Bytes.{is_digit, is_letter, is_start, is_identifier}
 
 unfoldable pub identifier_length : List ℕ → ℕ

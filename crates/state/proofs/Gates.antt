@@ -1,4 +1,5 @@
 -- The gate on each way through `gate`, and through the gate with tables (crate layout). Assumes nothing.
+use Rattle.std.specs.Prelude.{if◌then◌else◌}
 use Prim.Native.Nat.{ℕ, ◌/◌, ◌≤◌, ◌<◌}
 use mathlib.Core.Path.{◌≡◌, refl, sym, ◌∙◌}
 use mathlib.Core.Bool.{Bool, true, false, not, ◌&&◌}
@@ -6,7 +7,6 @@ use mathlib.Core.List.{List}
 use native.Mathlib.Omega.{arith}
 use lib.ListN.{length}
 use borrow.Author.Tests.{leb-true, le-leb, lt-leb, not-true, not-false}
-use Rattle.byte.specs.Words.{if◌then◌else◌}
 use Rattle.source.specs.declared.Span.{Span}
 use Rattle.byte.proofs.Tests.{&&-left, &&-right, unrefused}
 use Rattle.state.specs.declared.Session.{Session}

@@ -3,8 +3,7 @@
 --   gated                   the gate's refusal, at the script's beginning, or what the call gives
 --   moved, entered, left    a session at another place, with a frame more, with a frame less
 --   fresh_session, skipped, pushed, popped   the calls
-use Rattle.std.specs.Prelude.{ℕ, ◌+◌, ◌-◌, List, leb, ltb, eqb, length, set, take, drop, replicate}
-use Rattle.byte.specs.Words.{if◌then◌else◌}
+use Rattle.std.specs.Prelude.{ℕ, ◌+◌, ◌-◌, List, leb, ltb, eqb, length, set, take, drop, replicate, if◌then◌else◌}
 use Rattle.source.specs.Cursor.{origin, passed}
 use Rattle.source.specs.declared.Span.{Span}
 use Rattle.state.specs.declared.Frame.{Frame}

@@ -1,8 +1,7 @@
 -- What is told before anything else: refusal 11, then 12, or 0 for neither. (Document 01, "Order".)
 --   gate_refusal   of a source and a session, where no tables are lent: skip, push, pop
 --   lent_refusal   of a source, a session, a list of so many numbers and a pool of so many bytes: step and the readings
-use Rattle.std.specs.Prelude.{ℕ, ◌/◌, Bool, ◌&&◌, List, leb, length}
-use Rattle.byte.specs.Words.{if◌then◌else◌}
+use Rattle.std.specs.Prelude.{ℕ, ◌/◌, Bool, ◌&&◌, List, leb, length, if◌then◌else◌}
 use Rattle.state.specs.declared.Session.{Session}
 use Rattle.byte.specs.Refusals.{too_large, bad_session}
 use Rattle.state.specs.Bounds.{is_good, fits_tables}

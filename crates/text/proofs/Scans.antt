@@ -1,4 +1,5 @@
 -- The scan of a text: what a unit is to the text before it, and the loop. Assumes nothing.
+use Rattle.std.specs.Prelude.{if◌then◌else◌}
 use Prim.Native.Nat.{ℕ, zero, suc, ◌+◌, ◌-◌, ◌%◌, ◌<◌, ◌≤◌}
 use mathlib.Core.Path.{◌≡◌, refl, sym, ap, ◌∙◌}
 use mathlib.Core.Bool.{Bool, true, false, not}
@@ -8,7 +9,7 @@ use lib.Dec.{ltb, eqb}
 use lib.ListN.{length, get_or, take, drop, length-append, length-drop, drop_of_length-le}
 use lib.Seq.{take-suc, length-take-le, get_or-drop, drop-drop}
 use borrow.Author.Tests.{ne_eqb, ltb-false, not-true, not-false}
-use Rattle.byte.specs.Words.{if◌then◌else◌, ◌is◌}
+use Rattle.byte.specs.Words.{◌is◌}
 use Rattle.source.specs.Code.{RunEnd}
 use Rattle.byte.proofs.Tests.{choice}
 use Rattle.byte.proofs.Words.{drop-one}

@@ -1,5 +1,6 @@
 -- The bytes of a text on their way into a part: how far a part goes, a run, one unit, and the bytes gathered from a place
 -- on, of which a value is a start (`value_gathered`). Assumes nothing.
+use Rattle.std.specs.Prelude.{if◌then◌else◌}
 use Prim.Native.Nat.{ℕ, zero, suc, ◌+◌, ◌-◌, ◌<◌, ◌≤◌}
 use mathlib.Core.Path.{◌≡◌, refl, sym, ap, ◌∙◌}
 use mathlib.Core.Bool.{Bool, true, false}
@@ -10,7 +11,7 @@ use lib.Dec.{leb}
 use lib.ListN.{length, get_or, set, take, drop, length-append, length-take, drop_of_length-le}
 use lib.Seq.{take_all, take-nil, take-length, take-take, take-append-le, take-append-add, drop-drop}
 use borrow.Author.Tests.{leb-true, leb-false}
-use Rattle.byte.specs.Words.{if◌then◌else◌, ◌is◌, run}
+use Rattle.byte.specs.Words.{◌is◌, run}
 use Rattle.source.specs.Code.{RunEnd}
 use Rattle.byte.specs.Laid.{laid}
 use Rattle.byte.proofs.Tests.{choice}

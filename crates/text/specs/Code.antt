@@ -18,10 +18,10 @@
 --   BeforeBlanks  a place before another where no blank stands
 --   Searchable    a label whose first byte can be looked for
 --   is_writable    a unit whose bytes may be written: a code point has at most four
-use Rattle.std.specs.Prelude.{ℕ, zero, suc, ◌-◌, ◌≤◌, ◌<◌, Bool, false, not, List, [], ◌∷◌, ◌++◌, ◌≡◌, length, get_or, take, drop}
+use Rattle.std.specs.Prelude.{ℕ, zero, suc, ◌-◌, ◌≤◌, ◌<◌, Bool, false, not, List, [], ◌∷◌, ◌++◌, ◌≡◌, length, get_or, take, drop, if◌then◌else◌}
 use Prim.Native.Char.{code}
 use Rattle.byte.specs.Refusals.{unexpected_end_of_file}
-use Rattle.byte.specs.Words.{if◌then◌else◌, ◌is◌}
+use Rattle.byte.specs.Words.{◌is◌}
 use Rattle.byte.specs.Bytes.{is_blank, is_no_break, is_none_of}
 use Rattle.byte.specs.Laid.{laid}
 use Rattle.unit.specs.declared.Mode.{Mode}

@@ -1,4 +1,5 @@
 -- The record file: its two loops, its refusals, and that reading and writing undo each other. Assumes nothing.
+use Rattle.std.specs.Prelude.{if◌then◌else◌}
 use Prim.Native.Nat.{ℕ, zero, suc, ◌+◌, ◌*◌, ◌/◌, ◌%◌, ◌≤◌, ◌<◌}
 use mathlib.Core.Path.{◌≡◌, refl, sym, ap, ◌∙◌}
 use mathlib.Core.Bool.{Bool, true, false, ◌&&◌}
@@ -9,7 +10,6 @@ use lib.Dec.{leb, eqb}
 use lib.ListN.{length, take, drop, set, get_or}
 use lib.Seq.{take-length, take-suc, get_or-drop, length-take-le}
 use borrow.Author.Tests.{le-leb, lt-leb, eq-eqb, ne_eqb, leb-true, eqb-true}
-use Rattle.byte.specs.Words.{if◌then◌else◌}
 use Rattle.byte.specs.Laid.{laid}
 use Rattle.byte.proofs.Tests.{unrefused}
 use Rattle.byte.proofs.Laid.{set_laid, Writing, writing_first, writing_on, writing_end}

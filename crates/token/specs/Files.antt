@@ -7,8 +7,7 @@
 --   to_list_refusal    of a file of so many bytes and a list of so many numbers: 11, 10, 7, or 0
 --   ToFile, ToList   answer, and what the lent file or list then holds: a refusal changes nothing
 -- `to_file_to_list` and `to_list_to_file` (proofs/RoundTrips.antt) say that each undoes the other.
-use Rattle.std.specs.Prelude.{ℕ, zero, suc, ◌+◌, ◌*◌, ◌/◌, ◌%◌, ◌&&◌, List, [], ◌∷◌, ◌++◌, ◌≡◌, refl, leb, eqb, length, get_or, drop}
-use Rattle.byte.specs.Words.{if◌then◌else◌}
+use Rattle.std.specs.Prelude.{ℕ, zero, suc, ◌+◌, ◌*◌, ◌/◌, ◌%◌, ◌&&◌, List, [], ◌∷◌, ◌++◌, ◌≡◌, refl, leb, eqb, length, get_or, drop, if◌then◌else◌}
 use Rattle.byte.specs.Laid.{laid}
 use Rattle.source.specs.Cursor.{origin}
 use Rattle.byte.specs.Refusals.{list_full, pool_full, out_of_place, too_large}

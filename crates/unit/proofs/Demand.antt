@@ -4,13 +4,14 @@
 -- From Stays (what is told stays) and Opens (what is not told has two continuations). Two readings are told apart by their
 -- endings, the text left out: so neither bytes before a text nor a heredoc's lost break matter. Assumes nothing.
 --   text_endings       a wait has two continuations apart by their endings, where each frame that is entered is the 65th, too
+use Rattle.std.specs.Prelude.{if◌then◌else◌}
 use mathlib.Core.Path.{◌≡◌, refl, ap, sym, ◌∙◌}
 use mathlib.Core.Bool.{Bool, true, false}
 use mathlib.Core.List.{List, [], ◌∷◌, ◌++◌, append-nil}
 use Prim.Native.Nat.{ℕ, zero, suc, ◌+◌, ◌-◌}
 use native.Mathlib.Omega.{arith}
 use lib.ListN.{length, length-append}
-use Rattle.byte.specs.Words.{if◌then◌else◌, every}
+use Rattle.byte.specs.Words.{every}
 use Rattle.byte.specs.Demand.{Apart, Waits}
 use Rattle.byte.specs.Refusals.{stack_full}
 use Rattle.byte.proofs.Demand.{apart_by, waits}

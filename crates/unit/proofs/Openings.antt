@@ -3,6 +3,7 @@
 --   Falls, Faults, Splits, Final   what a unit is in one of the two
 --   Opening   the two continuations; `opens_on` carries it one byte further on
 -- Assumes nothing.
+use Rattle.std.specs.Prelude.{if◌then◌else◌}
 use mathlib.Core.Path.{◌≡◌, refl, ap, ◌∙◌}
 use mathlib.Core.Bool.{Bool, true, false}
 use mathlib.Core.List.{List, [], ◌∷◌, ◌++◌}
@@ -12,7 +13,7 @@ use native.Mathlib.Omega.{arith}
 use lib.Dec.{ltb, eqb}
 use lib.ListN.{length}
 use borrow.Author.Tests.{eqb-true}
-use Rattle.byte.specs.Words.{if◌then◌else◌, ◌is◌, every}
+use Rattle.byte.specs.Words.{◌is◌, every}
 use Rattle.byte.specs.Bytes.{is_start, is_identifier, is_blank, is_letter, is_digit}
 use Rattle.byte.specs.Demand.{is_byte}
 use Rattle.unit.specs.declared.Follow.{Follow}

@@ -4,6 +4,7 @@
 -- The pairs: a 0 comes or the text ends there (`falls`, `faults`: the refusal's place tells them apart), `->a` comes or the text
 -- ends (`splits`), the rest of the label comes or the text ends (`closes`). Each law is its definition again, with `if_waits` for
 -- a choice. Assumes nothing.
+use Rattle.std.specs.Prelude.{if◌then◌else◌}
 use mathlib.Core.Path.{◌≡◌, refl, ap}
 use mathlib.Core.Bool.{Bool, true, false, ◌&&◌, ◌||◌}
 use mathlib.Core.List.{List, [], ◌∷◌, ◌++◌}
@@ -14,7 +15,7 @@ use lib.Dec.{ltb, eqb}
 use lib.ListN.{length}
 use borrow.Author.Tests.{eqb-true, eq-eqb}
 use Rattle.byte.specs.declared.Octal.{Octal}
-use Rattle.byte.specs.Words.{if◌then◌else◌, ◌is◌, every}
+use Rattle.byte.specs.Words.{◌is◌, every}
 use Rattle.byte.specs.Bytes.{is_start, is_identifier, is_blank, is_letter, is_digit}
 use Rattle.byte.specs.Demand.{is_byte}
 use Rattle.byte.proofs.Tests.{choice, &&-left, &&-right}

@@ -3,6 +3,7 @@
 --   faults            what a mode may refuse
 --   unit_stands       Stands m n b (n + 1 + length rest) (unit_at m label end n b rest)
 -- Each law is its definition again, with `if_stands` for a choice. Assumes nothing.
+use Rattle.std.specs.Prelude.{if◌then◌else◌}
 use Prim.Native.Nat.{ℕ, zero, suc, ◌+◌, ◌*◌, ◌≤◌, ◌<◌}
 use Prim.Native.Char.{Char, code}
 use mathlib.Core.Path.{◌≡◌, refl, sym, ◌∙◌}
@@ -15,7 +16,7 @@ use borrow.Author.Tests.{eqb-true}
 use Rattle.byte.specs.declared.Octal.{Octal}
 use Rattle.byte.specs.Refusals.{unexpected_end_of_file, invalid_unicode_escape, invalid_octal_escape, invalid_doc_indentation}
 use Rattle.byte.specs.Refusals.{octal_refusals, is_among}
-use Rattle.byte.specs.Words.{if◌then◌else◌, ◌is◌}
+use Rattle.byte.specs.Words.{◌is◌}
 use Rattle.byte.specs.Bytes.{is_start, is_identifier, is_blank}
 use Rattle.byte.proofs.Tests.{choice, &&-left}
 use Rattle.unit.specs.declared.Follow.{Follow}

@@ -1,6 +1,7 @@
 -- What is told of a place stays, whatever bytes follow: one law for each look ahead, in the definitions' order, last
 --   unit_stays   where `unit_at m label false n b rest` is not undecided, `unit_at m label true n b (rest ++ more)` is the same
 -- Each law is its definition again, with `if_stays` for a choice. Assumes nothing.
+use Rattle.std.specs.Prelude.{if◌then◌else◌}
 use mathlib.Core.Path.{◌≡◌, refl, ap}
 use mathlib.Core.Bool.{Bool, true, false}
 use mathlib.Core.List.{List, [], ◌∷◌, ◌++◌}
@@ -9,7 +10,7 @@ use native.Mathlib.Omega.{arith}
 use lib.Dec.{ltb, eqb}
 use lib.ListN.{length}
 use Rattle.byte.specs.declared.Octal.{Octal}
-use Rattle.byte.specs.Words.{if◌then◌else◌, ◌is◌}
+use Rattle.byte.specs.Words.{◌is◌}
 use Rattle.byte.specs.Bytes.{is_start, is_identifier, is_blank}
 use Rattle.unit.specs.declared.Indentation.{Indentation}
 use Rattle.unit.specs.declared.Look.{Look}

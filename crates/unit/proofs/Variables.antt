@@ -5,6 +5,7 @@
 --   variable_found    a literal finds something where there is a name or a `{`
 --   brace_manual      after a `{`: a `$`, or the brace itself, in both readings
 -- Assumes nothing.
+use Rattle.std.specs.Prelude.{if◌then◌else◌}
 use Prim.Native.Nat.{ℕ, suc, ◌+◌, ◌<◌}
 use Prim.Native.Char.{code}
 use mathlib.Core.Path.{◌≡◌, refl, ap, ◌∙◌}
@@ -14,7 +15,7 @@ use native.Mathlib.Omega.{arith}
 use lib.Dec.{eqb}
 use lib.ListN.{drop}
 use borrow.Author.Tests.{eqb-true, ne_eqb}
-use Rattle.byte.specs.Words.{if◌then◌else◌, ◌is◌, run}
+use Rattle.byte.specs.Words.{◌is◌, run}
 use Rattle.byte.specs.Bytes.{is_start, is_identifier, is_letter}
 use Rattle.byte.proofs.Tests.{choice, &&-left, if_both}
 use Rattle.unit.specs.declared.Follow.{Follow}

@@ -4,10 +4,10 @@
 --   indented    an indentation and one blank more
 --   closer      a label after its indentation; spaces mixed with tabs are refusal 4, at the label
 --   line        after an LF: blanks, then the label; else the LF is of the text
-use Rattle.std.specs.Prelude.{ℕ, suc, ◌+◌, Bool, List, [], ◌∷◌, eqb, length}
+use Rattle.std.specs.Prelude.{ℕ, suc, ◌+◌, Bool, List, [], ◌∷◌, eqb, length, if◌then◌else◌}
 use Prim.Native.Char.{code}
 use Rattle.byte.specs.Refusals.{invalid_doc_indentation}
-use Rattle.byte.specs.Words.{if◌then◌else◌, ◌is◌}
+use Rattle.byte.specs.Words.{◌is◌}
 use Rattle.byte.specs.Bytes.{is_blank}
 use Rattle.unit.specs.declared.Indentation.{Indentation}
 use Rattle.unit.specs.declared.Match.{Match}

@@ -9,11 +9,11 @@
 --   code_point    `\u{..}`: leading zeros are free; what is no code point is refusal 2 there, or after its brace
 --   escape       in double quotes and heredocs; any other backslash stands for itself
 --   quote_escape  in single quotes: `\'` and `\\` alone
-use Rattle.std.specs.Prelude.{ℕ, zero, suc, ◌+◌, ◌*◌, ◌%◌, Bool, true, false, ◌&&◌, ◌||◌, List, [], ◌∷◌, ◌≡◌, refl, ltb}
+use Rattle.std.specs.Prelude.{ℕ, zero, suc, ◌+◌, ◌*◌, ◌%◌, Bool, true, false, ◌&&◌, ◌||◌, List, [], ◌∷◌, ◌≡◌, refl, ltb, if◌then◌else◌}
 use Prim.Native.Char.{Char, code}
 use Rattle.byte.specs.declared.Octal.{Octal}
 use Rattle.byte.specs.Refusals.{invalid_unicode_escape, invalid_octal_escape}
-use Rattle.byte.specs.Words.{if◌then◌else◌, ◌is◌, bytes}
+use Rattle.byte.specs.Words.{◌is◌, bytes}
 use Rattle.unit.specs.declared.TextUnit.{TextUnit}
 use Rattle.unit.specs.Digits.{digit_value, is_scalar}
 

@@ -4,9 +4,9 @@
 --   dollar     after a `$`: `${`, a variable, or the sign itself
 --   brace      after a `{`: a `$`, and only the brace is taken; or the brace itself
 --   find_dollar, find_brace   the same in a literal, where an interpolation is found and not taken
-use Rattle.std.specs.Prelude.{ℕ, suc, Bool, ◌||◌, List, [], ◌∷◌}
+use Rattle.std.specs.Prelude.{ℕ, suc, Bool, ◌||◌, List, [], ◌∷◌, if◌then◌else◌}
 use Prim.Native.Char.{code}
-use Rattle.byte.specs.Words.{if◌then◌else◌, ◌is◌}
+use Rattle.byte.specs.Words.{◌is◌}
 use Rattle.byte.specs.Bytes.{is_start, is_identifier}
 use Rattle.unit.specs.declared.Follow.{Follow}
 use Rattle.unit.specs.declared.Look.{Look}

@@ -23,11 +23,11 @@
 -- `escape_manual`, `escape_manual_all`, `escape_overflow`, `escape_unmatched`, `escape_open` and `quote_escape_manual`
 -- (proofs/Manual.antt) join the reader to the tables; `single_whole`, `double_whole`, `double_otherwise`,
 -- `single_manual` and `double_manual` (proofs/Literals.antt) the readings to the literals.
-use Rattle.std.specs.Prelude.{ℕ, zero, suc, ◌+◌, ◌-◌, ◌*◌, ◌%◌, ◌≤◌, Bool, true, false, not, ◌&&◌, ◌||◌, List, [], ◌∷◌, ◌++◌, ◌≡◌, refl, eqb, ltb, length, drop}
+use Rattle.std.specs.Prelude.{ℕ, zero, suc, ◌+◌, ◌-◌, ◌*◌, ◌%◌, ◌≤◌, Bool, true, false, not, ◌&&◌, ◌||◌, List, [], ◌∷◌, ◌++◌, ◌≡◌, refl, eqb, ltb, length, drop, if◌then◌else◌}
 use Prim.Native.Char.{Char, code}
 use Rattle.byte.specs.declared.Octal.{Octal}
 use Rattle.byte.specs.Refusals.{unexpected_end_of_file, invalid_unicode_escape, invalid_octal_escape}
-use Rattle.byte.specs.Words.{if◌then◌else◌, ◌is◌, bytes}
+use Rattle.byte.specs.Words.{◌is◌, bytes}
 use Rattle.byte.specs.Bytes.{is_start, is_letter}
 use Rattle.unit.specs.declared.Stop.{Stop}
 use Rattle.unit.specs.declared.TextUnit.{TextUnit}

@@ -4,10 +4,10 @@
 --   trimmed    without one LF at the end
 --   text_at     what contracts cite: before an interpolation a heredoc's text loses one LF, also one from an escape
 --   gap, text_end   the bytes between a text and what ends it; where the text ends
-use Rattle.std.specs.Prelude.{ℕ, zero, suc, ◌-◌, Bool, true, false, List, [], ◌∷◌, ◌++◌, ◌≡◌, refl}
+use Rattle.std.specs.Prelude.{ℕ, zero, suc, ◌-◌, Bool, true, false, List, [], ◌∷◌, ◌++◌, ◌≡◌, refl, if◌then◌else◌}
 use Rattle.byte.specs.declared.Octal.{Octal}
 use Rattle.byte.specs.Refusals.{unexpected_end_of_file}
-use Rattle.byte.specs.Words.{if◌then◌else◌, ◌is◌, bytes}
+use Rattle.byte.specs.Words.{◌is◌, bytes}
 use Rattle.byte.specs.Bytes.{is_blank, is_start, is_identifier, is_letter, is_digit}
 use Rattle.unit.specs.declared.Follow.{Follow}
 use Rattle.unit.specs.declared.Indentation.{Indentation}

@@ -1,7 +1,7 @@
 -- What stands at a place, mode by mode: the modes differ in their units and in nothing else. The byte at n is b, the bytes after
 -- it are `rest`, and `end` says that the text is all there.
-use Rattle.std.specs.Prelude.{ℕ, suc, Bool, List}
-use Rattle.byte.specs.Words.{if◌then◌else◌, ◌is◌}
+use Rattle.std.specs.Prelude.{ℕ, suc, Bool, List, if◌then◌else◌}
+use Rattle.byte.specs.Words.{◌is◌}
 use Rattle.unit.specs.declared.Indentation.{Indentation}
 use Rattle.unit.specs.declared.Mode.{Mode}
 use Rattle.unit.specs.declared.Stop.{Stop}

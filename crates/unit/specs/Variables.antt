@@ -8,9 +8,9 @@
 --   is_loose        a `[` that no offset and `]` follow: to the manual it is text
 --   follow_of       what belongs, in the words of the reader
 -- `variable_manual`, `variable_loose`, `variable_none`, `variable_found` (proofs/Variables.antt) join the reader to these.
-use Rattle.std.specs.Prelude.{ℕ, suc, ◌+◌, Bool, true, false, not, ◌&&◌, List, [], ◌∷◌, ◌≡◌, refl, eqb, drop}
+use Rattle.std.specs.Prelude.{ℕ, suc, ◌+◌, Bool, true, false, not, ◌&&◌, List, [], ◌∷◌, ◌≡◌, refl, eqb, drop, if◌then◌else◌}
 use Prim.Native.Char.{code}
-use Rattle.byte.specs.Words.{if◌then◌else◌, ◌is◌, run, bytes}
+use Rattle.byte.specs.Words.{◌is◌, run, bytes}
 use Rattle.byte.specs.Bytes.{is_start, is_identifier, is_digit, is_letter}
 use Rattle.unit.specs.declared.Follow.{Follow}
 

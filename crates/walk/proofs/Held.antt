@@ -43,7 +43,7 @@ frame_held Frame.LookingForProperty vs p = refl
 frame_held Frame.VarOffset vs p = refl
 
 slots_held : (slots : List Slot) (us : List Val)
-    → shadow (each (slot-type.the_field).row.Denot (slot-type.the_field).row.own_val (map (slot-type.the_field).into slots) us)
+    → shadow (each (slot-type.the_row).Denot (slot-type.the_row).own_val slots us)
     → every is_held slots ≡ true
 unfolding every is_held
 slots_held [] us p = refl
@@ -54,6 +54,6 @@ pub session_held : (s : Session) (vs : List Val) → Is session-type.the_row s v
 session_held s vs p =
     let frames = p.1.1.1.1.1.1.1.1.0 in
     record {
-      slots = sym (length-map s.frames (slot-type.the_field).into) ∙ frames.1.0.1;
+      slots = frames.1.0.1;
       labels = slots_held s.frames frames.0 frames.1.1;
     }

@@ -9,8 +9,7 @@
 --   Deep           numbers of a session, and the depth of a mode stack
 --   Opened         what `walk_on` may rely on: a call is wanted, and the gate is open
 --   Changes, Changed   what a change of frame may rely on, and what it gives
-use Rattle.std.specs.Prelude.{ℕ, ◌+◌, ◌*◌, ◌-◌, ◌≤◌, ◌<◌, Bool, false, ◌||◌, List, ◌≡◌, eqb, length, get_or, drop}
-use Rattle.byte.specs.Words.{if◌then◌else◌}
+use Rattle.std.specs.Prelude.{ℕ, ◌+◌, ◌*◌, ◌-◌, ◌≤◌, ◌<◌, Bool, false, ◌||◌, List, ◌≡◌, eqb, length, get_or, drop, if◌then◌else◌}
 use Rattle.byte.specs.Laid.{laid}
 use Rattle.source.specs.declared.Span.{Span}
 use Rattle.state.specs.declared.Answer.{Answer}

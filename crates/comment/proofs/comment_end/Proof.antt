@@ -6,10 +6,10 @@ use Rattle.comment.proofs.Ends.{Searching, searching}
 use Rattle.comment.proofs.comment_end.Statement.{statement}
 use Rattle.comment.proofs.comment_end.Tie as tie
 
-abbrev Inv : tie.invariant-loop
+abbrev Inv : tie.invariant-loop-i
 Inv kind src at k end i₀ i = Searching kind end src at k i
 
-abbrev left : tie.decreases-loop
+abbrev left : tie.decreases-loop-i
 left kind src at k end i₀ i = length src - i
 
 pub comment_end_spec : {M : Type 1} → statement M

@@ -6,10 +6,10 @@ use Rattle.initial.proofs.Tags.{Finding, finding}
 use Rattle.initial.proofs.find_tag.Statement.{statement}
 use Rattle.initial.proofs.find_tag.Tie as tie
 
-abbrev Inv : tie.invariant-loop
+abbrev Inv : tie.invariant-loop-i
 Inv src at end i₀ i = Finding src end at i
 
-abbrev left : tie.decreases-loop
+abbrev left : tie.decreases-loop-i
 left src at end i₀ i = length src - i
 
 pub find_tag_spec : {M : Type 1} → statement M

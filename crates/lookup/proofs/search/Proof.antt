@@ -6,10 +6,10 @@ use Rattle.lookup.proofs.Lookups.{Searching, searching}
 use Rattle.lookup.proofs.search.Statement.{statement}
 use Rattle.lookup.proofs.search.Tie as tie
 
-abbrev Inv : tie.invariant-loop
+abbrev Inv : tie.invariant-loop-low
 Inv list count at low₀ high₀ looks₀ low high looks = Searching (position_in list) at count low high looks
 
-abbrev left : tie.decreases-loop
+abbrev left : tie.decreases-loop-low
 left list count at low₀ high₀ looks₀ low high looks = high - low
 
 pub search_spec : {M : Type 1} → statement M

@@ -6,10 +6,10 @@ use Rattle.opening.proofs.Looks.{Naming, naming}
 use Rattle.opening.proofs.doc_name.Statement.{statement}
 use Rattle.opening.proofs.doc_name.Tie as tie
 
-abbrev Inv : tie.invariant-loop
+abbrev Inv : tie.invariant-loop-i
 Inv src n end kind start i₀ len₀ i len = Naming src n end kind start i len
 
-abbrev left : tie.decreases-loop
+abbrev left : tie.decreases-loop-i
 left src n end kind start i₀ len₀ i len = length src - i
 
 pub doc_name_spec : {M : Type 1} → statement M

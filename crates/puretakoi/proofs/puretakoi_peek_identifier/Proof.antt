@@ -7,4 +7,4 @@ use Rattle.puretakoi.proofs.puretakoi_peek_identifier.Tie as tie
 
 pub puretakoi_peek_identifier_spec : {M : Type 1} → statement M
 puretakoi_peek_identifier_spec =
-    tie.close (tie.spec (λ c κs. search rules) (λ c. ap length c.peek-identifier.ensures))
+    tie.close (tie.spec (λ c κs. search rules) (λ c. ap length c.peek_identifier-part.ensures))

@@ -5,10 +5,10 @@ use Rattle.sheet.proofs.Steps.{Counting, counting}
 use Rattle.sheet.proofs.offset_of.Statement.{statement}
 use Rattle.sheet.proofs.offset_of.Tie as tie
 
-abbrev Inv : tie.invariant-loop
+abbrev Inv : tie.invariant-loop-i
 Inv line blank width i₀ i = Counting blank width line i
 
-abbrev left : tie.decreases-loop
+abbrev left : tie.decreases-loop-i
 left line blank width i₀ i = width - i
 
 pub offset_of_spec : {M : Type 1} → statement M

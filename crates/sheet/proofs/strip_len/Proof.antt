@@ -6,10 +6,10 @@ use Rattle.sheet.proofs.Turns.{Stripping, stripping}
 use Rattle.sheet.proofs.strip_len.Statement.{statement}
 use Rattle.sheet.proofs.strip_len.Tie as tie
 
-abbrev Inv : tie.invariant-loop
+abbrev Inv : tie.invariant-loop-i
 Inv body at blank width i₀ len₀ i len = Stripping (record { blank = blank; width = width }) body at i len
 
-abbrev left : tie.decreases-loop
+abbrev left : tie.decreases-loop-i
 left body at blank width i₀ len₀ i len = length body - i
 
 pub strip_len_spec : {M : Type 1} → statement M

@@ -4,10 +4,10 @@ use Rattle.text.proofs.Labels.{Backing, backing}
 use Rattle.text.proofs.before_blanks.Statement.{statement}
 use Rattle.text.proofs.before_blanks.Tie as tie
 
-abbrev Inv : tie.invariant-loop
+abbrev Inv : tie.invariant-loop-k
 Inv src from n k₀ k = Backing from n k
 
-abbrev left : tie.decreases-loop
+abbrev left : tie.decreases-loop-k
 left src from n k₀ k = k
 
 pub before_blanks_spec : {M : Type 1} → statement M

@@ -6,10 +6,10 @@ use Rattle.text.proofs.Gathers.{Gathering, gathering}
 use Rattle.text.proofs.read_text.Statement.{statement}
 use Rattle.text.proofs.read_text.Tie as tie
 
-abbrev Inv : tie.invariant-loop
+abbrev Inv : tie.invariant-loop-i
 Inv m src label at end dst₀ i₀ len₀ broken₀ dst i len broken = Gathering m label end src at dst₀ dst i len broken
 
-abbrev left : tie.decreases-loop
+abbrev left : tie.decreases-loop-i
 left m src label at end dst₀ i₀ len₀ broken₀ dst i len broken = length src - i
 
 pub read_text_spec : {M : Type 1} → statement M

@@ -11,4 +11,4 @@ calls_spec =
     (λ c. search rules) (λ c κs. search rules) (λ c. search rules) (λ c. search rules)
     (λ c.
     let b = c.before.before.before.before.before.before.before.before in
-    search (walk_value, b.before.before.before.before.before.before.before.before.before.well-formed.1.1.1.1.0)))
+    search (walk_value, b.before.before.before.before.before.before.before.before.before.well_formed.1.1.1.1.0)))

@@ -4,10 +4,10 @@ use Rattle.modes.proofs.Runs.{Running, running}
 use Rattle.modes.proofs.passing.pass_on.Statement.{statement}
 use Rattle.modes.proofs.passing.pass_on.Tie as tie
 
-abbrev Inv : tie.invariant-loop
+abbrev Inv : tie.invariant-loop-left
 Inv call src f most span₀ left₀ span left = Running call src f span₀ most span left
 
-abbrev least : tie.decreases-loop
+abbrev least : tie.decreases-loop-left
 least call src f most span₀ left₀ span left = left
 
 pub pass_on_spec : {M : Type 1} → statement M

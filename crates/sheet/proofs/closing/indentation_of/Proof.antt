@@ -5,10 +5,10 @@ use Rattle.sheet.proofs.Steps.{Indenting, indenting}
 use Rattle.sheet.proofs.closing.indentation_of.Statement.{statement}
 use Rattle.sheet.proofs.closing.indentation_of.Tie as tie
 
-abbrev Inv : tie.invariant-loop
+abbrev Inv : tie.invariant-loop-i
 Inv line n i₀ ind₀ i ind = Indenting line n ind i
 
-abbrev left : tie.decreases-loop
+abbrev left : tie.decreases-loop-i
 left line n i₀ ind₀ i ind = n - i
 
 pub indentation_of_spec : {M : Type 1} → statement M
