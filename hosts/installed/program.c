@@ -1,5 +1,5 @@
-/* Prints the tokens of the sheet on standard input, octal escapes as the manual has them, what a byte counts as, and
- * its refusal in words: C99 and C++, with what is installed. */
+/* Prints the tokens of the sheet on standard input, octal escapes as the manual has them, and its refusal in words:
+ * C99 and C++, with what is installed. */
 #include <puretakoi_words.h>
 #include <stdio.h>
 
@@ -17,15 +17,6 @@ static void print_token(const uint32_t *record) {
     putchar('\n');
 }
 
-static void print_classes(uint8_t byte) {
-    uint32_t classes = puretakoi_classes_of(byte);
-    printf("%c is", byte);
-    for (uint32_t flag = 1; flag <= PURETAKOI_CLASS_SIGN; flag *= 2)
-        if (classes & flag)
-            printf(" %s,", puretakoi_class_name(flag));
-    printf(" %u\n", classes);
-}
-
 int main(void) {
     size_t length = fread(script, 1, sizeof script, stdin);
     puretakoi_fresh(PURETAKOI_CHOICE_SHEETS | PURETAKOI_CHOICE_OCTAL_MANUAL, session, PURETAKOI_SESSION);
@@ -34,7 +25,6 @@ int main(void) {
     for (uint32_t at = 0; at < session[PURETAKOI_TOKENS]; at++)
         print_token(list + PURETAKOI_RECORD * at);
     printf("%d is %s\n", PURETAKOI_KIND_COMMENT, puretakoi_kind_name(PURETAKOI_KIND_COMMENT));
-    print_classes('_');
     if (refusal != 0)
         printf("%u:%u %s: %s. %s\n", answer[PURETAKOI_ANSWER_LINE], answer[PURETAKOI_ANSWER_COLUMN],
                puretakoi_refusal_name(refusal), puretakoi_refusal_meaning(refusal), puretakoi_refusal_advice(refusal));

@@ -1,6 +1,6 @@
 """Prints the tokens of the sheet on standard input, octal escapes as the manual has them, and its refusal in words.
 
-It tells what a byte counts as too, and uses the module that is installed.
+It uses the module that is installed.
 """
 
 import sys
@@ -17,8 +17,6 @@ def main() -> None:
     for token in read:
         print(f"{token.line}:{token.column} {int(token.kind)} {token.end or 0} {token.value.decode()}")
     print(f"{int(puretakoi.Kind.COMMENT)} is {puretakoi.Kind.COMMENT.name.lower()}")
-    classes = puretakoi.classes_of(ord("_"))
-    print(f"_ is {classes.words}, {int(classes)}")
     if refused is not None:
         print(f"{refused.line}:{refused.column} {refused.name}: {refused.meaning}. {refused.advice}")
 

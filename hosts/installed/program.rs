@@ -1,7 +1,7 @@
-//! Prints the tokens of the sheet on standard input, octal escapes as the manual has them, what a byte counts as, and
-//! its refusal in words, by the crate that is named as a path.
+//! Prints the tokens of the sheet on standard input, octal escapes as the manual has them, and its refusal in words,
+//! by the crate that is named as a path.
 
-use puretakoi::{classes_of, Choices, Kind, Octal, Reading, Tokens};
+use puretakoi::{Choices, Kind, Octal, Reading, Tokens};
 use std::io::{self, Read};
 
 fn main() -> io::Result<()> {
@@ -19,7 +19,6 @@ fn main() -> io::Result<()> {
         }
     }
     println!("{} is {}", Kind::Comment.number(), Kind::Comment.name());
-    println!("_ is {}, {}", classes_of(b'_'), classes_of(b'_').number());
     if let Some(refusal) = refused {
         println!("{} {}: {}. {}", refusal.span, refusal.name(), refusal.meaning(), refusal.advice());
     }

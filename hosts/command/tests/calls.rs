@@ -25,10 +25,9 @@ fn check_wrong(words: &[&str], fault: &str, usage: &str) {
 
 #[test]
 fn a_wrong_verb() {
-    check_wrong(&[], "no verb is named: write view, check, at, cut, tokens, records or bytes", ALL);
+    check_wrong(&[], "no verb is named: write view, check, at, cut, tokens or records", ALL);
     for word in ["sheets", "--strict", "View", "-", "--"] {
-        let fault = format!("{} is no verb: write view, check, at, cut, tokens, records or bytes", word);
-        check_wrong(&[word], &fault, ALL);
+        check_wrong(&[word], &format!("{} is no verb: write view, check, at, cut, tokens or records", word), ALL);
     }
 }
 
@@ -127,7 +126,8 @@ fn wrong_places() {
         check_wrong(&[verb, "sheets/tabs.php", "1", "2"], more, usage);
         check_wrong(&[verb, "--sheet", "sheets/tabs.php", "1"], "--sheet is no option", usage);
         check_wrong(&[verb, "sheets/tabs.php", "-1"], "-1 is no option", usage);
-        check_wrong(&[verb, "-", "-"], &format!("standard input is no place: {}", form), usage);
+        let twice = "- is named twice, and standard input can be read once: name it once";
+        check_wrong(&[verb, "-", "-"], twice, usage);
     }
     check_wrong(&["at", "-w", "9", "sheets/tabs.php", "1"], "-w wants a number from 10 to 100000 behind it", AT);
     check_wrong(&["cut", "--json", "sheets/tabs.php", "1"], "--json is no option", CUT);
@@ -213,8 +213,11 @@ fn help_and_version_are_no_faults() {
 /// Every option of a verb's usage must be told in its help, and every verb in the help of all.
 #[test]
 fn help_tells_all() {
-    let verbs = [("view", VIEW), ("check", CHECK), ("at", AT), ("cut", CUT), ("tokens", TOKENS), ("records", RECORDS)];
-    for (verb, usage) in verbs.into_iter().chain([("bytes", BYTES)]) {
+    for (verb, usage) in
+        [("view", VIEW), ("check", CHECK), ("at", AT), ("cut", CUT), ("tokens", TOKENS), ("records", RECORDS)]
+            .into_iter()
+            .chain([("bytes", BYTES)])
+    {
         let help = call(&[verb, "--help"]).out;
         let words = usage.split(['[', ']', '|', ' ']).filter(|word| word.starts_with('-'));
         for option in words {

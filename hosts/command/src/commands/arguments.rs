@@ -39,15 +39,6 @@ enum Value {
 }
 
 impl Call {
-    /// The scripts that are named; else a sentence where none is, or standard input twice.
-    pub fn scripts(&self) -> Result<&[PathBuf], String> {
-        match self.paths.iter().filter(|path| is_standard(path)).count() {
-            _ if self.paths.is_empty() => Err("no script is named".to_string()),
-            0 | 1 => Ok(&self.paths),
-            _ => Err("- is named twice, and standard input can be read once: name it once".to_string()),
-        }
-    }
-
     /// Whether an option is given.
     pub fn has(&self, choice: &Choice) -> bool {
         self.value(choice).is_some()
@@ -83,8 +74,16 @@ impl Call {
     }
 }
 
-/// Reads the words behind a verb; else a sentence on what is wrong.
+/// Reads the words behind a verb of scripts; else a sentence on what is wrong.
 pub fn parse(groups: Groups, words: impl Iterator<Item = OsString>) -> Result<Asked, String> {
+    match parse_words(groups, words)? {
+        Asked::Work(call) => check_standard(call).map(Asked::Work),
+        asked => Ok(asked),
+    }
+}
+
+/// Reads the words behind a verb that reads no script: a - is a word as any other.
+pub fn parse_words(groups: Groups, words: impl Iterator<Item = OsString>) -> Result<Asked, String> {
     let mut words = words;
     let mut call = Call::default();
     while let Some(word) = words.next() {
@@ -182,6 +181,14 @@ fn check(groups: Groups, call: Call) -> Result<Call, String> {
         if let [first, second, ..] = given[..] {
             return Err(format!("{} and {} don't go together: give one of them", first, second));
         }
+    }
+    Ok(call)
+}
+
+/// What was given, unless standard input is named twice.
+fn check_standard(call: Call) -> Result<Call, String> {
+    if call.paths.iter().filter(|path| is_standard(path)).count() > 1 {
+        return Err("- is named twice, and standard input can be read once: name it once".to_string());
     }
     Ok(call)
 }

@@ -50,8 +50,11 @@ pub struct Finding {
 
 /// Checks the sheets that are asked for.
 fn run(call: &Call) -> Result<u8, String> {
+    if call.paths.is_empty() {
+        return Err("no script is named".to_string());
+    }
     let (strict, is_json) = (call.has(&STRICT), call.has(&JSON));
-    let found = files::find(call.scripts()?);
+    let found = files::find(&call.paths);
     let (jobs, octals) = (call.number(&JOBS).unwrap_or(1), octals(call, Octal::Manual));
     let many = Many { found: &found, jobs, octals, strict };
     let form = if is_json { Finding::json } else { Finding::line };

@@ -23,7 +23,7 @@ pub mod view;
 
 use std::ffi::OsString;
 
-use crate::commands::arguments::{parse, Asked, Call, Groups};
+use crate::commands::arguments::{parse, parse_words, Asked, Call, Groups};
 use crate::commands::options::{Choice, HELP, VERSION};
 use crate::commands::output::{complain, written, ALL_GOOD, NOT_DONE};
 use crate::showing::shown::shown;
@@ -42,9 +42,11 @@ pub struct Verb {
     run: fn(&Call) -> Result<u8, String>,
 }
 
-/// All verbs.
-const VERBS: &[&Verb] =
-    &[&view::VERB, &check::VERB, &at::VERB, &cut::VERB, &tokens::VERB, &records::VERB, &bytes::VERB];
+/// The verbs of scripts, which a wrong call names.
+const VERBS: &[&Verb] = &[&view::VERB, &check::VERB, &at::VERB, &cut::VERB, &tokens::VERB, &records::VERB];
+
+/// The verbs that read no script.
+const BESIDE: &[&Verb] = &[&bytes::VERB];
 
 /// How the command is called.
 const USAGE: &str = "usage: puretakoi VERB [OPTION..] PATH..";
@@ -60,18 +62,26 @@ pub fn run(mut words: impl Iterator<Item = OsString>) -> u8 {
     match first.as_deref() {
         Some("--help") => written(&help(), ALL_GOOD),
         Some("--version") => written(&version(), ALL_GOOD),
-        Some(word) => match VERBS.iter().find(|verb| verb.name == word) {
-            Some(verb) => verb.call(words),
-            None => wrong_call(&format!("{} is no verb: write {}", shown(word.as_bytes()), verb_names()), USAGE),
+        Some(word) => match (named(VERBS, word), named(BESIDE, word)) {
+            (Some(verb), _) => verb.call(parse(verb.groups, words)),
+            (None, Some(verb)) => verb.call(parse_words(verb.groups, words)),
+            (None, None) => {
+                wrong_call(&format!("{} is no verb: write {}", shown(word.as_bytes()), verb_names()), USAGE)
+            }
         },
         None => wrong_call(&format!("no verb is named: write {}", verb_names()), USAGE),
     }
 }
 
+/// The verb of this name.
+fn named(verbs: &[&'static Verb], name: &str) -> Option<&'static Verb> {
+    verbs.iter().find(|verb| verb.name == name).copied()
+}
+
 impl Verb {
     /// Does what the words behind it ask for.
-    fn call(&self, words: impl Iterator<Item = OsString>) -> u8 {
-        let done = match parse(self.groups, words) {
+    fn call(&self, asked: Result<Asked, String>) -> u8 {
+        let done = match asked {
             Ok(Asked::Help) => Ok(written(&self.help(), ALL_GOOD)),
             Ok(Asked::Version) => Ok(written(&version(), ALL_GOOD)),
             Ok(Asked::Work(call)) => (self.run)(&call),
@@ -101,9 +111,10 @@ impl Verb {
 
 /// What `puretakoi --help` says.
 fn help() -> String {
-    let widest = VERBS.iter().map(|verb| verb.name.len()).max().unwrap_or(0);
+    let all = || VERBS.iter().chain(BESIDE);
+    let widest = all().map(|verb| verb.name.len()).max().unwrap_or(0);
     let line = |verb: &&Verb| format!("  {:widest$}  {}\n", verb.name, verb.about, widest = widest);
-    let verbs: String = VERBS.iter().map(line).collect();
+    let verbs: String = all().map(line).collect();
     format!(
         "{}\n\nReads PHP scripts from which tactile maps are embossed. The verbs:\n{}\n\
          puretakoi VERB --help tells more of a verb, puretakoi --version the version.\n\
@@ -117,7 +128,7 @@ fn version() -> String {
     format!("{}\n", choices::PROGRAM)
 }
 
-/// The verbs' names, for a sentence.
+/// The names of the verbs of scripts, for a sentence.
 fn verb_names() -> String {
     let names: Vec<&str> = VERBS.iter().map(|verb| verb.name).collect();
     match names.split_last() {

@@ -52,7 +52,10 @@ struct View<'a> {
 
 /// Shows the sheets that are asked for. No script is lost to a file that is written.
 fn run(call: &Call) -> Result<u8, String> {
-    let found = files::find(call.scripts()?);
+    if call.paths.is_empty() {
+        return Err("no script is named".to_string());
+    }
+    let found = files::find(&call.paths);
     check_outputs(call, &found)?;
     let columns = call.number(&COLUMNS).or_else(|| terminal::is_terminal(terminal::OUTPUT).then(terminal::columns));
     Ok(show(&View { call, form: form(call), columns }, &found))
