@@ -1,8 +1,9 @@
 -- The table of classes. Assumes nothing.
 --   same_each, equal_each   two tests, two numbers are the same of each number below n: this is computed
---   table_ruled     one test over the table, computed, carries its rule to each entry: it is the class of its byte
---   classes_ruled   which classes each test of bytes looks for, computed for all 256 bytes
---   table_holds     a quarter of the table is a number whose bits tell its bytes
+--   table_ruled             one test over the table, computed, carries its rule to each entry: it is the class of its
+--                           byte
+--   classes_ruled           which classes each test of bytes looks for, computed for all 256 bytes
+--   table_holds   a quarter of the table is a number whose bits tell its bytes
 use Rattle.std.specs.Prelude.{if◌then◌else◌}
 use Prim.Native.Nat.{ℕ, zero, suc, ◌+◌, ◌-◌, ◌*◌, ◌/◌, ◌%◌, ◌^◌, ◌≤◌, ◌<◌}
 use mathlib.Core.Path.{◌≡◌, refl, sym, ◌∙◌, ap}

@@ -1,10 +1,10 @@
 -- The classes of bytes, from document 01 ("Identifiers") and the PHP manual.
 --   is_digit, is_octal, is_hex   the digits of a number or an escape
---   is_letter                  A to Z, a to z
---   is_start                   what an identifier starts with: a letter, _ or 0x80 to 0xFF
---   is_identifier              what may follow: digits too
---   is_blank                   a space or a tab, as indentation has them
---   is_no_break, is_none_of       no LF; none of four bytes
+--   is_letter                    A to Z, a to z
+--   is_start                     what an identifier starts with: a letter, _ or 0x80 to 0xFF
+--   is_identifier                what may follow: digits too
+--   is_blank                     a space or a tab, as indentation has them
+--   is_no_break, is_none_of      no LF; none of four bytes
 use Rattle.std.specs.Prelude.{ℕ, Bool, ◌||◌, ◌&&◌, not, leb, eqb}
 use Rattle.byte.specs.Words.{◌is◌, ◌from◌to◌}
 

@@ -1,10 +1,10 @@
 -- What the code of src/classes.rt computes with.
 --   is_from   a class is one of those from the first to the last
---   Table    sixteen entries in each of sixteen rows, each the class of its byte
---   one      1 if a test passes, else 0
---   binary   the number whose bits say which entries of a list pass a test, the first entry's the lowest
---   Bits     a number below a limit is that of the entries which have one of these classes
---   Holds    the bits of a number say which of the 64 bytes of a quarter have one of these classes
+--   Table     sixteen entries in each of sixteen rows, each the class of its byte
+--   one       1 if a test passes, else 0
+--   binary    the number whose bits say which entries of a list pass a test, the first entry's the lowest
+--   Bits      a number below a limit is that of the entries which have one of these classes
+--   Holds     the bits of a number say which of the 64 bytes of a quarter have one of these classes
 use Rattle.std.specs.Prelude.{ℕ, ◌+◌, ◌*◌, ◌/◌, ◌%◌, ◌^◌, ◌<◌, Bool, ◌&&◌, List, [], ◌∷◌, ◌≡◌, leb, length, get_or, if◌then◌else◌}
 use Rattle.byte.specs.Classes.{class_of}
 

@@ -1,6 +1,6 @@
 -- The refusal numbers of document 01 by name, as the source has them.
---   is_among          whether a number stands in a list
---   octal_refusals    what a call may refuse an octal escape with
+--   is_among         whether a number stands in a list
+--   octal_refusals   what a call may refuse an octal escape with
 use Rattle.std.specs.Prelude.{ℕ, Bool, false, ◌||◌, List, [], ◌∷◌, eqb}
 use Rattle.byte.specs.declared.Octal.{Octal}
 

@@ -1,9 +1,9 @@
 -- The words that definitions over bytes are written with.
---   _is_, _from_to_ a byte told by its character. ASCII alone: bytes from 0x80 on are written as numbers
---   bytes           the bytes of a text in quotes
---   every           whether all that a list holds passes a test
---   run             how many bytes from the first on pass a test
---   announced       whether a host's number says that the end is announced: any but 0
+--   ◌is◌, ◌from◌to◌   a byte told by its character. ASCII alone: bytes from 0x80 on are written as numbers
+--   bytes             the bytes of a text in quotes
+--   every             whether all that a list holds passes a test
+--   run               how many bytes from the first on pass a test
+--   announced         whether a host's number says that the end is announced: any but 0
 use Rattle.std.specs.Prelude.{ℕ, suc, Bool, true, false, not, ◌&&◌, List, [], ◌∷◌, leb, eqb, if◌then◌else◌}
 use Prim.Native.Char.{Char, code}
 use Prim.Native.String.{String}

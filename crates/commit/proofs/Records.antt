@@ -1,6 +1,7 @@
 -- Counting drafts, and writing their records and values one after another. Assumes nothing.
---   totals      how many drafts and value bytes there are
---   Putting     the loop of `put_drafts`: what is put from the beginning on is what is put of the drafts that are left, from here on
+--   totals    how many drafts and value bytes there are
+--   Putting   the loop of `put_drafts`: what is put from the beginning on is what is put of the drafts that are left,
+--             from here on
 use Prim.Native.Nat.{ℕ, zero, suc, ◌+◌, ◌*◌, ◌/◌, ◌≤◌, ◌<◌}
 use mathlib.Core.Path.{◌≡◌, refl, sym, ap, subst, ◌∙◌}
 use mathlib.Core.Bool.{Bool}

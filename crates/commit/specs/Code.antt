@@ -1,12 +1,12 @@
 -- A step as the code has it: over drafts and numbers and the top frame, without the session.
---   total_of, draft_at       how many value bytes drafts have; one of them
+--   total_of, draft_at     how many value bytes drafts have; one of them
 --   Cursor, Ahead          a cursor within a source that is not too long, and a place from it on
 --   Writes                 a value can be written from a mark on, with the scratch part that it may be held in
 --   Marked                 the cursor and the marks are within their bounds
---   past_draft, PastFits    the marks after a draft
+--   past_draft, PastFits   the marks after a draft
 --   DraftFits, DraftPut    a draft fits from the marks on; its record and its value stand there
 --   DraftsFit, DraftsPut   the same of drafts
---   is_full                 a frame would be the 65th
+--   is_full                a frame would be the 65th
 --   advanced, Advances     the numbers after so many tokens and value bytes, and that they fit
 --   Commits, Works         what `commit` asks of its plan, and of what the plan tells
 --   Committed              what it gives

@@ -1,15 +1,17 @@
 -- What a step makes of its outcome, over cursor, fill marks and tables (document 01, "Token list", "Refusal numbers"): room, then
 -- layout. The session's part stands in crate lexer.
---   Mark, Next       (source) the cursor and the fill marks; answer, cursor, marks and the change of frame
---   span_at           the span of a place from the cursor p on
---   token_of          the token of a piece that is put at the marks by a step that ends at `after`
---   Tables           what list and pool hold
+--   Mark, Next                   (source) the cursor and the fill marks; answer, cursor, marks and the change of frame
+--   span_at                      the span of a place from the cursor p on
+--   token_of                     the token of a piece that is put at the marks by a step that ends at `after`
+--   Tables                       what list and pool hold
 --   put_piece, past_piece, put   a piece is put at the marks, the marks go past it, the next piece is put
---   records          the records of pieces; `put_laid` (proofs/Putting.antt) says that they and the values stand from the marks on
---   room_for          7 for more tokens than places left, then 8 for more value bytes than pool left, or 0
---   answer_of         done, or finished
---   stays, advances  a refusal: the numbers are as they were; or an answer, and the numbers after the pieces
---   reached          what contracts cite: room is asked after all that the outcome refuses
+--   records                      the records of pieces; `put_laid` (proofs/Putting.antt) says that they and the values
+--                                stand from the marks on
+--   room_for                     7 for more tokens than places left, then 8 for more value bytes than pool left, or 0
+--   answer_of                    done, or finished
+--   stays, advances              a refusal: the numbers are as they were; or an answer, and the numbers after the
+--                                pieces
+--   reached   what contracts cite: room is asked after all that the outcome refuses
 use Rattle.std.specs.Prelude.{ℕ, ◌+◌, ◌-◌, ◌*◌, Bool, List, [], ◌∷◌, ◌++◌, eqb, length, take, drop, if◌then◌else◌}
 use Rattle.byte.specs.Laid.{laid}
 use Rattle.byte.specs.Refusals.{wait}

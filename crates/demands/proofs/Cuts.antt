@@ -1,6 +1,7 @@
 -- A script that comes in parts gives the records, value bytes, end and answer of the uncut one: `cuts`, for the same tables, and
 -- `cuts_fresh`, from a fresh session. Assumes nothing.
---   walk_longer   a walk over a part, with more announced: it is the walk over every longer script, or it waits somewhere on its way
+--   walk_longer   a walk over a part, with more announced: it is the walk over every longer script, or it waits
+--                 somewhere on its way
 use Rattle.std.specs.Prelude.{if◌then◌else◌}
 use Prim.Native.Nat.{ℕ, zero, suc, ◌+◌, ◌≤◌}
 use mathlib.Core.Path.{◌≡◌, refl, sym, ap, subst, ◌∙◌}

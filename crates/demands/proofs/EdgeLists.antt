@@ -1,8 +1,8 @@
 -- Where the steps ended that filled a list. Assumes nothing.
---   call_grows, walk_grows     records and value bytes that stood before a call, or a walk, stand after it
---   filled_edges   in a list that was filled from empty ends never fall
---   walk_new       each record that a walk writes ends where its own step did
---   cuts_new       so does each record of a script in parts: as in a walk over the uncut script
+--   call_grows, walk_grows   records and value bytes that stood before a call, or a walk, stand after it
+--   filled_edges             in a list that was filled from empty ends never fall
+--   walk_new                 each record that a walk writes ends where its own step did
+--   cuts_new                 so does each record of a script in parts: as in a walk over the uncut script
 use Prim.Native.Nat.{ℕ, zero, suc, ◌+◌, ◌*◌, ◌≤◌, ◌<◌}
 use mathlib.Core.Path.{◌≡◌, refl, sym, ap, subst, ◌∙◌}
 use mathlib.Core.Bool.{Bool, true, false}

@@ -1,6 +1,6 @@
 -- What holds of the records that a call writes: where they end, and what stands in the source up to there. Assumes
 -- nothing.
---   call_new     each new record of a step or a reading, on every input
+--   call_new   each new record of a step or a reading, on every input
 use Prim.Native.Nat.{ℕ, zero, suc, ◌+◌, ◌-◌, ◌*◌, ◌≤◌, ◌<◌}
 use mathlib.Core.Path.{◌≡◌, refl, sym, ap, subst, ◌∙◌}
 use mathlib.Core.Bool.{Bool, true, not, false≢true}

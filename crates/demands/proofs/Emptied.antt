@@ -1,9 +1,9 @@
 -- A host may take what was written and empty its tables at any time: what it is handed is the same. Assumes nothing.
---   call_emptied     two sessions that differ in nothing but their marks, each with tables of its own: a call gives
---                    both the same tokens, answer and session, but for the marks
---   walk_emptied     tables that are emptied before each step give what tables give that are not
+--   call_emptied          two sessions that differ in nothing but their marks, each with tables of its own: a call
+--                         gives both the same tokens, answer and session, but for the marks
+--   walk_emptied          tables that are emptied before each step give what tables give that are not
 --   walked_emptied_room   and 16 numbers, with as many bytes as the source has, are room enough for it
---   cuts_emptied     a script in parts, the tables emptied before each part, gives what the uncut script gives
+--   cuts_emptied          a script in parts, the tables emptied before each part, gives what the uncut script gives
 -- All go by way of what is handed without any tables (call_handed, walk_handed, fed_handed).
 use Rattle.std.specs.Prelude.{if◌then◌else◌}
 use Prim.Native.Nat.{ℕ, zero, suc, ◌+◌, ◌*◌, ◌-◌, ◌≤◌, ◌<◌}

@@ -1,10 +1,10 @@
 -- Stepping ends: each step that is done leaves less to do, so a walk of twice as many steps as bytes are left, and two more, comes to its
 -- end. Assumes nothing.
---   remaining     what is left to do: twice the bytes left, and one where LookingForVarname is on top
---   step_falls    a step that is done leaves less
---   walk_ends     enough steps end, from every sound session
---   cuts_whole    a script in parts gives what the uncut one gives, with enough steps and from a fresh session
---   cuts_same     so two ways to cut a script give the same: a host may leave out a look, and have it at a later part
+--   remaining    what is left to do: twice the bytes left, and one where LookingForVarname is on top
+--   step_falls   a step that is done leaves less
+--   walk_ends    enough steps end, from every sound session
+--   cuts_whole   a script in parts gives what the uncut one gives, with enough steps and from a fresh session
+--   cuts_same    so two ways to cut a script give the same: a host may leave out a look, and have it at a later part
 use Prim.Native.Nat.{ℕ, zero, suc, ◌+◌, ◌-◌, ◌*◌, ◌≤◌, ◌<◌}
 use mathlib.Core.Path.{sym, ◌≡◌, refl, ◌∙◌}
 use mathlib.Core.Bool.{Bool, true, false}

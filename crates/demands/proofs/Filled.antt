@@ -1,9 +1,9 @@
 -- Lists that were filled from empty: walks and scripts in parts fill them too, and the positions of their records
 -- never fall. Assumes nothing.
---   steps_filled, walk_filled                  steps in a row, a walk
---   fed_filled, called_on_filled                a script in parts, a call and the steps after it
---   filled_ordered                             the records up to the mark stand in the list, and their positions
---                                              never fall
+--   steps_filled, walk_filled                    steps in a row, a walk
+--   fed_filled, called_on_filled                 a script in parts, a call and the steps after it
+--   filled_ordered                               the records up to the mark stand in the list, and their positions
+--                                                never fall
 --   call_size, steps_size, walk_size, fed_size   the list keeps its length
 use Prim.Native.Nat.{ℕ, zero, suc}
 use mathlib.Core.Bool.{Bool, true, false}

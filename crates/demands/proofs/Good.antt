@@ -1,8 +1,8 @@
 -- A good session stays good under every step and reading, and list and pool keep their lengths. Assumes nothing.
---   Sound          the session is good, and its marks are not past their tables
---   let_sound      so is every session that the gate lets pass
---   settled_sound  of an outcome that lies within the source and changes the stack well
---   call_sound     of every call
+--   Sound           the session is good, and its marks are not past their tables
+--   let_sound       so is every session that the gate lets pass
+--   settled_sound   of an outcome that lies within the source and changes the stack well
+--   call_sound      of every call
 use Prim.Native.Nat.{ℕ, zero, suc, ◌+◌, ◌-◌, ◌/◌, ◌≤◌}
 use mathlib.Core.Path.{◌≡◌, refl, sym, subst, ◌∙◌}
 use mathlib.Core.Bool.{Bool, true, false, false≢true}

@@ -1,9 +1,12 @@
 -- Octal escapes by the session's choice (document 02, P5). Assumes nothing.
 --   octal_refused, walk_octal_refused, called_on_octal_refused   3 is answered under the Rust's choice alone
---   call_chosen     where the Rust's choice does not answer 3, the manual's gives the same
---   walk_chosen     so does a walk; calledOn-chosen: a call and the steps after it
---   fed_choices, fed_chosen   a script in parts keeps the choices, and gives the same
---   calls_done_chosen   as many calls are done
+--   call_chosen                                                  where the Rust's choice does not answer 3, the
+--                                                                manual's gives the same
+--   walk_chosen                                                  so does a walk; calledOn-chosen: a call and the steps
+--                                                                after it
+--   fed_choices, fed_chosen   a script in parts keeps the choices, and gives the
+--                             same
+--   calls_done_chosen         as many calls are done
 use Rattle.std.specs.Prelude.{if◌then◌else◌}
 use Prim.Native.Nat.{ℕ, zero, suc}
 use mathlib.Core.Path.{◌≡◌, refl, sym, ap, ◌∙◌}

@@ -1,9 +1,9 @@
 -- Which refusals a call may give, for every session and all tables. Assumes nothing.
---   called_cases      a call whose gate is open, with the cursor inside, and one whose gate is shut
---   call_refusals     of the step and the three readings
---   walk_refusals     a walk gives those of the step
+--   called_cases    a call whose gate is open, with the cursor inside, and one whose gate is shut
+--   call_refusals   of the step and the three readings
+--   walk_refusals   a walk gives those of the step
 --   called_on_refusals a call and the steps after it give the call's and the step's; steps-refusals: of steps alone
---   refusals_told     every number is 1 to 13
+--   refusals_told   every number is 1 to 13
 use Prim.Native.Nat.{ℕ, zero, suc, ◌+◌, ◌/◌, ◌≤◌}
 use mathlib.Core.Path.{◌≡◌, refl, sym}
 use mathlib.Core.Bool.{Bool, true, false, ◌&&◌, false≢true}

@@ -1,9 +1,10 @@
 -- Positions of records never fall: a step writes its records from the cursor on, and the cursor never goes back. Assumes nothing.
---   call_rising     where the records before have positions up to the cursor, so have the records after, up to the cursor after
+--   call_rising     where the records before have positions up to the cursor, so have the records after, up to the
+--                   cursor after
 --   walk_rising     so after any number of steps
 --   empty_ordered   and from an empty list on
 --   lent_ordered    another list with the same records keeps it
---   stays_rising    so do skip, push and pop
+--   stays_rising   so do skip, push and pop
 use Prim.Native.Nat.{ℕ, zero, suc, ◌+◌, ◌-◌, ◌*◌, ◌/◌, ◌≤◌}
 use mathlib.Core.Path.{◌≡◌, refl, sym, ap, ◌∙◌}
 use mathlib.Core.Bool.{Bool}

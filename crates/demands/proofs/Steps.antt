@@ -1,12 +1,12 @@
 -- Steps in a row. Assumes nothing.
---   call_open      after an open gate every call leaves it open
---   done_open      a call that is done has found it open
---   walked_sum     a walk that is done, and a walk from where it stands, are one walk
---   WalkEnds, walk_last   a walk that ends: done steps, and the step after them is its last
---   walk_refused   a refused walk: done steps, and one refused step that changed nothing
+--   call_open                    after an open gate every call leaves it open
+--   done_open                    a call that is done has found it open
+--   walked_sum                   a walk that is done, and a walk from where it stands, are one walk
+--   WalkEnds, walk_last          a walk that ends: done steps, and the step after them is its last
+--   walk_refused                 a refused walk: done steps, and one refused step that changed nothing
 --   steps-done, steps_finished   how many steps are done where the walk is done, and where it is finished
---   steps_one      only one number of done steps is followed by a step that is not done
---   calls_done_steps   of a step and the steps after it as many are done as of a walk
+--   steps_one                    only one number of done steps is followed by a step that is not done
+--   calls_done_steps             of a step and the steps after it as many are done as of a walk
 use Prim.Native.Nat.{ℕ, zero, suc, ◌+◌, ◌-◌, ◌<◌}
 use mathlib.Core.Path.{◌≡◌, refl, sym, ap, subst, ◌∙◌}
 use mathlib.Core.Bool.{Bool, true, false, false≢true}

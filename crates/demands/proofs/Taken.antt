@@ -1,12 +1,14 @@
 -- What a host takes of the records and bytes that a call wrote is just what the call told. Assumes nothing.
---   taken_in_sum      the tokens of records in two parts
---   records_taken    the records and values of pieces, wherever they stand, are taken as the pieces
---   Grows            what stood before the marks stands there still
---   Wrote            so it is, and the new tokens stand between the marks, whatever comes after them
+--   taken_in_sum                                         the tokens of records in two parts
+--   records_taken                                        the records and values of pieces, wherever they stand, are
+--                                                        taken as the pieces
+--   Grows                                                what stood before the marks stands there still
+--   Wrote                                                so it is, and the new tokens stand between the marks, whatever
+--                                                        comes after them
 --   written_grows, grows_none, grows_both and wrote-..   of pieces, of nothing, of one call and another
---   handed_of         what an outcome gives to a host whose tables have room
---   settled_hands    what it comes to in tables that do not lack room
---   call_taken       so of a call that is not refused
+--   handed_of                                            what an outcome gives to a host whose tables have room
+--   settled_hands   what it comes to in tables that do not lack room
+--   call_taken      so of a call that is not refused
 use Prim.Native.Nat.{ℕ, zero, suc, ◌+◌, ◌-◌, ◌*◌, ◌≤◌}
 use mathlib.Core.Path.{◌≡◌, refl, sym, ap, ◌∙◌}
 use mathlib.Core.Bool.{Bool, true, false, ◌||◌, false≢true}

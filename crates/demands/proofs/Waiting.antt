@@ -1,8 +1,8 @@
 -- Demand 3 of step and the three readings: `call_waits_exactly`, for every part, good session and tables; `called_let`,
 -- for all that the gate lets pass. Assumes nothing.
---   settled_other, settled_wait, settled_six   only the wait is answered with 6: room's refusals are 7 and 8, and an outcome's own are
---                                              others
---   wait_first   a wait comes before 7 and 8, however small the tables
+--   settled_other, settled_wait, settled_six   only the wait is answered with 6: room's refusals are 7 and 8, and an
+--                                              outcome's own are others
+--   wait_first                                 a wait comes before 7 and 8, however small the tables
 use Prim.Native.Nat.{ℕ, ◌+◌, ◌/◌, ◌≤◌}
 use mathlib.Core.Path.{◌≡◌, refl, sym, ap, ◌∙◌}
 use mathlib.Core.Bool.{Bool, true, false, false≢true}

@@ -1,6 +1,6 @@
 -- Where the step ended that wrote a record (document 02, P4): the record's eighth number.
---   value_in      a token's value in the pool
---   written_in    the source's bytes from a token's position up to its end
+--   value_in     a token's value in the pool
+--   written_in   the source's bytes from a token's position up to its end
 --   IsNew        a record that a call, or a walk, has written: from the mark before it on, before the mark after it
 --   Literally    a literal or a comment stands in the source as written, octal escapes read by this choice
 --   IsOnward     a token does not end before its position

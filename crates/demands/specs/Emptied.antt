@@ -1,14 +1,14 @@
 -- A host takes what a call has written and empties its tables before the next: both marks are 0 again, and what stood in list and pool
 -- may stand there still (README.md, "How a host calls it").
---   Taken        a token as a host takes it: kind, detail, place, value bytes, and the end of its step
---   takens       the tokens that the pieces of a step come to, from a cursor on; it ends at `after`
---   taken_in      the tokens of so many records, with their values in a pool
---   new_in        the tokens that a call, or a walk, has written: from the mark before it up to the mark after it
---   emptied      a session with both marks 0; two sessions with the same one differ in nothing but their marks
---   lacks_room    refusal 7 or 8
---   Handed       all tokens that were taken, with the last answer and session
---   handed       what a call from an emptied session gives to its host
---   taking       what a call from any session has given, but for its marks; unmarked: of what was handed
+--   Taken            a token as a host takes it: kind, detail, place, value bytes, and the end of its step
+--   takens           the tokens that the pieces of a step come to, from a cursor on; it ends at `after`
+--   taken_in         the tokens of so many records, with their values in a pool
+--   new_in           the tokens that a call, or a walk, has written: from the mark before it up to the mark after it
+--   emptied          a session with both marks 0; two sessions with the same one differ in nothing but their marks
+--   lacks_room       refusal 7 or 8
+--   Handed           all tokens that were taken, with the last answer and session
+--   handed           what a call from an emptied session gives to its host
+--   taking           what a call from any session has given, but for its marks; unmarked: of what was handed
 --   walked_emptied   at most so many steps, the tables emptied before each
 --   fed_emptied      a script in parts, the tables emptied before each part
 use Rattle.std.specs.Prelude.{ℕ, zero, suc, ◌-◌, ◌*◌, Bool, true, false, ◌||◌, List, [], ◌∷◌, ◌++◌, eqb, get_or, take, drop, if◌then◌else◌}

@@ -5,7 +5,7 @@
 --   Filled        session, list and pool after such calls
 --   FilledAfter   the same of what a call gives
 --   Round         what a step is lent: a source, and whether its end is announced
---   stepped_on     steps in a row, each on what the last one left, whatever it answered
+--   stepped_on    steps in a row, each on what the last one left, whatever it answered
 use Rattle.std.specs.Prelude.{ℕ, ◌*◌, Bool, List, [], ◌∷◌, ◌≡◌, take}
 use Rattle.state.specs.declared.Choices.{Choices}
 use Rattle.state.specs.declared.Frame.{Frame}

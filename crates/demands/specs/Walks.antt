@@ -1,14 +1,14 @@
 -- Many steps, and a script that comes in parts (demand 3).
---   gone_on     a step that is done is followed by the next; any other answer is the last
---   walked   at most so many steps
+--   gone_on   a step that is done is followed by the next; any other answer is the last
+--   walked    at most so many steps
 --   called_on a call and, where it is done, steps after it: at most so many in all; the gate is asked also where none is wanted
 --   steps_done   how many steps of a walk are done
 --   calls_done   how many of a call and the steps after it are done
---   is_done   done, and not finished
---   is_wait   refusal 6
---   joined   the script that parts make
---   fed      a script in parts: each part is stepped, with more announced, up to a wait; the next part comes after it, the session,
---            list and pool as the wait found them; after the last part the end is announced
+--   is_done      done, and not finished
+--   is_wait      refusal 6
+--   joined       the script that parts make
+--   fed          a script in parts: each part is stepped, with more announced, up to a wait; the next part comes after
+--                it, the session, list and pool as the wait found them; after the last part the end is announced
 use Rattle.std.specs.Prelude.{ℕ, zero, suc, Bool, true, false, List, [], ◌∷◌, ◌++◌, eqb, if◌then◌else◌}
 use Rattle.byte.specs.Refusals.{wait}
 use Rattle.state.specs.declared.Answer.{Answer}

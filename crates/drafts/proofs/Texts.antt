@@ -1,7 +1,7 @@
 -- Texts and their plans: what a scan found makes the outcome of what was read, and what it left in the scratch part is
 -- the value of a draft that is held. Assumes nothing.
---   held_value   the scratch part begins with the value
---   text_plans   the plan of a text that was measured makes its outcome
+--   held_value     the scratch part begins with the value
+--   text_plans     the plan of a text that was measured makes its outcome
 --   text_planned   the same of what the scan answered
 use Rattle.std.specs.Prelude.{if◌then◌else◌}
 use Prim.Native.Nat.{ℕ, ◌+◌, ◌≤◌}

@@ -1,6 +1,6 @@
 -- Scans and their plans: what a scan found makes the outcome of what was read. Assumes nothing.
 --   read-plans, number_plans   the plan of a reading that was measured makes its outcome
---   .. -arm                       the same on each arm of a match on the scan
+--   .. -arm                    the same on each arm of a match on the scan
 use Prim.Native.Nat.{ℕ, ◌+◌, ◌-◌, ◌≤◌}
 use mathlib.Core.Path.{◌≡◌, refl, sym, ◌∙◌}
 use mathlib.Core.Bool.{Bool}

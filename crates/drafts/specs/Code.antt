@@ -1,13 +1,16 @@
 -- The plans of the text modes, of literals and of numbers, as the code makes them of a scan.
---   made_draft     a token whose value is made: its length is known, its bytes are still to be written
---   is_held        a text's value stands in the scratch part: it fits there, and its mode is no nowdoc's
---   text_making    how a text's value comes about that is not the source's own bytes
---   text_draft     a text's value: where nothing was escaped it is the source's own bytes
---   sheet_draft    a sheet's value: its rows up to the closing line, by the closing line's indentation
---   text_plan      a mode's text: its part, if it is not empty, and the token after it
---   literal_kind   the kind of a literal; 0 for a mode
---   literal_plan, number_plan   a quoted string; a number
---   Placed        a text that was measured lies before what ends it
+--   made_draft                          a token whose value is made: its length is known, its bytes are still to be
+--                                       written
+--   is_held                             a text's value stands in the scratch part: it fits there, and its mode is no
+--                                       nowdoc's
+--   text_making                         how a text's value comes about that is not the source's own bytes
+--   text_draft                          a text's value: where nothing was escaped it is the source's own bytes
+--   sheet_draft                         a sheet's value: its rows up to the closing line, by the closing line's
+--                                       indentation
+--   text_plan                           a mode's text: its part, if it is not empty, and the token after it
+--   literal_kind                        the kind of a literal; 0 for a mode
+--   literal_plan, number_plan           a quoted string; a number
+--   Placed                              a text that was measured lies before what ends it
 --   text_work, read_plan, number_work   a scan: found, refused, or wait
 use Rattle.std.specs.Prelude.{ℕ, ◌+◌, ◌-◌, ◌≤◌, Bool, false, eqb, leb, if◌then◌else◌}
 use Rattle.state.specs.declared.Frame.{Frame}

@@ -1,6 +1,6 @@
 -- What a call in the host's own session gives (document 01, "What must change shape"): what the call by value comes to, its answer
 -- as the result and its session in the host's struct.
---   Entered     the answer, and what session, list and pool hold after the call
+--   Entered   the answer, and what session, list and pool hold after the call
 use Rattle.std.specs.Prelude.{ℕ, List, ◌≡◌}
 use Rattle.state.specs.declared.Session.{Session}
 use Rattle.state.specs.declared.Answer.{Answer}

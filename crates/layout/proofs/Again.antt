@@ -1,9 +1,11 @@
 -- Theorems on sessions as numbers. Assumes nothing.
---   choices_flags, choices_again, number_again   choices and the numbers whose bits are flags stand for each other, one for one
---   session_again              reading what was written gives the session again
---   held_in                    what is read is such a session, whatever the numbers
---   held_moved, held_entered, held_left   it stays one at another place, with a frame more, with a frame less
---   good_session, no_session   numbers that are no session are refused: 11 for a source or tables that are too large, else 12
+--   choices_flags, choices_again, number_again   choices and the numbers whose bits are flags stand for each other, one
+--                                                for one
+--   session_again                                reading what was written gives the session again
+--   held_in                                      what is read is such a session, whatever the numbers
+--   held_moved, held_entered, held_left          it stays one at another place, with a frame more, with a frame less
+--   good_session, no_session   numbers that are no session are refused: 11 for a source or tables
+--                              that are too large, else 12
 use Rattle.std.specs.Prelude.{if◌then◌else◌}
 use Prim.Native.Nat.{ℕ, zero, suc, ◌≤◌, ◌<◌, ◌/◌, ◌%◌}
 use mathlib.Core.Path.{◌≡◌, refl, sym, ◌∙◌}

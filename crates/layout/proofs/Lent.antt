@@ -1,7 +1,7 @@
 -- Lent numbers on each way through the functions that look at them and write to them one by one. Assumes nothing.
 --   frame_in_at, place_six   the frame in a slot; six stores are one write
---   looking                 the ruleset of `is_stack_in`
---   gating, tables          the rulesets of `gate_alone` and `gate_in`
+--   looking                  the ruleset of `is_stack_in`
+--   gating, tables           the rulesets of `gate_alone` and `gate_in`
 use Prim.Native.Nat.{ℕ, zero, suc, ◌+◌, ◌*◌, ◌/◌, ◌≤◌, ◌<◌}
 use mathlib.Core.Path.{◌≡◌, refl, sym, ap, ◌∙◌}
 use mathlib.Core.Bool.{Bool, true, false, not}

@@ -1,6 +1,6 @@
 -- Lent numbers that a walk writes to: what they stand for after each write. Assumes nothing.
 --   drop_laid, part_laid, ..   what a write leaves of a list before and after it
---   frames_in_laid              a frame written to a slot is the slot's frame
+--   frames_in_laid             a frame written to a slot is the slot's frame
 --   Slotted                    slots were written, the head and what is after the slots were not
 --   rewritten                  with the place written over it, the numbers stand for the session
 use Prim.Native.Nat.{ℕ, zero, suc, ◌+◌, ◌*◌, ◌-◌, ◌≤◌, ◌<◌}

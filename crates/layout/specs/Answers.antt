@@ -1,7 +1,7 @@
 -- An answer and a turn as numbers, for hosts in C and Rust (include/puretakoi.h).
 --   answer_numbers, refusal_in   an answer in five numbers, and its refusal alone, or 0
---   session_after               the session's slice: changed where the call is not refused, and then alone
---   Turned                     a turn written back: the refusal or 0, and what the two slices hold
+--   session_after                the session's slice: changed where the call is not refused, and then alone
+--   Turned                       a turn written back: the refusal or 0, and what the two slices hold
 use Rattle.std.specs.Prelude.{ℕ, List, [], ◌∷◌, ◌≡◌, eqb, if◌then◌else◌}
 use Rattle.byte.specs.Laid.{laid}
 use Rattle.state.specs.declared.Answer.{Answer}

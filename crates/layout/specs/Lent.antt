@@ -1,7 +1,7 @@
 -- A session in numbers that a host lends, where a call works over them: some are written, and the others stay.
 --   place_numbers   the first six: place, depth and marks
 --   slot_at         the three numbers of slot i
---   Rewritten      numbers written over others so that they stand for a session
+--   Rewritten       numbers written over others so that they stand for a session
 use Rattle.std.specs.Prelude.{ℕ, ◌+◌, ◌*◌, ◌<◌, List, [], ◌∷◌, ◌⊎◌, ◌≡◌, length, get_or, take, drop}
 use Rattle.source.specs.declared.Span.{Span}
 use Rattle.state.specs.declared.Session.{Session}

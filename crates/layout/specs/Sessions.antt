@@ -2,9 +2,9 @@
 -- and pool, the choices as flags; then for each of 64 slots its frame's number, and its label's start and length (0, 0 without a label).
 --   frame_number, label_of, slot_numbers, frames_numbers   from a session to its numbers: frames
 --   reading_flag, octal_flag, choices_number, numbers_of   choices, and all
---   label_in, frame_in, frames_in                         from any numbers at all to a session: frames
+--   label_in, frame_in, frames_in                          from any numbers at all to a session: frames
 --   reading_in, octal_in, choices_in, session_in           choices, and all
---   are_choices, is_session                              which numbers are choices, and what a session's are
+--   are_choices, is_session                                which numbers are choices, and what a session's are
 -- What is no frame is read as a text block without a label, and a session with a bit set that is no flag has depth 0: the gate refuses
 -- both (12), and looks at no slot above the depth. `no_session` says so, and `session_again` that reading what was written gives the
 -- session again (proofs/Again.antt).

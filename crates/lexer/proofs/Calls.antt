@@ -1,7 +1,7 @@
 -- A call on each way through it. Assumes nothing.
---   Lent, lent_opened   what an open gate tells
---   step_passes         over numbers and the top frame: a step that only passes bytes
---   steps               the plan is committed
+--   Lent, lent_opened      what an open gate tells
+--   step_passes            over numbers and the top frame: a step that only passes bytes
+--   steps                  the plan is committed
 --   called_shut, open-..   in a session: the gate is shut, or what holds after it
 use Prim.Native.Nat.{ℕ, ◌+◌, ◌/◌, ◌≤◌}
 use mathlib.Core.Path.{◌≡◌, refl, ap, ◌∙◌}

@@ -1,7 +1,7 @@
 -- What an outcome comes to, case by case, and that its change of frame finds its place. Assumes nothing.
---   room, written    what room there is for pieces; an answer, and what is written
---   settled_cases    one walk over the cases of `settled`, for whatever is to be shown of it
---   limited_free     a step that refuses keeps the frame, and one that goes on has passed the limit
+--   room, written   what room there is for pieces; an answer, and what is written
+--   settled_cases   one walk over the cases of `settled`, for whatever is to be shown of it
+--   limited_free    a step that refuses keeps the frame, and one that goes on has passed the limit
 use Prim.Native.Nat.{ℕ}
 use mathlib.Core.Path.{◌≡◌, refl}
 use mathlib.Core.Bool.{Bool, false}

@@ -1,9 +1,9 @@
 -- A step as the code has it: over numbers and the top frame.
---   Place      (source) cursor and marks, and the depth of the mode stack
---   session_at  the session at a place
---   outcome_at  what a call comes to at a place with this frame on top
---   moved_to    what a step comes to that only passes bytes
---   Standing   the cursor and the marks are within their bounds, and the top frame is one
+--   Place        (source) cursor and marks, and the depth of the mode stack
+--   session_at   the session at a place
+--   outcome_at   what a call comes to at a place with this frame on top
+--   moved_to     what a step comes to that only passes bytes
+--   Standing     the cursor and the marks are within their bounds, and the top frame is one
 use Rattle.std.specs.Prelude.{ℕ, Bool, true, List, ◌≡◌, drop}
 use Rattle.source.specs.declared.Span.{Span}
 use Rattle.state.specs.declared.Answer.{Answer}

@@ -1,11 +1,12 @@
 -- What a step or a reading makes of a session and its tables (document 01, "Token list", "Refusal numbers"). Room and layout are told in
 -- crate commit; here the session's part.
---   After       the turn, and what list and pool then hold
---   Gives       what a call gives: its result, and list and pool after it
---   frames_after, depth_after, changed   the mode stack and its depth after a change; a session with another cursor and other marks
---   mark_of, turn_of   a session's cursor and marks; the turn that a next makes of a session
---   refusing    a refusal: session, list and pool are as they were
---   settled     what an outcome comes to
+--   After                                the turn, and what list and pool then hold
+--   Gives                                what a call gives: its result, and list and pool after it
+--   frames_after, depth_after, changed   the mode stack and its depth after a change; a session with another cursor and
+--                                        other marks
+--   mark_of, turn_of                     a session's cursor and marks; the turn that a next makes of a session
+--   refusing                             a refusal: session, list and pool are as they were
+--   settled   what an outcome comes to
 use Rattle.std.specs.Prelude.{ℕ, ◌+◌, ◌-◌, List, ◌≡◌, set}
 use Rattle.source.specs.declared.Span.{Span}
 use Rattle.state.specs.declared.Slot.{Slot}

@@ -1,7 +1,7 @@
 -- The full walk, and that the search finds the same where positions never fall. Assumes nothing.
 --   last_before_last   the full walk gives the last record at or before the byte, or none
---   last_one          there is one such answer
---   rising_found      the search's answer is the full walk's
+--   last_one           there is one such answer
+--   rising_found       the search's answer is the full walk's
 use Prim.Native.Nat.{ℕ, zero, suc, ◌+◌, ◌-◌, ◌/◌, ◌≤◌, ◌<◌}
 use mathlib.Core.Path.{◌≡◌, refl, ap, subst}
 use native.Mathlib.Omega.{arith}

@@ -1,15 +1,16 @@
 -- What document 02 says of a look-up, P3. Assumes nothing.
---   find_looks       at most 17 looks
---   find_agrees      lists of one count that agree on the records looked at get the same looks and record, whatever
---                    their lengths; where its end agrees too, the same answer
---   find_seen        the record that is found was looked at and is at or before the byte; only records that count are
---                    looked at
---   find_rising      on a list whose positions never fall it is the full walk's answer
---   filled_found     so on a list that was filled from empty by calls, each on the last one's session, for every
---                    count up to the mark
+--   find_looks                             at most 17 looks
+--   find_agrees                            lists of one count that agree on the records looked at get the same looks
+--                                          and record, whatever their lengths; where its end agrees too, the same
+--                                          answer
+--   find_seen                              the record that is found was looked at and is at or before the byte; only
+--                                          records that count are looked at
+--   find_rising                            on a list whose positions never fall it is the full walk's answer
+--   filled_found                           so on a list that was filled from empty by calls, each on the last one's
+--                                          session, for every count up to the mark
 --   steps_found, walked_found, fed_found   by steps, by a walk, and by a script in parts
---   cuts_found       however a script is cut, the same is found
---   find_refusals    the refusals are 11 and 12, at the script's beginning
+--   cuts_found                             however a script is cut, the same is found
+--   find_refusals   the refusals are 11 and 12, at the script's beginning
 use Prim.Native.Nat.{ℕ, zero, suc, ◌+◌, ◌*◌, ◌/◌, ◌≤◌, ◌<◌}
 use mathlib.Core.Path.{◌≡◌, refl, sym, ap, ◌∙◌}
 use mathlib.Core.Bool.{Bool, true}

@@ -1,12 +1,12 @@
 -- The full walk over all records, which a look-up is held to (document 02, P3). The positions of records are given by
 -- their numbers.
 --   last_before   of the first so many records the last whose position is at or before the byte
---   IsLast       what that means, record by record: `last_before_last`, `last_one` (proofs/FullWalks.antt) say that
---                the full walk gives it
---   NeverFalls   the positions of the first so many records never fall
---   AsFullWalk   the look-up finds what the full walk finds
+--   IsLast        what that means, record by record: `last_before_last`, `last_one` (proofs/FullWalks.antt) say that
+--                 the full walk gives it
+--   NeverFalls    the positions of the first so many records never fall
+--   AsFullWalk    the look-up finds what the full walk finds
 --   is_seen       what is found was looked at
---   IsReached    what is found is at or before the byte
+--   IsReached     what is found is at or before the byte
 use Rattle.std.specs.Prelude.{ℕ, zero, suc, ◌≤◌, ◌<◌, Bool, true, List, ◌≡◌, leb, length, if◌then◌else◌}
 use Rattle.byte.specs.Refusals.{is_among}
 use Rattle.lookup.specs.declared.Found.{Found}

@@ -1,16 +1,16 @@
 -- Which token is under the finger? (Document 02, P3.) The last record whose position is at or before a byte, looked
 -- for by halving.
---   position_in    a record's position: the fifth of its eight numbers
---   end_in         where the step ended that wrote what was found: the eighth; 0 for nothing (document 02, P4)
---   record_before  the last of so many records; of none, nothing
---   Search        the records looked at, in order, and what was found
---   search_in      a search over the records from low on, before high, one look a round, of at most so many rounds
---   searched      the same with as many rounds as there are records: `searched_on`, `searched_over`
---                 (proofs/Searches.antt) say that it never wants more
---   find_refusal   11 for a list over 65,537 places, then 12 for a count above its places, or 0. The list has so many
---                 numbers
---   told          what a search over a list comes to: what was found, the number of looks, and the end
---   looked_up      the refusal, at the script's beginning; or what the search comes to
+--   position_in     a record's position: the fifth of its eight numbers
+--   end_in          where the step ended that wrote what was found: the eighth; 0 for nothing (document 02, P4)
+--   record_before   the last of so many records; of none, nothing
+--   Search          the records looked at, in order, and what was found
+--   search_in       a search over the records from low on, before high, one look a round, of at most so many rounds
+--   searched        the same with as many rounds as there are records: `searched_on`, `searched_over`
+--                   (proofs/Searches.antt) say that it never wants more
+--   find_refusal    11 for a list over 65,537 places, then 12 for a count above its places, or 0. The list has so many
+--                   numbers
+--   told            what a search over a list comes to: what was found, the number of looks, and the end
+--   looked_up       the refusal, at the script's beginning; or what the search comes to
 -- FullWalks.antt has the full walk. Where positions never fall both find the same; on other lists only this is
 -- promised.
 use Rattle.std.specs.Prelude.{ℕ, zero, suc, ◌+◌, ◌-◌, ◌*◌, ◌/◌, List, [], ◌∷◌, leb, eqb, length, get_or, if◌then◌else◌}

@@ -1,6 +1,6 @@
 -- A step at Scripting that only passes bytes, on each way through the functions that tell it. Assumes nothing.
 --   others, passes_ats, quicks   the rulesets of `is_other`, `passed_at` and `passed`
---   Passes, quick_passes        what such a step tells of the call
+--   Passes, quick_passes         what such a step tells of the call
 use Rattle.std.specs.Prelude.{if◌then◌else◌}
 use Prim.Native.Nat.{ℕ, suc, ◌+◌, ◌-◌, ◌<◌, ◌≤◌}
 use mathlib.Core.Path.{◌≡◌, refl, sym, ◌∙◌}

@@ -1,19 +1,19 @@
 -- What a call reads, in one row; the plan where nothing is left to read; and a step at Scripting that only passes
 -- bytes: it writes nothing and keeps the frame (document 01, "Step").
---   plain_row      a row without a label
+--   plain_row               a row without a label
 --   digit_way, nowdoc_way   a digit begins a number; a nowdoc block, as the session has it read
---   way_outcome    what a row stands for
---   NoLiteral     no quote, no digit and no `.` before a digit stands at a place: Scripting's own rows
+--   way_outcome             what a row stands for
+--   NoLiteral               no quote, no digit and no `.` before a digit stands at a place: Scripting's own rows
 --   scripts, steps, calls   what Scripting, a step and a call come to from a place on
---   Reads         the row stands for this outcome in every session, and its routine can be asked
---   finished_plan  nothing is left
---   is_step        the call is a step
---   is_other       a byte of the table's last row, if no identifier starts with it
---   quick_at       how many bytes such a step passes; 0 where the step is another, or would wait
---   quick         the cursor after such a step; the cursor itself where the call is another
---   quick_on       such steps in a row, at most so many: where they end, and how many are left there
---   PassesAt      so many bytes are passed from a place on, and they lie in the source
---   Near          a cursor's line and column are no larger than its position and one
+--   Reads                   the row stands for this outcome in every session, and its routine can be asked
+--   finished_plan           nothing is left
+--   is_step                 the call is a step
+--   is_other                a byte of the table's last row, if no identifier starts with it
+--   quick_at                how many bytes such a step passes; 0 where the step is another, or would wait
+--   quick                   the cursor after such a step; the cursor itself where the call is another
+--   quick_on                such steps in a row, at most so many: where they end, and how many are left there
+--   PassesAt                so many bytes are passed from a place on, and they lie in the source
+--   Near                    a cursor's line and column are no larger than its position and one
 -- What a quick step tells holds of every session with this frame on top, at the announced end or before it:
 -- `quick_passes` (proofs/Passes.antt).
 use Rattle.std.specs.Prelude.{ℕ, zero, suc, ◌+◌, ◌≤◌, ◌≡◌, Bool, true, false, not, ◌&&◌, List, [], ◌∷◌, eqb, ltb, length, get_or, take, drop, if◌then◌else◌}

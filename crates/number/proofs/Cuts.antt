@@ -1,14 +1,14 @@
 -- A number that is cut out of its text reads the same alone. Assumes nothing.
---   leading_cut        digits at the head of a text, read again, are all of them
+--   leading_cut                                                                 digits at the head of a text, read again, are all of them
 --   signed_digits_cut, exponent_text_cut, power_cut, point_cut, read_tail_cut   so are the parts after whole digits
---   has_power_cut, power_float, makes_float_cut   what makes a float is told of such a part as of the text
---   exponent_text_stops, power_stops, read_tail_stops   such a part does not carry digits on
---   base_of_take        where no base is named, the text's head names none
---   read_text_cut       the text that is read: the same base, the same kind, and it is read whole
---   number_at_ended     a number that is read with more to come is read with the end announced
---   number_read        a number's bytes are the text that is read
---   number_cut         they are read as the same number alone, from any place on
---   number_spelled     and its value is these bytes, spelled
+--   has_power_cut, power_float, makes_float_cut                                 what makes a float is told of such a part as of the text
+--   exponent_text_stops, power_stops, read_tail_stops                           such a part does not carry digits on
+--   base_of_take                                                                where no base is named, the text's head names none
+--   read_text_cut                                                               the text that is read: the same base, the same kind, and it is read whole
+--   number_at_ended                                                             a number that is read with more to come is read with the end announced
+--   number_read                                                                 a number's bytes are the text that is read
+--   number_cut                                                                  they are read as the same number alone, from any place on
+--   number_spelled                                                              and its value is these bytes, spelled
 use Prim.Native.Nat.{ℕ, zero, suc, ◌+◌, ◌-◌}
 use mathlib.Core.Path.{◌≡◌, refl, sym, ap, ◌∙◌}
 use mathlib.Core.Bool.{Bool, true, false, ◌&&◌, false≢true}

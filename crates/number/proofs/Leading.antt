@@ -1,9 +1,9 @@
 -- Digits at the head of a text, with one `_` between two of them: `leading` and `following` beside the manual's `grouped`
 -- and beside the reader's digits. Assumes nothing.
---   leading_lnum     where a digit stands at the head they are what `grouped` tells
---   leading_begins   a text begins with them
+--   leading_lnum                 where a digit stands at the head they are what `grouped` tells
+--   leading_begins               a text begins with them
 --   leading_run, leading_whole   of digits that are there, and of those that nothing carries on
---   digits_place     the reader's digits end where they do
+--   digits_place                 the reader's digits end where they do
 use Prim.Native.Nat.{ℕ, suc, ◌+◌, ◌≤◌}
 use mathlib.Core.Path.{◌≡◌, refl, sym, ap, ◌∙◌}
 use mathlib.Core.Bool.{Bool, true, false, ◌&&◌, ◌||◌, false≢true}

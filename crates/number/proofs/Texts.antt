@@ -1,6 +1,6 @@
 -- With the end announced, what is read of every text, by its kind and its text: `number_text`. Assumes nothing.
---   read_text       the text that is read: a prefix and its digits; or whole digits, and what is read after them
---   number_text    it is what is read
+--   read_text     the text that is read: a prefix and its digits; or whole digits, and what is read after them
+--   number_text   it is what is read
 use Rattle.std.specs.Prelude.{if◌then◌else◌}
 use Prim.Native.Nat.{ℕ, suc, ◌+◌, ◌-◌, ◌≤◌}
 use mathlib.Core.Path.{◌≡◌, refl, ap, ◌∙◌}

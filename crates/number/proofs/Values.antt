@@ -1,9 +1,9 @@
 -- The value of a number: what was read, without `_` and with `E` as `e` outside hexadecimal. With it: where a number
 -- ends, and that at the announced end no reading waits.
---   Taken                  so many bytes from the head on were read, and this is their value
---   number_at_taken         of every number that is read
+--   Taken                                                                                      so many bytes from the head on were read, and this is their value
+--   number_at_taken                                                                            of every number that is read
 --   number_at_value, number_at_inside, number_at_shorter, number_at_value_of, number_at_ends   the same, told apart
---   digit_passes, point_passes   a number whose value has a byte ends after n: one that starts with a digit or a point
+--   digit_passes, point_passes                                                                 a number whose value has a byte ends after n: one that starts with a digit or a point
 -- Assumes nothing.
 use Prim.Native.Nat.{ℕ, suc, ◌+◌, ◌-◌, ◌≤◌, ◌<◌}
 use Prim.Native.Char.{code}

@@ -1,11 +1,12 @@
 -- Demand 3 for numbers: a reading with more announced waits exactly when two continuations of the part get different
 -- answers, and what it tells is every continuation's answer. The two are always the end and a `0`: with the 0 all that
 -- was read is taken.
---   Fits                    an answer with more announced beside the whole text's: the same for every continuation, and
---                           it ends before the part does; or, where it waits, with a 0 after the part a place after it
+--   Fits                            an answer with more announced beside the whole text's: the same for every
+--                                   continuation, and it ends before the part does; or, where it waits, with a 0 after
+--                                   the part a place after it
 --   fits_if, fits_along, fits_map   a choice by a byte that is there; other words; bytes before it
---   number_at_fits           of every number
---   number_waits            demand 3
+--   number_at_fits                  of every number
+--   number_waits   demand 3
 -- Assumes nothing.
 use Rattle.std.specs.Prelude.{if◌then◌else◌}
 use Prim.Native.Nat.{ℕ, suc, ◌+◌, ◌-◌, ◌≤◌, ◌<◌}

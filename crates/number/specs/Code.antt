@@ -1,8 +1,8 @@
 -- What the parts of the code tell of a reading: where it ends, and its kind, but no value.
 --   place_of, extent_of   digits and a number told so
---   closing_extent       a number that ends where digits do
+--   closing_extent        a number that ends where digits do
 --   digit_width, WidthAt how many bytes the next digit takes, after another: 2 with a `_` before it, 0 where none stands
---   stopped             digits that end at a byte that is none: a `_` that the part ends with may still stand between two
+--   stopped   digits that end at a byte that is none: a `_` that the part ends with may still stand between two
 use Rattle.std.specs.Prelude.{ℕ, ◌+◌, ◌≤◌, Bool, ◌&&◌, List, [], ◌∷◌, ◌≡◌, length, drop, if◌then◌else◌}
 use Rattle.byte.specs.Words.{◌is◌}
 use Rattle.number.specs.declared.Base.{Base}

@@ -1,21 +1,21 @@
 -- Number literals as the PHP manual has them ("Integers" and "Floating point numbers", the formal structure at the end of
 -- "Syntax"), and what the reader makes of a text beside them.
 -- Written without the manual's pages at hand (docs/DECISIONS.md, 32).
---   grouped            [d]*(_[d]+)*, where d are the bytes that pass a test; in front, or after a digit
---   is_lnum, maybe_lnum  LNUM, [0-9]+(_[0-9]+)*; the same or nothing
---   IntegerLiteral     decimal, hexadecimal, octal, binary
+--   grouped               [d]*(_[d]+)*, where d are the bytes that pass a test; in front, or after a digit
+--   is_lnum, maybe_lnum   LNUM, [0-9]+(_[0-9]+)*; the same or nothing
+--   IntegerLiteral        decimal, hexadecimal, octal, binary
 --   Dnum, FloatLiteral DNUM; DNUM or EXPONENT_DNUM
---   closes             what follows a literal does not carry it on: the announced end, or a byte of no identifier and no point
+--   closes   what follows a literal does not carry it on: the announced end, or a byte of no identifier and no point
 --   LiteralOf, Longest a literal of a kind; the longest literal that a text begins with
 --   leading, following digits with one `_` between two of them, as many as stand at the head; what follows them
 --   longest_text, kind_of   a text's longest literal, and its kind
---   begins_number       a text that begins with a literal
+--   begins_number           a text that begins with a literal
 -- What is read of a text is its longest literal, but for these three, and where no literal begins (stray_text):
---   is_bare_prefix       0x, 0o or 0b without a digit
---   has_bare_exponent    a point, then an exponent without a digit
---   is_loose_octal       a 0 and decimal digits that are no octal of the manual: 08, 0129, 0_1
+--   is_bare_prefix      0x, 0o or 0b without a digit
+--   has_bare_exponent   a point, then an exponent without a digit
+--   is_loose_octal      a 0 and decimal digits that are no octal of the manual: 08, 0129, 0_1
 --   is_regular          none of these
---   ReadAs             what is read of a text with the end announced: a kind, a text and its value
+--   ReadAs              what is read of a text with the end announced: a kind, a text and its value
 -- `longest_literal`, `no_literal`, `longest_one` (proofs/Longest.antt): `longest_text` is the longest literal, where no number
 -- begins there is none, and there are no two. `number_longest`, `number_bare_prefix`, `number_bare_exponent`,
 -- `number_loose_octal`, `number-none` (proofs/Grammar.antt): what is read of every text. `integer_read`, `Float-read`

@@ -1,11 +1,12 @@
 -- Number literals as the Rust reads them (document 01, "Number", sheets i, j, k), told over the rest of the text.
---   is_one, base_of          the digits of a base; the base that a literal's first two bytes name
---   digits, digits_more     digits with one `_` between two of them: the bytes of the value, and the place after
+--   is_one, base_of              the digits of a base; the base that a literal's first two bytes name
+--   digits, digits_more          digits with one `_` between two of them: the bytes of the value, and the place after
 --   signed, exponent, fraction   after the `e`; after a point and its digits; after the point
---   tail, decimal          after whole digits; a decimal literal
---   number_at               the number at the head of a text: its kind, its value and the place after it
---   scanned                what a scan tells of it: the value by its length
---   spelled, value_of       a literal's text as a value has it: no `_`, and `e` for `E` (proofs/Values.antt: it is the value)
+--   tail, decimal                after whole digits; a decimal literal
+--   number_at                    the number at the head of a text: its kind, its value and the place after it
+--   scanned                      what a scan tells of it: the value by its length
+--   spelled, value_of            a literal's text as a value has it: no `_`, and `e` for `E` (proofs/Values.antt: it is
+--                                the value)
 -- n is the position of the text's head. `end`: the end is announced; with more to come, what is not yet known is a wait.
 use Rattle.std.specs.Prelude.{ℕ, suc, ◌-◌, Bool, true, false, ◌&&◌, ◌||◌, List, [], ◌∷◌, ◌++◌, ◌≡◌, refl, length, take, drop, if◌then◌else◌}
 use Prim.Native.Char.{code}

@@ -1,12 +1,14 @@
 -- Literals and comments stand as they are written: the text from the token's place up to the place after, read alone,
 -- gives the same token. Assumes nothing.
---   PiecesWritten, OutcomeWritten   a literal or a comment is told alone, bears the place n and stands as written
---   others_written                  of what tells no literal nothing is asked
+--   PiecesWritten, OutcomeWritten                 a literal or a comment is told alone, bears the place n and stands as
+--                                                 written
+--   others_written                                of what tells no literal nothing is asked
 --   single_as, double_as, number_as, comment_as   what is asked of each kind
---   single_quoting, double_quoting  a closed literal, cut out, reads the same
---   step_written, reading_written   a quoted literal: a step's text has its opening quote, a reading's has not
---   point_two, numbered_written     a number; one that begins with a point and a digit has both
---   comment_written                 a comment
+--   single_quoting, double_quoting                a closed literal, cut out, reads the same
+--   step_written, reading_written                 a quoted literal: a step's text has its opening quote, a reading's
+--                                                 has not
+--   point_two, numbered_written   a number; one that begins with a point and a digit has both
+--   comment_written               a comment
 use Prim.Native.Nat.{ℕ, zero, suc, ◌+◌, ◌-◌, ◌≤◌, ◌<◌}
 use Prim.Native.Char.{Char, code}
 use mathlib.Core.Path.{◌≡◌, refl, sym, ap, ◌∙◌}

@@ -1,10 +1,10 @@
 -- Demand 3 for outcomes: what each mode has to show, and what comes of it. Assumes nothing.
---   closed         an outcome where no frame may be entered; the limit of 64 frames leaves apart what is apart so
---   Splits         two continuations get outcomes that are apart so
---   Demands        what is told stays; what is not has two continuations; with the end announced all is told
---   Answers        the same at one part, so that a choice goes way by way
---   limited_waits  a mode's demand 3 at each depth, with the limit of 64 frames
---   waits_along    demand 3 of the rest of a text is demand 3 of the text
+--   closed          an outcome where no frame may be entered; the limit of 64 frames leaves apart what is apart so
+--   Splits          two continuations get outcomes that are apart so
+--   Demands         what is told stays; what is not has two continuations; with the end announced all is told
+--   Answers         the same at one part, so that a choice goes way by way
+--   limited_waits   a mode's demand 3 at each depth, with the limit of 64 frames
+--   waits_along     demand 3 of the rest of a text is demand 3 of the text
 use Rattle.std.specs.Prelude.{if◌then◌else◌}
 use mathlib.Core.Path.{◌≡◌, refl, sym, ap, ◌∙◌}
 use mathlib.Core.Bool.{Bool, true, false}

@@ -1,5 +1,5 @@
 -- Demand 3 for runs of identifier bytes and for the modes LookingForVarname, LookingForProperty and VarOffset. Assumes nothing.
---   named_stays, named_cut, named_told   a run that is told stays; one that is not goes on after the part; at the end it is told
+--   named_stays, named_cut, named_told                                              a run that is told stays; one that is not goes on after the part; at the end it is told
 --   looking_for_varname_demands, looking_for_property_demands, var_offset_demands   the modes, from any position on
 use Rattle.std.specs.Prelude.{if◌then◌else◌}
 use mathlib.Core.Path.{◌≡◌, refl, ap, ◌∙◌}

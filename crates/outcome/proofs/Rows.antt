@@ -1,8 +1,8 @@
 -- A text block opens exactly at document 01's row: `<<<`, a label of 1 to 64 bytes, in quotes for a nowdoc, and LF or CRLF. Assumes nothing.
---   RowAt          the row in a text that starts at n: where its label stands, and where its text starts
---   row_opens      at such a row a block opens
---   opens_row      where a block opens, there is such a row
---   opening_row    so each is said by the other
+--   RowAt         the row in a text that starts at n: where its label stands, and where its text starts
+--   row_opens     at such a row a block opens
+--   opens_row     where a block opens, there is such a row
+--   opening_row   so each is said by the other
 use Rattle.std.specs.Prelude.{if◌then◌else◌}
 use Prim.Native.Nat.{ℕ, suc, ◌+◌, ◌≤◌}
 use mathlib.Core.Path.{◌≡◌, refl, subst, ◌∙◌}

@@ -1,7 +1,7 @@
 -- Demand 3 for a step and the three readings, over a session. Assumes nothing.
---   call_waits          with more announced a call waits exactly when two continuations of the source get different
---                       outcomes; else every longer source gets the same
---   call_never_waits    with the end announced no call waits
+--   call_waits         with more announced a call waits exactly when two continuations of the source get different
+--                      outcomes; else every longer source gets the same
+--   call_never_waits   with the end announced no call waits
 use mathlib.Core.Path.{◌≡◌, refl}
 use mathlib.Core.Bool.{Bool, true, false}
 use mathlib.Core.List.{List, [], ◌++◌}

@@ -1,9 +1,9 @@
 -- Every outcome of a step and of a reading lies between the cursor and the end of the source; so positions never fall,
 -- and a step has no more value bytes than it passes. The mode stack stays good, a step that is done goes on, at most
 -- two pieces are told, and what is refused is one of the call's own refusals.
---   call_numbers    what each call may refuse of itself
---   framed_ways    of any frame's routine
---   call_at_ways, call_ways   of the step and the three readings; `call_inside` says where it lies
+--   call_numbers                  what each call may refuse of itself
+--   framed_ways                   of any frame's routine
+--   call_at_ways, call_ways       of the step and the three readings; `call_inside` says where it lies
 --   Room, Limited, limited_room   with the limit of 64 frames there is room for the frame that is entered
 -- Assumes nothing.
 use Prim.Native.Nat.{ℕ, ◌+◌, ◌≤◌, ◌<◌}

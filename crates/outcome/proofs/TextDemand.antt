@@ -1,5 +1,5 @@
 -- Demand 3 for what is made of a text and a number. Assumes nothing.
---   text_mode_demands, nowdoc_demands    the text modes, from any position on
+--   text_mode_demands, nowdoc_demands   the text modes, from any position on
 --   literal_demands, numbered_demands   the readings
 -- A wait's two continuations are the reading's own, and the outcome tells them apart: of a text by its ending, of a number
 -- altogether.

@@ -1,10 +1,10 @@
 -- The literals and comments of every call stand as they are written: a row of Scripting's table that begins one is the
 -- row of that text alone, and the other frames tell none. Assumes nothing.
---   single_row, .., hash_row      the rows that begin a literal or a comment
---   scripting_written             the table, row by row
---   framed_written                any frame
---   call_written                  the step and the three readings
---   outcome_written               in a session, with the limit of 64 frames
+--   single_row, .., hash_row   the rows that begin a literal or a comment
+--   scripting_written          the table, row by row
+--   framed_written             any frame
+--   call_written               the step and the three readings
+--   outcome_written            in a session, with the limit of 64 frames
 use Rattle.std.specs.Prelude.{if◌then◌else◌}
 use Prim.Native.Nat.{ℕ, suc, ◌-◌, ◌≤◌, ◌<◌}
 use Prim.Native.Char.{code}

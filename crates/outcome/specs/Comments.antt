@@ -1,11 +1,11 @@
 -- Comments at Scripting (document 02, P2). `//` and `#` run up to LF, `?>` or the end, none of which is taken; `#[` begins none. `/*` runs
 -- through the first `*/` after both its bytes. A comment is a token: its raw bytes are the value, its first byte bears the span.
 --   ends          whether a comment has its end at this byte, with the rest after it: LF or `?>`; `*/`
---   end_taken      how many bytes of its end a comment takes
---   comment_end    how many bytes come before its end, k of them passed
+--   end_taken     how many bytes of its end a comment takes
+--   comment_end   how many bytes come before its end, k of them passed
 --   endless       a comment without an end: `//` and `#` are over with the source, `/*` is refusal 1 there
 --   commented     the token, or `endless`, or wait
---   comment_at     the comment at n, k bytes of which were passed: xs starts with it, and `rest` is after those
+--   comment_at    the comment at n, k bytes of which were passed: xs starts with it, and `rest` is after those
 --   slash, hash   what a `/` or a `#` at n begins: xs starts with it, and `rest` is after it
 -- `end` says that the text is all there.
 use Rattle.std.specs.Prelude.{ℕ, suc, ◌+◌, Bool, false, ◌&&◌, ◌||◌, List, [], ◌∷◌, eqb, length, if◌then◌else◌}

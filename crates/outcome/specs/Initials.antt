@@ -1,8 +1,9 @@
 -- The mode Initial (document 01, "Rules easily misread"): inline text up to the first tag. The tags: `<?php` in any letter case, then
 -- `<?=`, then `<?`. With no tag left InlineHtml is written even when empty, and the mode stays.
 --   full_tag, open_tag, tag   after `<?` and letters of `php`; after `<?`; after `<`
---   tagged                  the first tag from n on
---   initial                 what contracts cite: the text before the tag, if there is some, and the tag with its own span
+--   tagged                    the first tag from n on
+--   initial                   what contracts cite: the text before the tag, if there is some, and the tag with its own
+--                             span
 -- `end` says that the text is all there.
 use Rattle.std.specs.Prelude.{ℕ, suc, ◌+◌, ◌-◌, Bool, true, false, List, [], ◌∷◌, ◌++◌, ◌≡◌, refl, eqb, length, take, drop, if◌then◌else◌}
 use Rattle.byte.specs.Words.{◌is◌, ◌from◌to◌, bytes}

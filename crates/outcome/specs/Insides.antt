@@ -1,7 +1,8 @@
 -- Where an outcome lies between the cursor n and the end of the source, hi; every one of a step does (`call_inside`).
---   PieceInside, AllInside   each piece bears a place from the one before on, up to the place after; its detail is no larger
+--   PieceInside, AllInside   each piece bears a place from the one before on, up to the place after; its detail is no
+--                            larger
 --   ToldInside               the place after is not before the cursor; there are no more value bytes than were passed
---   Inside                   an outcome; a refusal is not the wait, and its place is not before the cursor
+--   Inside   an outcome; a refusal is not the wait, and its place is not before the cursor
 use Rattle.std.specs.Prelude.{ℕ, ◌+◌, ◌≤◌, List, [], ◌∷◌, false, ◌≡◌, eqb, length}
 use Rattle.byte.specs.Refusals.{wait}
 use Rattle.outcome.specs.Outcomes.{Piece, Outcome, values}

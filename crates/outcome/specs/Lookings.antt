@@ -1,8 +1,9 @@
 -- The modes LookingForVarname, LookingForProperty and VarOffset (document 01, "Modes", "Step", refusal 5), and runs of identifier bytes.
---   named                how many identifier bytes come, where so many are passed
+--   named                  how many identifier bytes come, where so many are passed
 --   looking_for_varname    after `${`: a name before `[` or `}` is an Identifier; the top becomes Scripting in any case
---   looking_for_property   after a variable: `?->`, `->`, or a name, with which the frame is left; else 5, at the cursor
---   var_offset            in `$a[..]`: one byte is passed, and at `]` the frame is left; nothing left is 1
+--   looking_for_property   after a variable: `?->`, `->`, or a name, with which the frame is left; else 5, at the
+--                          cursor
+--   var_offset   in `$a[..]`: one byte is passed, and at `]` the frame is left; nothing left is 1
 -- n is the position of the text's head, `end` says that the text is all there.
 use Rattle.std.specs.Prelude.{ℕ, suc, ◌+◌, Bool, false, ◌||◌, List, [], ◌∷◌, take, drop, if◌then◌else◌}
 use Rattle.byte.specs.Words.{◌is◌}

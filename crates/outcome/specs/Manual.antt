@@ -1,10 +1,11 @@
 -- Comments as the PHP manual tells them ("Basic syntax": "Comments"). Held line by line to the facts of the manual that are known, not to
 -- its pages (docs/DECISIONS.md, 107). The text is all there.
---   ends_line       where a line, or the block of PHP code, ends: at LF, at `?>`, and at a CR if `returns` says so
---   line_length     how many bytes come before that
---   closed_length   how many bytes come up to the first `*/`, and through it; or it does not come
---   Comment, comment_of   the comment that a text begins with: so many bytes; or one that is not closed; or none
---   outcome_of      what a comment is in the words of the steps
+--   ends_line                   where a line, or the block of PHP code, ends: at LF, at `?>`, and at a CR if `returns`
+--                               says so
+--   line_length                 how many bytes come before that
+--   closed_length               how many bytes come up to the first `*/`, and through it; or it does not come
+--   Comment, comment_of         the comment that a text begins with: so many bytes; or one that is not closed; or none
+--   outcome_of                  what a comment is in the words of the steps
 --   is_no_return, opens_block   no CR; a text that begins with `/*`
 -- The manual does not say whether a CR ends a line; to PHP it does, to document 02 it does not. `comment_whole`, `comment_manual` and
 -- `comment_returns` (proofs/Manual.antt) join the step at Scripting to these.

@@ -1,13 +1,14 @@
 -- The opening of a text block (document 01, the row `<<<'L'` or `<<<L`, then LF or CRLF): L is an identifier of 1 to 64 bytes, and
 -- its run is looked at no further than the 65th. n is the position of the text's head, `end` says that the text is all there.
 --   doc_break, line_feed   after the label: LF, or CR and LF
---   doc_quote             after a label in quotes
---   longest_label         how many bytes a label may have
+--   doc_quote              after a label in quotes
+--   longest_label          how many bytes a label may have
 --   doc_name, doc_start    in the label, so long already; at its first byte
---   doc_label             after `<<<`
---   opening              after the first `<`
---   opened               what contracts cite: the step at that `<`
---   OpeningRow           the row itself, as a text; `opening_row` (proofs/Rows.antt) says that a block opens exactly at such a text
+--   doc_label              after `<<<`
+--   opening                after the first `<`
+--   opened                 what contracts cite: the step at that `<`
+--   OpeningRow             the row itself, as a text; `opening_row` (proofs/Rows.antt) says that a block opens exactly
+--                          at such a text
 use Rattle.std.specs.Prelude.{ℕ, suc, ◌≤◌, Bool, true, false, ◌&&◌, List, [], ◌∷◌, ◌++◌, ◌⊎◌, ◌≡◌, refl, ltb, length, if◌then◌else◌}
 use Rattle.byte.specs.Words.{◌is◌, every, bytes}
 use Rattle.byte.specs.Bytes.{is_start, is_identifier, is_letter, is_digit}

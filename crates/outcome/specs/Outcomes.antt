@@ -1,11 +1,11 @@
 -- What a step comes to with unlimited tables and script length (document 01, "Step", "Refusal numbers").
---   Piece      a token that is written: kind, detail, the place whose span it bears, and its value
---   Outcome    what is written, the place after, the change of frame, and whether nothing is left to read;
---              or a refusal and the place whose span it bears; or wait
---   values     the value bytes of all pieces, one after another
---   goes       nothing is written
---   ending     nothing is left of the text: this at the announced end, else wait
---   limited    the 64-frame limit: refusal 9, at the cursor n
+--   Piece     a token that is written: kind, detail, the place whose span it bears, and its value
+--   Outcome   what is written, the place after, the change of frame, and whether nothing is left to read;
+--             or a refusal and the place whose span it bears; or wait
+--   values    the value bytes of all pieces, one after another
+--   goes      nothing is written
+--   ending    nothing is left of the text: this at the announced end, else wait
+--   limited   the 64-frame limit: refusal 9, at the cursor n
 use Rattle.std.specs.Prelude.{ℕ, Bool, false, List, [], ◌∷◌, ◌++◌, ltb, if◌then◌else◌}
 use Rattle.byte.specs.Refusals.{stack_full}
 use Rattle.outcome.specs.declared.Change.{Change}

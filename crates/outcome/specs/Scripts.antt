@@ -1,9 +1,9 @@
 -- The mode Scripting: document 01's table, row by row, with the comments of document 02's P2 before its last row. n is the position of the
 -- text's head, `end` says that the text is all there; `octals` is the session's choice.
---   point        `.` and a digit: a number
---   word         an identifier start: the whole run is passed
---   close_tag     `?>`: passed, and the top becomes Initial
---   scripting    what contracts cite
+--   point       `.` and a digit: a number
+--   word        an identifier start: the whole run is passed
+--   close_tag   `?>`: passed, and the top becomes Initial
+--   scripting   what contracts cite
 use Rattle.std.specs.Prelude.{ℕ, suc, ◌+◌, Bool, true, List, [], ◌∷◌, ltb, if◌then◌else◌}
 use Prim.Native.Char.{code}
 use Rattle.byte.specs.Words.{◌is◌}

@@ -1,10 +1,10 @@
 -- What a step and the three readings come to (document 01, "Step"), with unlimited tables and script length.
---   top_frame        the session's top frame
---   framed          the top frame's routine, from the position n on, where xs is what is left
---   scripted        a reading asks for Scripting on top; else it is refusal 10, at the cursor
---   call_at          the step, or a reading, whose token bears the span at the cursor
---   call_outcome     what contracts cite: the same in a session, with the 64-frame limit
---   step_outcome     the step's
+--   top_frame      the session's top frame
+--   framed         the top frame's routine, from the position n on, where xs is what is left
+--   scripted       a reading asks for Scripting on top; else it is refusal 10, at the cursor
+--   call_at        the step, or a reading, whose token bears the span at the cursor
+--   call_outcome   what contracts cite: the same in a session, with the 64-frame limit
+--   step_outcome   the step's
 use Rattle.std.specs.Prelude.{ℕ, ◌-◌, Bool, List, [], get_or, drop, if◌then◌else◌}
 use Rattle.byte.specs.Refusals.{out_of_place}
 use Rattle.state.specs.declared.Frame.{Frame}

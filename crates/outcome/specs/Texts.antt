@@ -1,11 +1,14 @@
 -- What a reading of a text or a number comes to in a step (document 01, "Rules easily misread", "Token list").
---   slice        the bytes of xs, which starts at n, from one place up to another
---   doc_kind      the kind of an EndDocString by its indentation
---   stop_kind, stop_detail, stop_change   what ends a text in a mode: the token's kind and detail, and the change of frame
---   texted       a mode's text: its part, if it is not empty, and the token after it; both bear the span where the call began
---   literal      a quoted string: closed, it is one token; before an interpolation its part, empty or not
---   text_read     either of them, by its mode
---   numbered     a number
+--   slice                                 the bytes of xs, which starts at n, from one place up to another
+--   doc_kind                              the kind of an EndDocString by its indentation
+--   stop_kind, stop_detail, stop_change   what ends a text in a mode: the token's kind and detail, and the change of
+--                                         frame
+--   texted                                a mode's text: its part, if it is not empty, and the token after it; both
+--                                         bear the span where the call began
+--   literal                               a quoted string: closed, it is one token; before an interpolation its part,
+--                                         empty or not
+--   text_read   either of them, by its mode
+--   numbered    a number
 use Rattle.std.specs.Prelude.{ℕ, ◌-◌, Bool, true, false, List, [], ◌∷◌, ◌++◌, take, drop, if◌then◌else◌}
 use Rattle.state.specs.declared.Frame.{Frame}
 use Rattle.token.specs.Kinds.{string_part, dollar_left_brace, left_brace, double_quote, backtick, variable}

@@ -4,8 +4,8 @@
 --   is_closed    a text whose last byte is this quote
 --   is_opened    a text that begins with this quote and is then closed by another one like it
 --   is_quoted    both for a step; the public readings begin after the opening quote
---   AsWritten   a call of this kind that has the text alone, with the end announced and octal escapes read by the same
---               choice, gives the same token and passes the whole text; its quotes, its digits, its bytes are in it
+--   AsWritten    a call of this kind that has the text alone, with the end announced and octal escapes read by the same
+--                choice, gives the same token and passes the whole text; its quotes, its digits, its bytes are in it
 -- `call_written` (proofs/Written.antt) says that every call's literals and comments are.
 use Rattle.std.specs.Prelude.{ℕ, Bool, true, false, ◌&&◌, ◌||◌, List, [], ◌∷◌, ◌≡◌, eqb, length}
 use Prim.Native.Char.{Char}

@@ -1,14 +1,15 @@
 -- What a plan stands for: the outcome that it makes of a source.
---   made_by, made      the value of a draft
---   drafts_of          the drafts that count, in order
---   piece_of, pieces_of, outcome_of   a draft, drafts and a plan in the outcome's words
---   Able, Ready       a draft whose value can be written: its length is the value's, and its ranges lie within the source;
---                     a value that is held stands at the start of the scratch part
+--   made_by, made                      the value of a draft
+--   drafts_of                          the drafts that count, in order
+--   piece_of, pieces_of, outcome_of    a draft, drafts and a plan in the outcome's words
+--   Able, Ready                        a draft whose value can be written: its length is the value's, and its ranges
+--                                      lie within the source; a value that is held stands at the start of the scratch
+--                                      part
 --   AllReady, DraftsReady, PlanReady   the same of drafts, and of a plan
---   PlansIn           the plan makes this outcome, and can be written with this scratch part
---   Plans             the same without one: what the contract of each routine says that fills none
---   Here              a place of a source that is not too long; its end is one
---   Named             a label's range within the source
+--   PlansIn                            the plan makes this outcome, and can be written with this scratch part
+--   Plans                              the same without one: what the contract of each routine says that fills none
+--   Here                               a place of a source that is not too long; its end is one
+--   Named   a label's range within the source
 use Rattle.std.specs.Prelude.{ℕ, ◌+◌, ◌-◌, ◌≤◌, Bool, false, List, [], ◌∷◌, ◌≡◌, eqb, length, take, drop, if◌then◌else◌}
 use Rattle.state.specs.declared.Label.{Label}
 use Rattle.state.specs.Bounds.{label_bytes}

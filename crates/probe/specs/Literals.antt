@@ -1,7 +1,9 @@
 -- The number reading as a host in C or Rust asks for it: by numbers alone.
---   literal_number, counted   its kind, and a reading without its bytes in seven numbers
---   asked_number              the reading asked for; 11 for a source over 65,536 bytes, 10 for a position past the end
---   number_refusal, number_written, NumberValued   its value for a part: why it is not written, and what the part holds then
+--   literal_number, counted                        its kind, and a reading without its bytes in seven numbers
+--   asked_number                                   the reading asked for; 11 for a source over 65,536 bytes, 10 for a
+--                                                  position past the end
+--   number_refusal, number_written, NumberValued   its value for a part: why it is not written, and what the part holds
+--                                                  then
 use Rattle.std.specs.Prelude.{ℕ, List, ◌≡◌, leb, length, drop, if◌then◌else◌}
 use Rattle.byte.specs.Words.{announced}
 use Rattle.byte.specs.Laid.{laid}

@@ -1,12 +1,12 @@
 -- The readings one at a time, as a host in C or Rust asks for them: by numbers alone.
---   mode_of       the mode of a number, 0 to 8; from 6 on, octal escapes are read as the manual has them
---   announced    whether the end is announced
---   asked        the reading asked for; what can't be taken is refused by its number: 11 for a source over 65,536 bytes, 10 for a
---                mode over 8, a position past the end or a label over 64 bytes
+--   mode_of                  the mode of a number, 0 to 8; from 6 on, octal escapes are read as the manual has them
+--   announced                whether the end is announced
+--   asked                    the reading asked for; what can't be taken is refused by its number: 11 for a source over
+--                            65,536 bytes, 10 for a mode over 8, a position past the end or a label over 64 bytes
 --   stop_number, amount_of   what ended a text, and the amount of a label's indentation
---   numbered     a reading without its bytes, in seven numbers
---   value_refusal, written  a value for a part with so much room: why it is not written, and what the part holds then
---   Valued       both
+--   numbered                 a reading without its bytes, in seven numbers
+--   value_refusal, written   a value for a part with so much room: why it is not written, and what the part holds then
+--   Valued                   both
 use Rattle.std.specs.Prelude.{ℕ, List, ◌≡◌, leb, eqb, length, drop, if◌then◌else◌}
 use Rattle.byte.specs.Words.{announced}
 use Rattle.byte.specs.Laid.{laid}

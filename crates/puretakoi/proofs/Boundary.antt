@@ -1,8 +1,10 @@
 -- What a host can rely on, beyond what each call says. Assumes nothing.
---   call_refused             a call that is refused leaves session, list and pool as they were
---   walk_still               a walk of no step, or whose first step is refused, leaves session, list and pool as they were
+--   call_refused                        a call that is refused leaves session, list and pool as they were
+--   walk_still                          a walk of no step, or whose first step is refused, leaves session, list and
+--                                       pool as they were
 --   crossed_one, begun_one, filed_one   two results that meet one statement are equal
---   walked_one               and of a walk or one call, all but the numbers of the session, which stand for the same session
+--   walked_one   and of a walk or one call, all but the numbers of the session, which stand for
+--                the same session
 -- That reading what was written gives the session again, and that numbers which are no session are refused, is proved in crate layout.
 use Prim.Native.Nat.{ℕ}
 use mathlib.Core.Path.{◌≡◌, refl, sym, ap, ◌∙◌}

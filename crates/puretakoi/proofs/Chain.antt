@@ -1,9 +1,12 @@
 -- What a host's numbers are read as after a call is the session of the definition, refused or not: so calls in a row are steps in a
 -- row. Assumes nothing.
---   turns_cross, reading_crosses, step_crosses, walk_crosses   after a call and the steps after it, one call, a step, a walk
---   walk_tells                                                 a sixth number of a walk's answer: how many steps were done
+--   turns_cross, reading_crosses, step_crosses, walk_crosses   after a call and the steps after it, one call, a step, a
+--                                                              walk
+--   walk_tells                                                 a sixth number of a walk's answer: how many steps were
+--                                                              done
 --   skip_crosses, push_crosses, pop_crosses                    after skip, push and pop
---   Stands, turns_stands, turns_in_a_row   all that a host then has, and after two calls, the second on what the first left
+--   Stands, turns_stands, turns_in_a_row   all that a host then has, and after two calls, the
+--                                          second on what the first left
 --   steps_in_a_row                         the same of two steps
 use Prim.Native.Nat.{ℕ, ◌+◌, ◌≤◌}
 use mathlib.Core.Path.{◌≡◌, refl, sym, ap, subst, ◌∙◌}

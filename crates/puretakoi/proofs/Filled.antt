@@ -1,10 +1,10 @@
 -- The list of a host that was filled from empty, over the host's own numbers: every call keeps it so, refused or not,
 -- and `puretakoi_find` gives there what a full walk finds. Assumes nothing.
---   begun_filled, mark_filled             after `puretakoi_fresh`, and wherever the token mark is 0
---   lent_filled                           where another list and pool are lent
+--   begun_filled, mark_filled                     after `puretakoi_fresh`, and wherever the token mark is 0
+--   lent_filled                                   where another list and pool are lent
 --   turns_filled, call_filled, host_walk_filled   after a call and the steps after it, a step or reading, a walk
---   skip_filled, push_filled, pop_filled  after skip, push and pop
---   finds_filled                          what `puretakoi_find` then gives
+--   skip_filled, push_filled, pop_filled          after skip, push and pop
+--   finds_filled                                  what `puretakoi_find` then gives
 use Prim.Native.Nat.{ℕ, ◌*◌, ◌/◌, ◌≤◌}
 use mathlib.Core.Path.{◌≡◌, refl, sym, ap, ◌∙◌}
 use mathlib.Core.Bool.{Bool, true, false}

@@ -3,7 +3,7 @@
 --   host_call, host_walk      the step and the three readings; the walk
 --   host_skip, host_push, host_pop
 --   fresh_which, past_which, file_which, list_which   the calls without a turn
---   which_most                so it is 13 at most
+--   which_most                                        so it is 13 at most
 use Rattle.std.specs.Prelude.{if◌then◌else◌}
 use Prim.Native.Nat.{ℕ, ◌/◌, ◌%◌, ◌≤◌}
 use mathlib.Core.Path.{◌≡◌, refl, sym, ◌∙◌}

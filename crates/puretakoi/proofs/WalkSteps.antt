@@ -1,7 +1,8 @@
 -- A walk in one call gives what its steps give, one call each. Assumes nothing.
---   Shows, stands_shows     what a host has after a call, but for the sixth number of the answer, which counts the calls
+--   Shows, stands_shows     what a host has after a call, but for the sixth number of the answer, which counts the
+--                           calls
 --   DoneSteps, steps_here   steps in a row that are all told done, and where they lead
---   walk_steps              a walk and its steps
+--   walk_steps   a walk and its steps
 use Rattle.std.specs.Prelude.{if◌then◌else◌}
 use Prim.Native.Nat.{ℕ, ◌+◌, ◌-◌, ◌<◌}
 use mathlib.Core.Path.{◌≡◌, refl, sym, ap, subst, ◌∙◌}

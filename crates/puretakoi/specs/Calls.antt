@@ -1,13 +1,14 @@
 -- What a host's call gives (include/puretakoi.h): the numbers stand for a session, the call of crate walk or state is made, and its answer
 -- and its session are written as numbers.
---   are_long               a session has its 199 numbers and an answer its 5; else 10, and nothing is written
---   Crossed               the refusal or 0, and what the slices of session and answer hold, for a call with a turn
---   told_numbers           an answer's five numbers and, where the slice has a sixth, how many calls were done
---   WalkCalled            a call and steps after it, with list and pool: where none is wanted, or the first is refused, the session's
---                         numbers stay; else they stand for the session after it, and a slot that no step changed keeps its own
+--   are_long                  a session has its 199 numbers and an answer its 5; else 10, and nothing is written
+--   Crossed                   the refusal or 0, and what the slices of session and answer hold, for a call with a turn
+--   told_numbers              an answer's five numbers and, where the slice has a sixth, how many calls were done
+--   WalkCalled                a call and steps after it, with list and pool: where none is wanted, or the first is
+--                             refused, the session's numbers stay; else they stand for the session after it, and a slot
+--                             that no step changed keeps its own
 --   Answered, Turns, Walked   of one call, of a call and steps after it, and of steps
---   fresh_refusal, Begun   a fresh session
---   Filed                 a record file or a list: the refusal or 0, and what the lent slice holds
+--   fresh_refusal, Begun      a fresh session
+--   Filed   a record file or a list: the refusal or 0, and what the lent slice holds
 use Rattle.std.specs.Prelude.{ℕ, Bool, true, false, ◌&&◌, List, [], ◌∷◌, ◌++◌, ◌≡◌, leb, eqb, length, if◌then◌else◌}
 use Rattle.byte.specs.Words.{announced}
 use Rattle.byte.specs.Laid.{laid}

@@ -1,8 +1,8 @@
 -- What a host finds under the finger (include/puretakoi.h), as three numbers, or four.
---   found_numbers    whether a record was found, its number, and how many records were looked at
---   found_ended      the same and, where the slice has a fourth number, where the step ended that wrote it
---   finds_number     the refusal of a look-up, or 0
---   found_after      the slice after it: a refusal changes nothing
+--   found_numbers   whether a record was found, its number, and how many records were looked at
+--   found_ended     the same and, where the slice has a fourth number, where the step ended that wrote it
+--   finds_number    the refusal of a look-up, or 0
+--   found_after     the slice after it: a refusal changes nothing
 --   Finds           the refusal or 0, and what the slice holds: 10 first, for fewer than three numbers
 use Rattle.std.specs.Prelude.{ℕ, List, [], ◌∷◌, ◌++◌, ◌≡◌, leb, length, if◌then◌else◌}
 use Rattle.byte.specs.Laid.{laid}

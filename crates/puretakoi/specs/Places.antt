@@ -1,8 +1,8 @@
 -- A place as numbers: line, column, position.
 --   span_in, numbers_of   the place in three numbers, and back
---   is_small             no number of a place is over 65,537
---   past_refusal         11 for a part over 65,536 bytes, 10 for no three numbers, 12 for a number over 65,537, or 0
---   Past                the refusal, and what the three numbers are then: past the part, or as they were
+--   is_small              no number of a place is over 65,537
+--   past_refusal          11 for a part over 65,536 bytes, 10 for no three numbers, 12 for a number over 65,537, or 0
+--   Past                  the refusal, and what the three numbers are then: past the part, or as they were
 use Rattle.std.specs.Prelude.{ℕ, Bool, ◌&&◌, List, [], ◌∷◌, ◌≡◌, leb, eqb, length, get_or, if◌then◌else◌}
 use Rattle.source.specs.Cursor.{passed}
 use Rattle.source.specs.declared.Span.{Span}

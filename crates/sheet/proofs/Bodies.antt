@@ -1,7 +1,7 @@
 -- What is left of a body of whole lines: it ends in the break that the body ends in, so the code finds the last break in the source.
---   keeps_line        a line without its indentation is a line with the same break
---   body_break        what is left of lines ends in their last break
---   unbroken_break    a text without its last break has so many bytes less
+--   keeps_line       a line without its indentation is a line with the same break
+--   body_break       what is left of lines ends in their last break
+--   unbroken_break   a text without its last break has so many bytes less
 -- Assumes nothing.
 use Rattle.std.specs.Prelude.{if◌then◌else◌}
 use Prim.Native.Nat.{ℕ, zero, suc, ◌+◌, ◌<◌, ◌≤◌}

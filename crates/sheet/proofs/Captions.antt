@@ -1,8 +1,8 @@
 -- Request P1, law by law: what follows a label decides whether it closes. Assumes nothing.
---   label_ends       a label at the announced end closes
---   label_waits      with more announced it waits
---   label_settled    one byte after it settles it, whether or not more is announced
---   behind_label     worked sheets x and y: what the reading says for each byte after the label EOT
+--   label_ends      a label at the announced end closes
+--   label_waits     with more announced it waits
+--   label_settled   one byte after it settles it, whether or not more is announced
+--   behind_label    worked sheets x and y: what the reading says for each byte after the label EOT
 use Rattle.std.specs.Prelude.{if◌then◌else◌}
 use Prim.Native.Nat.{ℕ}
 use mathlib.Core.Path.{◌≡◌, refl}

@@ -1,8 +1,9 @@
 -- What one line is to the block, with more announced and with the end announced.
 --   closing_label_bounded   a closing label is the ported one, and what follows it
---   line_kind_stays   what is told of a line stays
---   line_kind_open    a line that is not told is one of the body, if the end is announced there or after one identifier byte more
---   line_kind_told    a line with a break is told
+--   line_kind_stays         what is told of a line stays
+--   line_kind_open          a line that is not told is one of the body, if the end is announced there or after one
+--                           identifier byte more
+--   line_kind_told          a line with a break is told
 --   line_kind_ended   with the end announced every line is told
 -- Assumes nothing.
 use Rattle.std.specs.Prelude.{if◌then◌else◌}

@@ -1,8 +1,9 @@
 -- The lines of a text: how many bytes they have, and that all but the last have a break.
---   total, total_lines       the lines of a text have its bytes
---   Lined, lines_lined       a line that others follow has a break, at its end
---   Continues, lines-append  the lines of a text and of a longer one: the last line may go on
---   Grown, lines_grown       the lines of a text and with one byte more, no break: the last line goes on, or one begins
+--   total, total_lines             the lines of a text have its bytes
+--   Lined, lines_lined             a line that others follow has a break, at its end
+--   Continues, lines-append        the lines of a text and of a longer one: the last line may go on
+--   Grown, lines_grown             the lines of a text and with one byte more, no break: the last line goes on, or one
+--                                  begins
 --   flat, flat_lines, lines_flat   the lines of a text one after the other are the text, and back
 -- Assumes nothing.
 use Rattle.std.specs.Prelude.{if◌then◌else◌}

@@ -1,6 +1,6 @@
 -- What is left of one line and of a body, as the manual has it and as the sheet reading has it.
 --   SameLeft, same_left   a line without its indentation
---   SameBody    the lines of a body in both words, each with its break
+--   SameBody              the lines of a body in both words, each with its break
 --   SameText, same_text   a body without its indentation and its last break
 -- Assumes nothing.
 use Rattle.std.specs.Prelude.{if◌then◌else◌}

@@ -1,8 +1,10 @@
 -- The lines of a text and what one line is, as the manual has them and as the sheet reading has them.
---   Ended, Clean, whole   a break, LF or CRLF; a line's text, in which no break begins; a line with its break
---   SameLines, same_lines   the lines of one text in both words: each with its break, or its text and its break apart
+--   Ended, Clean, whole                        a break, LF or CRLF; a line's text, in which no break begins; a line
+--                                              with its break
+--   SameLines, same_lines                      the lines of one text in both words: each with its break, or its text
+--                                              and its break apart
 --   kind_of_line, closes_last, closes_broken   a line closes a block in both, after the same blanks
---   pure_kind, pure_blanks   the kind of its indentation, and its bytes
+--   pure_kind, pure_blanks                     the kind of its indentation, and its bytes
 -- Assumes nothing.
 use Rattle.std.specs.Prelude.{if◌then◌else◌}
 use Prim.Native.Nat.{ℕ, suc, ◌+◌}

@@ -1,8 +1,8 @@
 -- The body of a sheet block, told over its lines (document 01, "Sheet reading").
 --   lines        the lines of a text, each with its break, LF or CRLF; the last may have none
---   is_over       nothing is left of a line, or only its break
+--   is_over      nothing is left of a line, or only its break
 --   unindented   what is left of one line, or where its first stray byte stands
---   body_text     what is left of all lines, the first stray byte first
+--   body_text    what is left of all lines, the first stray byte first
 --   unbroken     a text without its last break
 use Rattle.std.specs.Prelude.{ℕ, ◌+◌, Bool, true, false, ◌&&◌, ◌||◌, List, [], ◌∷◌, ◌++◌, ◌≡◌, refl, leb, eqb, length, drop, if◌then◌else◌}
 use Rattle.byte.specs.Words.{◌is◌, run, bytes}

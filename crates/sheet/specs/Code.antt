@@ -1,16 +1,18 @@
 -- A sheet reading as the code has it: line by line, measured first, and then written.
---   line_length, LineEnd   how many bytes the first line has, and where it ends
---   indentation   the kind of so many blanks, seen one after the other
---   found         where a block closes, without its lines
---   offset_of      how many bytes of indentation come off a line
---   is_stray       the byte after them is stray
---   size_of        how many bytes are left of a body
---   break_of       how many bytes the last break of a text has: 2, 1, or 0 where there is none. A CR may stand before the text
---   is_line        its one LF is its last byte
---   Body          a part of the source that is whole lines, from a place on
+--   line_length, LineEnd           how many bytes the first line has, and where it ends
+--   indentation                    the kind of so many blanks, seen one after the other
+--   found                          where a block closes, without its lines
+--   offset_of                      how many bytes of indentation come off a line
+--   is_stray                       the byte after them is stray
+--   size_of                        how many bytes are left of a body
+--   break_of                       how many bytes the last break of a text has: 2, 1, or 0 where there is none. A CR
+--                                  may stand before the text
+--   is_line                        its one LF is its last byte
+--   Body                           a part of the source that is whole lines, from a place on
 --   blank_of, indent_of, Closing   the blank of a closing line's indentation, and what comes off each line by it
---   left_of, sheet_of     the bytes that are left of a body, and the value of a body at n: what `write_sheet` writes
---   Left          when the value of a body may be written: it is there, and there is room
+--   left_of, sheet_of              the bytes that are left of a body, and the value of a body at n: what `write_sheet`
+--                                  writes
+--   Left   when the value of a body may be written: it is there, and there is room
 use Rattle.std.specs.Prelude.{ℕ, suc, ◌+◌, ◌≤◌, ◌<◌, min, Bool, true, false, not, List, [], ◌∷◌, ◌≡◌, leb, eqb, length, drop, if◌then◌else◌}
 use Prim.Native.Char.{code}
 use Rattle.byte.specs.Words.{◌is◌, run, every}

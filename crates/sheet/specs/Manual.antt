@@ -1,11 +1,13 @@
 -- The text of a nowdoc block as the PHP manual tells it ("Strings": "Heredoc", "Nowdoc"), from the line after the opening identifier on.
 -- Held line by line to the facts of the manual that are known, not to its pages (docs/DECISIONS.md, 107). The text is all there.
 --   Line, manual_lines   a line: its text and its break, LF or CRLF; the last may have none
---   blanks_of       the spaces and tabs that a text begins with
---   closes_at       the closing identifier of a line: after its blanks, and it ends where a name ends
---   is_pure         an indentation of spaces alone or of tabs alone
---   without        a line's text without the indentation: less of it, or a mix, is an error; an empty line needs none
---   Block, block_of   the text of a block, without the break before its closing identifier, and where that stands; or an error; or no end
+--   blanks_of            the spaces and tabs that a text begins with
+--   closes_at            the closing identifier of a line: after its blanks, and it ends where a name ends
+--   is_pure              an indentation of spaces alone or of tabs alone
+--   without              a line's text without the indentation: less of it, or a mix, is an error; an empty line needs
+--                        none
+--   Block, block_of      the text of a block, without the break before its closing identifier, and where that stands;
+--                        or an error; or no end
 --   kind_of, Agrees   a block of the manual and the reading of the same text
 -- The manual does not say what a line is that has nothing but a part of the indentation: `short` says it. Document 01 takes it for an empty
 -- line (`empty_line`). `sheet_whole` and `sheet_manual` (proofs/Manual.antt) join the sheet reading to this.

@@ -2,10 +2,10 @@
 -- line's start. n is the place of what is left, `end` says that the text is all there.
 --   closing_label   the label, and then no identifier byte: another byte, or the announced end
 --   line_kind       what a line is to the block: blanks and then such a label close it
---   block          the lines before the closing line, its indentation and where its label stands; no such line is 1, at the
---                  source's end
---   sheet_at        what contracts cite: a mixed indentation is 4, at the label, before any 13; the indentation comes off each
---                  earlier line; the last break goes
+--   block           the lines before the closing line, its indentation and where its label stands; no such line is 1,
+--                   at the source's end
+--   sheet_at        what contracts cite: a mixed indentation is 4, at the label, before any 13; the indentation comes
+--                   off each earlier line; the last break goes
 use Rattle.std.specs.Prelude.{ℕ, suc, ◌+◌, Bool, true, List, [], ◌∷◌, ◌≡◌, refl, eqb, length, if◌then◌else◌}
 use Prim.Native.Char.{code}
 use Rattle.byte.specs.Refusals.{unexpected_end_of_file, invalid_doc_indentation, stray_indentation}

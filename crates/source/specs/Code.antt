@@ -1,11 +1,11 @@
 -- What the code asks and tells of places in a source.
---   RunEnd, IdentifierEnd   where a run of bytes of one class ends, and where the identifier does
---   Passing                 a place on the way to a run's end
---   Reaches                 the cursor's numbers stay numbers of 32 bits over so many bytes
+--   RunEnd, IdentifierEnd         where a run of bytes of one class ends, and where the identifier does
+--   Passing                       a place on the way to a run's end
+--   Reaches                       the cursor's numbers stay numbers of 32 bits over so many bytes
 --   breaks, Unbroken, LineStart   how many LFs a list has, from where on it has none, and the place after its last
---   word_of, repeated        the number that bytes are, the first of them lowest; that of n bytes which are all c
---   is_not, marks_of          any byte but c; 128 in place of each byte that fails a test, 0 in place of any other
---   Word                    a number is the word of these bytes, and they are bytes
+--   word_of, repeated             the number that bytes are, the first of them lowest; that of n bytes which are all c
+--   is_not, marks_of              any byte but c; 128 in place of each byte that fails a test, 0 in place of any other
+--   Word                          a number is the word of these bytes, and they are bytes
 use Rattle.std.specs.Prelude.{ℕ, zero, suc, ◌+◌, ◌-◌, ◌*◌, ◌<◌, ◌≤◌, Bool, true, false, not, List, [], ◌∷◌, ◌≡◌, eqb, length, get_or, drop, if◌then◌else◌}
 use Rattle.byte.specs.Words.{◌is◌, run, every}
 use Rattle.byte.specs.Bytes.{is_no_break}

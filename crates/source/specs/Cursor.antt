@@ -1,6 +1,6 @@
 -- The cursor's way over bytes (document 01, "Cursor"): position from 0, line and column from 1.
 --   passed_byte   past one byte: LF adds a line and sets column 1, every other byte adds a column
---   passed       past each byte of a list
+--   passed        past each byte of a list
 -- The code counts: it finds the start of the last line and counts the LFs before; `Passed-lines` (proofs/Counts.antt) says
 -- that this gives the same.
 use Rattle.std.specs.Prelude.{ℕ, ◌+◌, List, [], ◌∷◌, ◌≡◌, refl, if◌then◌else◌}

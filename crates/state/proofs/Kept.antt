@@ -1,10 +1,10 @@
 -- What the host's calls keep: a refusal gives back the session, and a good session stays good. Assumes nothing.
---   Kept, skip_kept, push_kept, pop_kept            a refused call gives back the session that was passed (demand 1)
---   Stays, skip_stays, push_stays, pop_stays        what a call makes of a good session is good, its marks and choices
---                                                   are the same, and the cursor does not go back
---   good_numbers, good_bottom, good_slots           what a good session is, fact by fact
---   moved_good, entered_good, left_good             a good session at another place, with a frame more, with a frame less
---   fresh_good                                      a fresh session is good, for every source
+--   Kept, skip_kept, push_kept, pop_kept       a refused call gives back the session that was passed (demand 1)
+--   Stays, skip_stays, push_stays, pop_stays   what a call makes of a good session is good, its marks and choices
+--                                              are the same, and the cursor does not go back
+--   good_numbers, good_bottom, good_slots      what a good session is, fact by fact
+--   moved_good, entered_good, left_good        a good session at another place, with a frame more, with a frame less
+--   fresh_good                                 a fresh session is good, for every source
 use Prim.Native.Nat.{ℕ, ◌+◌, ◌-◌, ◌≤◌, ◌<◌}
 use mathlib.Core.Path.{◌≡◌, refl}
 use mathlib.Core.Bool.{true}

@@ -1,7 +1,7 @@
 -- What holds of a session over a part of the source holds over a longer source. Assumes nothing.
 --   label_bytes_append, is_label_append, is_frame_append, good_append   more text after
---   every_part      a part of a list whose members pass a test
---   top_good        the top frame of a good session is a frame
+--   every_part                                                          a part of a list whose members pass a test
+--   top_good                                                            the top frame of a good session is a frame
 use Prim.Native.Nat.{ℕ, zero, suc, ◌+◌, ◌-◌, ◌≤◌, ◌<◌}
 use mathlib.Core.Path.{◌≡◌, refl}
 use mathlib.Core.Bool.{Bool, true, ◌&&◌}

@@ -1,9 +1,9 @@
 -- Which refusals skip, push and pop may give. Assumes nothing.
---   Refuses          where a turn is refused, its number stands in a list
+--   Refuses                        where a turn is refused, its number stands in a list
 --   gate_refusals, checked_among   the gate's refusals are 11 and 12
---   skip_refusals    10, 11, 12
---   push_refusals    9, 10, 11, 12
---   pop_refusals     10, 11, 12
+--   skip_refusals                  10, 11, 12
+--   push_refusals                  9, 10, 11, 12
+--   pop_refusals                   10, 11, 12
 use Prim.Native.Nat.{ℕ, ◌+◌}
 use mathlib.Core.Path.{◌≡◌, refl, sym}
 use mathlib.Core.Bool.{Bool, true, false, ◌||◌, false≢true}

@@ -1,12 +1,14 @@
 -- A session's bounds (document 01, refusal 12), one by one, and what tables may be lent (refusal 11).
---   label_bytes, no_label, is_label   the bytes that a label names; the range of none; 1 to 64 identifier bytes within the source
---   is_frame               a frame whose label, if it has one, is a label
---   is_scripting           the step's table and the readings want this frame
---   is_bottom              not VarOffset, not LookingForProperty
---   is_stack               the bottom frame may stand there, and each frame up to the depth is one; those above are not looked at
---   are_within, is_within   position, line and column, and the depth, are within their bounds; a session's
---   is_good                all of these
---   fits_tables            the marks are not past their tables; a list of n numbers has n / 8 places
+--   label_bytes, no_label, is_label   the bytes that a label names; the range of none; 1 to 64 identifier bytes within
+--                                     the source
+--   is_frame                          a frame whose label, if it has one, is a label
+--   is_scripting                      the step's table and the readings want this frame
+--   is_bottom                         not VarOffset, not LookingForProperty
+--   is_stack                          the bottom frame may stand there, and each frame up to the depth is one; those
+--                                     above are not looked at
+--   are_within, is_within             position, line and column, and the depth, are within their bounds; a session's
+--   is_good       all of these
+--   fits_tables   the marks are not past their tables; a list of n numbers has n / 8 places
 use Rattle.std.specs.Prelude.{ℕ, ◌+◌, ◌/◌, Bool, true, false, ◌&&◌, List, leb, length, get_or, take, drop}
 use Rattle.byte.specs.Words.{every}
 use Rattle.byte.specs.Bytes.{is_identifier}

@@ -1,7 +1,7 @@
 -- What the host's calls give (document 01, "Session" and "Refusal numbers"): fresh, skip, push, pop.
---   span_of, refused, done   a session's place; a refusal, which gives back the session; an answer
---   gated                   the gate's refusal, at the script's beginning, or what the call gives
---   moved, entered, left    a session at another place, with a frame more, with a frame less
+--   span_of, refused, done                   a session's place; a refusal, which gives back the session; an answer
+--   gated                                    the gate's refusal, at the script's beginning, or what the call gives
+--   moved, entered, left                     a session at another place, with a frame more, with a frame less
 --   fresh_session, skipped, pushed, popped   the calls
 use Rattle.std.specs.Prelude.{ℕ, ◌+◌, ◌-◌, List, leb, ltb, eqb, length, set, take, drop, replicate, if◌then◌else◌}
 use Rattle.source.specs.Cursor.{origin, passed}

@@ -1,23 +1,24 @@
 -- A text reading as the code has it: measured, and its bytes gathered as they are read.
---   Here          a place of a source that is not too long
+--   Here           a place of a source that is not too long
 --   is_plain       a byte that stands for itself in a mode: its unit is that byte, whatever comes after it
 --   bytes_of       the bytes of the value that a unit is
 --   is_break       a unit that is a break, also one from an escape
 --   last_break     of bytes: whether the last of them is a break
---   value_length   of a text of so many bytes, the last of them a break or not: a heredoc's loses it before an interpolation
---   ended         what a unit makes of the text before it; asked only of units that are no text
---   unclosed      what a text comes to that is not closed
---   measured      a reading without its bytes
+--   value_length   of a text of so many bytes, the last of them a break or not: a heredoc's loses it before an
+--                  interpolation
+--   ended          what a unit makes of the text before it; asked only of units that are no text
+--   unclosed       what a text comes to that is not closed
+--   measured       a reading without its bytes
 --   value_of       the value of a reading: a start of what was gathered
---   clipped       a part with some bytes from a place on, as far as it goes
---   onward        the bytes of a unit, and then those of the text after it; nothing where the unit is no text
---   gathered      the bytes of the text read so far: those of its units up to the first that is no text, or to the end
---   Reads         what `read_text` answers, and what the part holds then
+--   clipped        a part with some bytes from a place on, as far as it goes
+--   onward         the bytes of a unit, and then those of the text after it; nothing where the unit is no text
+--   gathered       the bytes of the text read so far: those of its units up to the first that is no text, or to the end
+--   Reads          what `read_text` answers, and what the part holds then
 --   is_searched    a nowdoc's label with a byte to look for
---   Scans         what `scan_text` answers, and what the part holds then: where the label is looked for, it stays
---   BeforeBlanks  a place before another where no blank stands
---   Searchable    a label whose first byte can be looked for
---   is_writable    a unit whose bytes may be written: a code point has at most four
+--   Scans          what `scan_text` answers, and what the part holds then: where the label is looked for, it stays
+--   BeforeBlanks   a place before another where no blank stands
+--   Searchable     a label whose first byte can be looked for
+--   is_writable   a unit whose bytes may be written: a code point has at most four
 use Rattle.std.specs.Prelude.{ℕ, zero, suc, ◌-◌, ◌≤◌, ◌<◌, Bool, false, not, List, [], ◌∷◌, ◌++◌, ◌≡◌, length, get_or, take, drop, if◌then◌else◌}
 use Prim.Native.Char.{code}
 use Rattle.byte.specs.Refusals.{unexpected_end_of_file}

@@ -1,6 +1,6 @@
 -- The record file and the list: reading what was written gives the list again, and writing what was read gives the file again.
---   list_file_list, file_list_file    the two round trips, of the definitions
---   to_file_to_list, to_list_to_file      the same, of two accepted calls
+--   list_file_list, file_list_file     the two round trips, of the definitions
+--   to_file_to_list, to_list_to_file   the same, of two accepted calls
 -- A list holds numbers of 32 bits, a file bytes, as every lent list and file does. Assumes nothing.
 use Prim.Native.Nat.{ℕ, zero, suc, ◌+◌, ◌*◌, ◌/◌, ◌%◌, ◌<◌}
 use mathlib.Core.Path.{◌≡◌, refl, sym, ap, ◌∙◌}

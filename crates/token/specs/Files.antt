@@ -3,9 +3,9 @@
 --   file_of           the bytes of a list of numbers
 --   number_at         the number in the four bytes from a place on
 --   list_of           so many numbers from the file's start on
---   to_file_refusal    of a list of so many numbers and a file of so many bytes: 11, 10, 8, or 0
---   to_list_refusal    of a file of so many bytes and a list of so many numbers: 11, 10, 7, or 0
---   ToFile, ToList   answer, and what the lent file or list then holds: a refusal changes nothing
+--   to_file_refusal   of a list of so many numbers and a file of so many bytes: 11, 10, 8, or 0
+--   to_list_refusal   of a file of so many bytes and a list of so many numbers: 11, 10, 7, or 0
+--   ToFile, ToList    answer, and what the lent file or list then holds: a refusal changes nothing
 -- `to_file_to_list` and `to_list_to_file` (proofs/RoundTrips.antt) say that each undoes the other.
 use Rattle.std.specs.Prelude.{ℕ, zero, suc, ◌+◌, ◌*◌, ◌/◌, ◌%◌, ◌&&◌, List, [], ◌∷◌, ◌++◌, ◌≡◌, refl, leb, eqb, length, get_or, drop, if◌then◌else◌}
 use Rattle.byte.specs.Laid.{laid}

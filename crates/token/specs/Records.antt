@@ -2,7 +2,7 @@
 --   record_of      its eight numbers: kind, detail, line, column, position, value start, value length, end
 --   token_in       the token whose record is the one with this number in a list
 --   room_refusal   7 for more tokens than places left, then 8 for more value bytes than pool left, or 0.
---                 The list has so many numbers, the pool so many bytes; both are filled up to their marks
+--                  The list has so many numbers, the pool so many bytes; both are filled up to their marks
 use Rattle.std.specs.Prelude.{ℕ, ◌+◌, ◌*◌, ◌/◌, List, [], ◌∷◌, leb, get_or, if◌then◌else◌}
 use Rattle.byte.specs.Refusals.{list_full, pool_full}
 use Rattle.token.specs.declared.Token.{Token}

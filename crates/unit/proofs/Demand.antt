@@ -3,7 +3,8 @@
 --   text_never_waits   with the end announced no reading waits
 -- From Stays (what is told stays) and Opens (what is not told has two continuations). Two readings are told apart by their
 -- endings, the text left out: so neither bytes before a text nor a heredoc's lost break matter. Assumes nothing.
---   text_endings       a wait has two continuations apart by their endings, where each frame that is entered is the 65th, too
+--   text_endings   a wait has two continuations apart by their endings, where each frame that is entered is the 65th,
+--                  too
 use Rattle.std.specs.Prelude.{if◌then◌else◌}
 use mathlib.Core.Path.{◌≡◌, refl, ap, sym, ◌∙◌}
 use mathlib.Core.Bool.{Bool, true, false}

@@ -1,8 +1,8 @@
 -- A heredoc beside a nowdoc and beside double quotes. Assumes nothing.
---   heredoc_plain     where the nowdoc's text has only such bytes, the heredoc is read as the nowdoc
---   plain_within      where all bytes are such, those of the nowdoc's text are
---   heredoc_double    every unit but a quote and a break is that of double quotes, octal escapes by the same choice
---   heredoc_quoted    a quote needs no escape
+--   heredoc_plain    where the nowdoc's text has only such bytes, the heredoc is read as the nowdoc
+--   plain_within     where all bytes are such, those of the nowdoc's text are
+--   heredoc_double   every unit but a quote and a break is that of double quotes, octal escapes by the same choice
+--   heredoc_quoted   a quote needs no escape
 -- A nowdoc's reading is gone through once, with what it has in each place (`Beside`).
 use Prim.Native.Nat.{ℕ, zero, suc, ◌-◌}
 use Prim.Native.Char.{code}

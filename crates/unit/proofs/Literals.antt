@@ -1,8 +1,9 @@
 -- A literal in quotes is read as the manual tells it, both ways: closed, with its value and its place, or not closed. Assumes nothing.
---   single_whole       in single quotes, on every text
---   double_whole       in double quotes, on every text that is ordinary; to the manual's choice any octal number is
---   double_otherwise   on every other the reading ends at the first other place: at a variable, or refused with 2 or,
---                      under the Rust's choice, with 3
+--   single_whole                   in single quotes, on every text
+--   double_whole                   in double quotes, on every text that is ordinary; to the manual's choice any octal
+--                                  number is
+--   double_otherwise               on every other the reading ends at the first other place: at a variable, or refused
+--                                  with 2 or, under the Rust's choice, with 3
 --   single_manual, double_manual   where `text_at` ends at the quote, `literal` gives the same value and the same place
 use Rattle.std.specs.Prelude.{if◌then◌else◌}
 use Prim.Native.Nat.{ℕ, zero, suc, ◌+◌, ◌-◌}

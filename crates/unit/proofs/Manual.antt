@@ -1,10 +1,10 @@
 -- The reader of escapes says what the PHP manual's tables say:
---   escape_manual        in double quotes, where the choice reads the octal number and a `\u{` is matched
---   escape_manual_all    so under the manual's choice of any octal number
---   escape_overflow      which unit a number over 255 is, after its digits: refusal 3 under the Rust's choice; under
---                        the manual's the byte of its low eight bits, as the manual lets it overflow
---   escape_unmatched     where a `\u{` is not matched, it is refusal 2 after its digits: to the manual it is text
---   escape_open          where the manual does not say what a code point means, it is refusal 2 after its brace
+--   escape_manual         in double quotes, where the choice reads the octal number and a `\u{` is matched
+--   escape_manual_all     so under the manual's choice of any octal number
+--   escape_overflow       which unit a number over 255 is, after its digits: refusal 3 under the Rust's choice; under
+--                         the manual's the byte of its low eight bits, as the manual lets it overflow
+--   escape_unmatched      where a `\u{` is not matched, it is refusal 2 after its digits: to the manual it is text
+--   escape_open           where the manual does not say what a code point means, it is refusal 2 after its brace
 --   quote_escape_manual   in single quotes
 -- Code points first (digits: Digits.antt), then the tables, entry by entry; `if_both` goes down a reader and an entry
 -- at once.

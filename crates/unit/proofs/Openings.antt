@@ -1,7 +1,7 @@
 -- What shows that two continuations of a text are told apart, and how it is carried over a byte that is text.
---   Plainly, Quiet   bytes that stand for themselves in every mode
+--   Plainly, Quiet                 bytes that stand for themselves in every mode
 --   Falls, Faults, Splits, Final   what a unit is in one of the two
---   Opening   the two continuations; `opens_on` carries it one byte further on
+--   Opening                        the two continuations; `opens_on` carries it one byte further on
 -- Assumes nothing.
 use Rattle.std.specs.Prelude.{if◌then◌else◌}
 use mathlib.Core.Path.{◌≡◌, refl, ap, ◌∙◌}

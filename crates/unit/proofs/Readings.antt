@@ -1,9 +1,9 @@
 -- What a reading is, told once for every mode: where it lies, which bytes its text is, that it goes on, which frames
 -- it may enter, and what it may refuse.
---   collected_skip    a reading that has k bytes to pass is the reading from k bytes on
---   collected_turn    a reading is its first unit and the reading from after that unit
---   text_stands       StandsReading m n (n + length xs) xs (text_at m label end n xs)
---   text_copied       a text is the source's own bytes where it has as many as were passed
+--   collected_skip   a reading that has k bytes to pass is the reading from k bytes on
+--   collected_turn   a reading is its first unit and the reading from after that unit
+--   text_stands      StandsReading m n (n + length xs) xs (text_at m label end n xs)
+--   text_copied      a text is the source's own bytes where it has as many as were passed
 -- Assumes nothing.
 use Rattle.std.specs.Prelude.{if◌then◌else◌}
 use Prim.Native.Nat.{ℕ, zero, suc, ◌+◌, ◌-◌, ◌≤◌, ◌<◌}

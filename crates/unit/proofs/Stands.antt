@@ -1,7 +1,7 @@
 -- What stands at a place of a text, told once for every mode: where a unit goes on, what its value is of, where it
 -- ends a text, and what it may refuse.
---   faults            what a mode may refuse
---   unit_stands       Stands m n b (n + 1 + length rest) (unit_at m label end n b rest)
+--   faults        what a mode may refuse
+--   unit_stands   Stands m n b (n + 1 + length rest) (unit_at m label end n b rest)
 -- Each law is its definition again, with `if_stands` for a choice. Assumes nothing.
 use Rattle.std.specs.Prelude.{if◌then◌else◌}
 use Prim.Native.Nat.{ℕ, zero, suc, ◌+◌, ◌*◌, ◌≤◌, ◌<◌}

@@ -1,5 +1,6 @@
 -- What is told of a place stays, whatever bytes follow: one law for each look ahead, in the definitions' order, last
---   unit_stays   where `unit_at m label false n b rest` is not undecided, `unit_at m label true n b (rest ++ more)` is the same
+--   unit_stays   where `unit_at m label false n b rest` is not undecided, `unit_at m label true n b (rest ++ more)` is
+--                the same
 -- Each law is its definition again, with `if_stays` for a choice. Assumes nothing.
 use Rattle.std.specs.Prelude.{if◌then◌else◌}
 use mathlib.Core.Path.{◌≡◌, refl, ap}

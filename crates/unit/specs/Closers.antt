@@ -1,9 +1,9 @@
 -- The closer of a text block, as the Rust has it (document 01, "Rules easily misread"): after an LF, blanks, then the label's bytes,
 -- followed by anything at all. The LF before a closer is not of the text.
---   matched     the label against the text
---   indented    an indentation and one blank more
---   closer      a label after its indentation; spaces mixed with tabs are refusal 4, at the label
---   line        after an LF: blanks, then the label; else the LF is of the text
+--   matched    the label against the text
+--   indented   an indentation and one blank more
+--   closer     a label after its indentation; spaces mixed with tabs are refusal 4, at the label
+--   line       after an LF: blanks, then the label; else the LF is of the text
 use Rattle.std.specs.Prelude.{ℕ, suc, ◌+◌, Bool, List, [], ◌∷◌, eqb, length, if◌then◌else◌}
 use Prim.Native.Char.{code}
 use Rattle.byte.specs.Refusals.{invalid_doc_indentation}

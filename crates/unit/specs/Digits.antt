@@ -1,7 +1,8 @@
 -- Digits, and code points in UTF-8.
---   digit_value   the value of a digit, 0 to 9, A to F, a to f; 16 of any other byte. A digit of a base has a value below it
+--   digit_value   the value of a digit, 0 to 9, A to F, a to f; 16 of any other byte. A digit of a base has a value
+--                 below it
 --   is_scalar     a code point that UTF-8 has: up to 0x10FFFF, and no surrogate
---   utf8         its bytes
+--   utf8   its bytes
 use Rattle.std.specs.Prelude.{ℕ, ◌+◌, ◌-◌, ◌/◌, ◌%◌, Bool, ◌&&◌, ◌||◌, List, [], ◌∷◌, ◌≡◌, refl, leb, ltb, if◌then◌else◌}
 use Prim.Native.Char.{code}
 use Rattle.byte.specs.Words.{◌from◌to◌}

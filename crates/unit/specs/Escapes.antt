@@ -1,14 +1,14 @@
 -- The one reader of escapes, as the Rust has it (document 01, "Rules easily misread"): what a backslash and the bytes after it
 -- stand for. p is the place after the backslash, n the place of the next byte; `end` says that the text is all there.
---   letters      `\n \r \t \v \e \f \\ \$ \"`, each with its byte
---   overflowing  an octal number over 255: refusal 3 after its digits, or the byte of its low eight bits; the session's
---                choice decides (document 02, P5)
---   fitted       what digits write: their byte, or that
---   digits       one to three octal digits, one or two hex digits
---   hex          `\x` and a digit or two
---   code_point    `\u{..}`: leading zeros are free; what is no code point is refusal 2 there, or after its brace
---   escape       in double quotes and heredocs; any other backslash stands for itself
---   quote_escape  in single quotes: `\'` and `\\` alone
+--   letters        `\n \r \t \v \e \f \\ \$ \"`, each with its byte
+--   overflowing    an octal number over 255: refusal 3 after its digits, or the byte of its low eight bits; the
+--                  session's choice decides (document 02, P5)
+--   fitted         what digits write: their byte, or that
+--   digits         one to three octal digits, one or two hex digits
+--   hex            `\x` and a digit or two
+--   code_point     `\u{..}`: leading zeros are free; what is no code point is refusal 2 there, or after its brace
+--   escape         in double quotes and heredocs; any other backslash stands for itself
+--   quote_escape   in single quotes: `\'` and `\\` alone
 use Rattle.std.specs.Prelude.{ℕ, zero, suc, ◌+◌, ◌*◌, ◌%◌, Bool, true, false, ◌&&◌, ◌||◌, List, [], ◌∷◌, ◌≡◌, refl, ltb, if◌then◌else◌}
 use Prim.Native.Char.{Char, code}
 use Rattle.byte.specs.declared.Octal.{Octal}

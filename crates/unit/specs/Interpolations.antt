@@ -1,8 +1,8 @@
 -- Interpolations in double quotes, backticks and heredocs (document 01, "Rules easily misread"). `end` says that the text is all there.
---   follow     what follows a variable's name: `[`, or `->` or `?->` and a start byte
---   name       the rest of a variable's name
---   dollar     after a `$`: `${`, a variable, or the sign itself
---   brace      after a `{`: a `$`, and only the brace is taken; or the brace itself
+--   follow                    what follows a variable's name: `[`, or `->` or `?->` and a start byte
+--   name                      the rest of a variable's name
+--   dollar                    after a `$`: `${`, a variable, or the sign itself
+--   brace                     after a `{`: a `$`, and only the brace is taken; or the brace itself
 --   find_dollar, find_brace   the same in a literal, where an interpolation is found and not taken
 use Rattle.std.specs.Prelude.{ℕ, suc, Bool, ◌||◌, List, [], ◌∷◌, if◌then◌else◌}
 use Prim.Native.Char.{code}

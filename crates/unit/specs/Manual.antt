@@ -1,25 +1,28 @@
 -- The escapes as the PHP manual tells them ("Strings": "Single quoted", "Double quoted"): two tables, a list of entries each.
 -- Held line by line to the facts of the manual that are known, not to its pages (docs/DECISIONS.md, 32).
 -- An entry is asked with the bytes after the backslash. Digits and UTF-8 are those of specs/Digits.antt.
---   Said            what an entry answers
---   digits_of, all_digits   the digits of a base that come first, by their values: at most so many, or all
---   number          what digits write
---   single          a character, and the byte that it stands for
---   octal           `\[0-7]{1,3}`, which silently overflows to fit in a byte
---   hexadecimal     `\x[0-9A-Fa-f]{1,2}`
---   unicode         `\u{[0-9A-Fa-f]+}`, the code point in UTF-8; what a number that is no code point means is not said
---   unmatched       a `\u{` that this form does not match: to the manual it is text
---   double_quoted, single_quoted    the tables
---   said_by          the entry that applies; else the backslash stands for itself
---   literal         a whole literal without variables: up to its closing quote, each backslash by its table
---   is_variable      where a variable begins
---   fits            an octal number that a choice reads
---   is_agreed        an escape of which manual and reader say the same
---   first_other      in double quotes, the first place where a variable begins or an escape is not agreed on
---   is_ordinary      a text that has no such place before its closing quote
---   says            what a unit of the reader is in these words
---   reading_of       what a literal is in the words of the readings
---   EndsAt          a reading that ends at the first other place
+--   Said                           what an entry answers
+--   digits_of, all_digits          the digits of a base that come first, by their values: at most so many, or all
+--   number                         what digits write
+--   single                         a character, and the byte that it stands for
+--   octal                          `\[0-7]{1,3}`, which silently overflows to fit in a byte
+--   hexadecimal                    `\x[0-9A-Fa-f]{1,2}`
+--   unicode                        `\u{[0-9A-Fa-f]+}`, the code point in UTF-8; what a number that is no code point
+--                                  means is not said
+--   unmatched                      a `\u{` that this form does not match: to the manual it is text
+--   double_quoted, single_quoted   the tables
+--   said_by                        the entry that applies; else the backslash stands for itself
+--   literal                        a whole literal without variables: up to its closing quote, each backslash by its
+--                                  table
+--   is_variable                    where a variable begins
+--   fits                           an octal number that a choice reads
+--   is_agreed                      an escape of which manual and reader say the same
+--   first_other                    in double quotes, the first place where a variable begins or an escape is not agreed
+--                                  on
+--   is_ordinary                    a text that has no such place before its closing quote
+--   says         what a unit of the reader is in these words
+--   reading_of   what a literal is in the words of the readings
+--   EndsAt       a reading that ends at the first other place
 -- `escape_manual`, `escape_manual_all`, `escape_overflow`, `escape_unmatched`, `escape_open` and `quote_escape_manual`
 -- (proofs/Manual.antt) join the reader to the tables; `single_whole`, `double_whole`, `double_otherwise`,
 -- `single_manual` and `double_manual` (proofs/Literals.antt) the readings to the literals.

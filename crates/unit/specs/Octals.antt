@@ -2,7 +2,8 @@
 -- `text_chosen` (proofs/Octals.antt) says: where the Rust's does not give 3, the manual's gives the same. `unit_manual`
 -- and `unit_overflow` say what a backslash means in such a mode.
 --   with_octals     the mode with this choice
---   reads_escapes   the modes with octal escapes: a double-quoted literal, what comes after its interpolation, a heredoc
+--   reads_escapes   the modes with octal escapes: a double-quoted literal, what comes after its interpolation, a
+--                   heredoc
 use Rattle.std.specs.Prelude.{Bool, true, false}
 use Rattle.byte.specs.declared.Octal.{Octal}
 use Rattle.unit.specs.declared.Mode.{Mode}

@@ -1,8 +1,8 @@
 -- A text reading: the units from the cursor on, up to the first that is no text (document 01, "Quoted strings", "Modes", "Text blocks").
---   Reading    the value, what ended it, and from where to where that stands; or a refusal and its place; or wait
---   collected  the text as it is read, before its last break is looked at
---   trimmed    without one LF at the end
---   text_at     what contracts cite: before an interpolation a heredoc's text loses one LF, also one from an escape
+--   Reading         the value, what ended it, and from where to where that stands; or a refusal and its place; or wait
+--   collected       the text as it is read, before its last break is looked at
+--   trimmed         without one LF at the end
+--   text_at         what contracts cite: before an interpolation a heredoc's text loses one LF, also one from an escape
 --   gap, text_end   the bytes between a text and what ends it; where the text ends
 use Rattle.std.specs.Prelude.{ℕ, zero, suc, ◌-◌, Bool, true, false, List, [], ◌∷◌, ◌++◌, ◌≡◌, refl, if◌then◌else◌}
 use Rattle.byte.specs.declared.Octal.{Octal}

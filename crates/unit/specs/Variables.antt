@@ -3,8 +3,8 @@
 --   name_length     how many bytes the longest name has that a text begins with; 0 where it begins with none
 --   digits_length   the same of decimal digits
 --   offset_length   one offset: a name, a `$` and a name, or an integer, before which a minus may stand
---   Belonging      what belongs to the variable: nothing more, `[` with one offset and `]`, or an arrow and a name
---   belonging      by what follows the name
+--   Belonging       what belongs to the variable: nothing more, `[` with one offset and `]`, or an arrow and a name
+--   belonging       by what follows the name
 --   is_loose        a `[` that no offset and `]` follow: to the manual it is text
 --   follow_of       what belongs, in the words of the reader
 -- `variable_manual`, `variable_loose`, `variable_none`, `variable_found` (proofs/Variables.antt) join the reader to these.

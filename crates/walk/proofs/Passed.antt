@@ -3,7 +3,7 @@
 --   passed_all       as many as there were
 --   walking_asks     what `pass_on` asks
 --   goes_along       where `pass_on` ends, the mark is put
---   quick_on_least    no more are left than there were
+--   quick_on_least   no more are left than there were
 --   passed-..        the laws of the walk after them
 use Prim.Native.Nat.{ℕ, zero, suc, ◌-◌, ◌<◌, ◌≤◌}
 use mathlib.Core.Path.{◌≡◌, refl, sym, subst}

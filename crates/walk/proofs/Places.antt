@@ -1,7 +1,7 @@
 -- A call from the place where a walk stands. Assumes nothing.
---   still_next     a call that is not done keeps the frame
---   place_gives    what it makes is the call's turn
---   place_next     the gate is open at the place after it
+--   still_next    a call that is not done keeps the frame
+--   place_gives   what it makes is the call's turn
+--   place_next    the gate is open at the place after it
 use Prim.Native.Nat.{ℕ}
 use mathlib.Core.Path.{◌≡◌, refl, sym, ap, ◌∙◌}
 use mathlib.Core.Bool.{Bool, true, false, false≢true}

@@ -1,7 +1,7 @@
 -- A walk with the session by value: copied to numbers, walked there, and read back. Assumes nothing.
---   unwritten     where nothing is written session, list and pool are those that were passed
---   read-back     what numbers are read as after a walk is the walk's session
---   walk_value    the same for the session by value
+--   unwritten    where nothing is written session, list and pool are those that were passed
+--   read-back    what numbers are read as after a walk is the walk's session
+--   walk_value   the same for the session by value
 use Prim.Native.Nat.{ℕ, zero, suc}
 use mathlib.Core.Path.{◌≡◌, refl, sym, ap, subst, ◌∙◌}
 use mathlib.Core.Bool.{Bool, true, false}

@@ -1,6 +1,6 @@
 -- A walk on its way: what is left of it gives what the whole gives. Assumes nothing.
---   Walking   the walk from the beginning is the walk from here on, of the calls that are left, and each call before it is done;
---             the gate is open here; whether the first call is made; and what was written to the numbers
+--   Walking      the walk from the beginning is the walk from here on, of the calls that are left, and each call before
+--                it is done; the gate is open here; whether the first call is made; and what was written to the numbers
 --   walking-..   where it begins, where it goes on, and where it ends
 use Prim.Native.Nat.{ℕ, ◌+◌, ◌*◌, ◌-◌, ◌≤◌, ◌<◌}
 use mathlib.Core.Path.{◌≡◌, refl, sym, ap, subst, ◌∙◌}

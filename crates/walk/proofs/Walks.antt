@@ -1,9 +1,9 @@
 -- A call and the steps after it, by the call's answer, and a walk that stands still. Assumes nothing.
 --   walked_some, walked_open, walked_called   a step and the steps after it are a walk, and after the gate always
---   calledOn-..                    a call and the steps after it
---   callsDone-..                   how many of them are done
---   is_written_some, is_written_refused   whether numbers are written: a call is wanted, or the first is refused
---   walks                          the ruleset of `turns`: the gate is shut, or no call is wanted
+--   calledOn-..                               a call and the steps after it
+--   callsDone-..                              how many of them are done
+--   is_written_some, is_written_refused       whether numbers are written: a call is wanted, or the first is refused
+--   walks                                     the ruleset of `turns`: the gate is shut, or no call is wanted
 use Prim.Native.Nat.{ℕ, zero, suc, ◌+◌, ◌-◌, ◌<◌}
 use mathlib.Core.Path.{◌≡◌, refl, sym, ◌∙◌}
 use mathlib.Core.Bool.{Bool, true, false, false≢true}

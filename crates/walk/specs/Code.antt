@@ -1,13 +1,14 @@
 -- A walk as the code has it: over numbers, with the top frame beside them.
---   top_in          the frame on top of so many slots
---   frame_after     the frame on top after a change, where `below` stands in the slot that is then on top
---   numbers_after   the numbers after a change: a frame that is entered, or that takes another's place, is written to its slot
---   mark_at         a mark with the cursor at another place
---   GoesAlong      steps in a row that only pass bytes: the mark after them, and how many are left
---   placed_at       the numbers with another place, and the depth and the marks
---   ended_at        the same where the walk has begun or its last answer is no refusal
---   Deep           numbers of a session, and the depth of a mode stack
---   Opened         what `walk_on` may rely on: a call is wanted, and the gate is open
+--   top_in             the frame on top of so many slots
+--   frame_after        the frame on top after a change, where `below` stands in the slot that is then on top
+--   numbers_after      the numbers after a change: a frame that is entered, or that takes another's place, is written
+--                      to its slot
+--   mark_at            a mark with the cursor at another place
+--   GoesAlong          steps in a row that only pass bytes: the mark after them, and how many are left
+--   placed_at          the numbers with another place, and the depth and the marks
+--   ended_at           the same where the walk has begun or its last answer is no refusal
+--   Deep               numbers of a session, and the depth of a mode stack
+--   Opened             what `walk_on` may rely on: a call is wanted, and the gate is open
 --   Changes, Changed   what a change of frame may rely on, and what it gives
 use Rattle.std.specs.Prelude.{ℕ, ◌+◌, ◌*◌, ◌-◌, ◌≤◌, ◌<◌, Bool, false, ◌||◌, List, ◌≡◌, eqb, length, get_or, drop, if◌then◌else◌}
 use Rattle.byte.specs.Laid.{laid}

@@ -1,6 +1,6 @@
 -- What a walk over a host's numbers gives: the answer, how many calls were done, list and pool, and what the numbers then are.
 --   is_written   a call is wanted, and the first is not refused
---   Walks       else the numbers stay as they were; a slot that no step changes keeps its numbers always
+--   Walks        else the numbers stay as they were; a slot that no step changes keeps its numbers always
 use Rattle.std.specs.Prelude.{ℕ, Bool, true, false, not, ◌&&◌, List, ◌≡◌, eqb}
 use Rattle.layout.specs.Sessions.{session_in}
 use Rattle.layout.specs.Answers.{refusal_in}

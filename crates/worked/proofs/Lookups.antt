@@ -1,7 +1,7 @@
 -- The worked cases of request P3 hold, by computing the definitions. Assumes nothing.
---   lookups_hold    each row looks at the records that it says, and finds what it says
---   long_holds      17 looks in 65,537 records; long-list: so in every list whose records stand so
---   falling         on a list that falls the full walk finds another record
+--   lookups_hold   each row looks at the records that it says, and finds what it says
+--   long_holds     17 looks in 65,537 records; long-list: so in every list whose records stand so
+--   falling        on a list that falls the full walk finds another record
 use Prim.Native.Nat.{ℕ, zero, suc, ◌+◌, ◌/◌, ◌^◌, ◌<◌}
 use mathlib.Core.Path.{◌≡◌, refl, sym, ap, ◌∙◌}
 use mathlib.Core.List.{List, [], ◌∷◌}

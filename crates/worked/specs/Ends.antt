@@ -1,9 +1,9 @@
 -- Worked cases of request P4: where the step ended. A row tells the call, whether the end is announced, and the text;
 -- then for each record that is written its end, and the text's bytes from its position up to there.
---   Edge     a record's end, and those bytes
---   Case     a row
---   edges    what a host finds after a call
---   cases    the table
+--   Edge    a record's end, and those bytes
+--   Case    a row
+--   edges   what a host finds after a call
+--   cases   the table
 -- `ends_hold` (proofs/Ends.antt) is the statement: every row finds what it says.
 use Rattle.std.specs.Prelude.{ℕ, zero, suc, ◌-◌, Bool, true, false, List, [], ◌∷◌, ◌≡◌, get_or, take, drop}
 use Prim.Native.String.{String}

@@ -1,11 +1,11 @@
 -- Worked cases of request P3: which record is under the finger. A row tells the positions of a list's records, how
 -- many of them count, and the byte; then the records that are looked at, in order, what is found, and where the step
 -- ended that wrote it (P4). Records are counted from 0.
---   Case        a row
+--   Case         a row
 --   records_at   a list with these positions; each record ends two bytes after it, and every other number is 7
---   lookups     the table
---   long        the search for byte 0 in 65,537 records, each at the position of its own number: 17 looks
---   Looks       what a row says
+--   lookups      the table
+--   long         the search for byte 0 in 65,537 records, each at the position of its own number: 17 looks
+--   Looks        what a row says
 -- `lookups_hold` and `long_holds` (proofs/Lookups.antt) are the statements; `falling` says that the full walk finds
 -- another record than the last row.
 use Rattle.std.specs.Prelude.{ℕ, ◌+◌, List, [], ◌∷◌, ◌≡◌, length}
