@@ -4,7 +4,7 @@
 use Rattle.std.specs.Prelude.{if◌then◌else◌}
 use Prim.Native.Nat.{ℕ, suc, ◌+◌, ◌-◌, ◌<◌, ◌≤◌}
 use mathlib.Core.Path.{◌≡◌, refl, sym, ◌∙◌}
-use mathlib.Core.Bool.{Bool, true, false, not, ◌&&◌, and-false, false≢true}
+use mathlib.Core.Bool.{Bool, true, false, not, ◌&&◌, ◌||◌, and-false, false≢true}
 use mathlib.Core.List.{List, [], ◌∷◌}
 use native.Mathlib.Omega.{arith}
 use native.Mathlib.Numerals.{add-one}
@@ -15,11 +15,12 @@ use borrow.Author.Tests.{eqb-true, ne_eqb, leb-true, lt-leb, ltb-true, lt-ltb, l
 use Rattle.state.specs.Bounds.{is_scripting}
 use Rattle.byte.specs.Words.{run, every}
 use Rattle.byte.specs.Bytes.{is_digit, is_start, is_letter, is_identifier, is_no_break, is_none_of}
+use Rattle.byte.specs.Classes.{is_sign, is_alone}
 use Rattle.byte.specs.declared.Octal.{Octal}
 use Rattle.source.specs.Code.{RunEnd, Unbroken, LineStart}
 use Rattle.source.specs.Cursor.{passed_byte, passed}
 use Rattle.source.specs.declared.Span.{Span}
-use Rattle.byte.proofs.Tests.{&&-left, &&-right, &&-both, none_of, choice}
+use Rattle.byte.proofs.Tests.{&&-left, &&-right, &&-both, ||-neither, none_of, choice}
 use Rattle.byte.proofs.Words.{drop-one}
 use Rattle.source.proofs.Cursor.{passed_position}
 use Rattle.source.proofs.Counts.{passed_same}
@@ -87,6 +88,33 @@ module _ (b : ℕ) (single : b ≡ 39 → ⊥) (double : b ≡ 34 → ⊥) (tick
       )
 
 pub ruleset others = (is_other_arm, is_other_none)
+
+-- where no identifier starts, such a byte is passed alone
+other_alone : (digit signs brackets comments : Bool)
+    → (not digit && signs && brackets && comments)
+    ≡ (not (not (signs && brackets && comments)) && not (digit || false))
+other_alone true true true true = refl
+other_alone true true true false = refl
+other_alone true true false comments = refl
+other_alone true false brackets comments = refl
+other_alone false true true true = refl
+other_alone false true true false = refl
+other_alone false true false comments = refl
+other_alone false false brackets comments = refl
+
+is_other_alone : (b : ℕ) → is_start b ≡ false → is_other b ≡ is_alone b
+unfolding is_other is_alone is_sign is_identifier
+is_other_alone b s =
+    let signs = is_none_of 39 34 96 46 b in
+    let brackets = is_none_of 123 125 63 60 b in
+    let comments = is_none_of 47 35 47 35 b in
+    rw (s) (other_alone (is_digit b) signs brackets comments)
+
+alone_start : (b : ℕ) → is_alone b ≡ true → is_start b ≡ false
+unfolding is_alone is_identifier
+alone_start b e =
+    let named = not-true (is_digit b || is_start b) (&&-right (not (is_sign b)) (not (is_digit b || is_start b)) e) in
+    (||-neither (is_digit b) (is_start b) named).1
 
 -- the last row
 scripting_last : (octals : Octal) (depth : ℕ) (end : Bool) (n b : ℕ) (rest : List ℕ) → is_start b ≡ false
@@ -233,6 +261,12 @@ module _ (src : List ℕ) (at : ℕ) (here : Here src at) where
 
 pub ruleset passes_ats = (passes_at_past, passes_at_cut, passes_at_word, passes_at_other, passes_at_none)
 
+alone_passes : (src : List ℕ) (at : ℕ) → Here src at → at < length src → is_alone (get_or src at 0) ≡ true → PassesAt src at 1
+alone_passes src at here h a =
+    let b = get_or src at 0 in
+    let s = alone_start b a in
+    passes_at_other src at here h (is_start b) refl (is_other b) s refl (is_other_alone b s ∙ a)
+
 -- ---- the place after
 
 module _ (call : Call) (src : List ℕ) (f : Frame) (p : Span) (step : Bool) (g : step ≡ is_step call) where
@@ -267,7 +301,13 @@ module _ (call : Call) (src : List ℕ) (f : Frame) (p : Span) (step : Bool) (g 
           let start : LineStart bytes 0 = record { last = last; behind = λ h. absurd (omega arith) } in
           quick-at _ (rw size at (passed_same bytes p 0 start refl))
 
-pub ruleset quicks = (quick_call, quick_frame, quick_byte, quick_line)
+    pub quick_alone : not flag ≡ false → Here src p.position → p.position < length src → (alone : Bool)
+        → alone ≡ is_alone (get_or src p.position 0) → alone ≡ true
+        → (r : Span) → r ≡ passed_byte p (get_or src p.position 0) → r ≡ quick call src f p
+    quick_alone t here h alone a own r s =
+        quick_byte t 1 (alone_passes src p.position here h (sym a ∙ own)) r refl s
+
+pub ruleset quicks = (quick_call, quick_frame, quick_byte, quick_line, quick_alone)
 
 -- ---- what such a step tells
 

@@ -91,6 +91,12 @@ fn passed(call: Call, src: &[u8], f: Frame, p: Span) -> Span
         return p;
     }
     let at = p.position as usize;
+    if at < src.len() {
+        let b = src[at];
+        if byte::is_alone(b) {
+            return source::past_byte(p, b);
+        }
+    }
     let k = passed_at(src, at);
     if k == 1 {
         return source::past_byte(p, src[at]);
