@@ -10,7 +10,7 @@ use outcome::Call;
 use source::Span;
 use state::{Answer, Choices, Reading};
 use std::io;
-use std::io::{BufWriter, Read, Write};
+use std::io::{Read, Write};
 
 // The row of the token at a place of the list.
 fn print_row<W: Write>(out: &mut W, list: &[u32], place: u32) -> io::Result<()> {
@@ -106,7 +106,7 @@ fn main(rt: HostRuntime) -> io::Result<()> {
             "rows: standard input can't be read: give it a script, as in rows < sheet.php"
         );
     };
-    let mut out = BufWriter::new(rt.alloc(), io::writer(&rt))?;
+    let mut out = io::writer(&rt);
     if 16384 < n {
         let first = Span {
             line: 1,

@@ -11,7 +11,7 @@ use outcome::Call;
 use source::Span;
 use state::{Answer, Choices, Frame, Label, Reading, Session, Slot, Turn};
 use std::io;
-use std::io::{BufWriter, Write};
+use std::io::Write;
 
 // The bytes of a value, as two digits each.
 fn print_bytes<W: Write>(out: &mut W, value: &[u8]) -> io::Result<()> {
@@ -383,7 +383,7 @@ fn octal_mode_sheets<W: Write>(out: &mut W) -> io::Result<()> {
 
 // Every sheet, in the order of document 01, then those of the requests.
 fn main(rt: HostRuntime) -> io::Result<()> {
-    let mut out = BufWriter::new(rt.alloc(), io::writer(&rt))?;
+    let mut out = io::writer(&rt);
     initial_sheets(&mut out)?;
     quoted_sheets(&mut out)?;
     number_sheets(&mut out)?;
