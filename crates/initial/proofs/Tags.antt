@@ -1,19 +1,24 @@
 -- The tag after a `<` and the first tag of a text, on each way through the code. Assumes nothing.
 use Rattle.std.specs.Prelude.{if◌then◌else◌}
-use Prim.Native.Nat.{ℕ, suc, ◌+◌, ◌<◌, ◌≤◌}
-use mathlib.Core.Path.{◌≡◌, refl, sym, ◌∙◌}
+use Prim.Native.Nat.{ℕ, suc, ◌+◌, ◌-◌, ◌<◌, ◌≤◌}
+use mathlib.Core.Path.{◌≡◌, refl, sym, ap, ◌∙◌}
 use mathlib.Core.Bool.{Bool, true, false}
 use mathlib.Core.List.{List, [], ◌∷◌}
 use native.Mathlib.Omega.{arith}
+use native.Mathlib.Nat.{add-zero}
 use native.Mathlib.Numerals.{add-one}
 use lib.ListN.{length, get_or, drop, drop_of_length-le}
+use lib.Seq.{drop-drop}
 use borrow.Author.Tests.{eq-eqb, ne_eqb, le-leb, lt-leb}
-use Rattle.byte.specs.Words.{◌is◌, bytes}
+use Rattle.byte.specs.Words.{◌is◌, bytes, run}
+use Rattle.source.specs.Code.{RunEnd}
+use Rattle.byte.proofs.Tests.{choice, none_of}
 use Rattle.byte.proofs.Words.{drop-one}
 use Rattle.outcome.specs.declared.OpenTagKind.{OpenTagKind}
 use Rattle.outcome.specs.declared.Tag.{Tag}
 use Rattle.outcome.specs.declared.Tagged.{Tagged}
 use Rattle.outcome.specs.Initials.{lower, full_tag, open_tag, tag, or_later, tagged, tag_kind, tag_length}
+use Rattle.initial.specs.Code.{is_no_less}
 
 module _ (b : ℕ) where
   pub lower_below : b < 65 → b ≡ lower b
@@ -117,6 +122,31 @@ unfolding or_later
 or_later_either true t n later = refl
 or_later_either false t n later = refl
 
+-- bytes that are no `<` leave it to the rest
+module _ (end : Bool) where
+  tagged_other : (n b : ℕ) (rest : List ℕ) → is_no_less b ≡ true → tagged end n (b ∷ rest) ≡ tagged end (suc n) rest
+  unfolding tagged
+  tagged_other n b rest e =
+      let h = none_of b 60 60 60 60 e in
+      rw h.first
+
+  tagged_run : (n : ℕ) (xs : List ℕ) → tagged end n xs ≡ tagged end (n + run is_no_less xs) (drop (run is_no_less xs) xs)
+  unfolding run
+  tagged_run n [] = rw (add-zero n)
+  tagged_run n (b ∷ rest) =
+      choice Passed (is_no_less b) (suc (run is_no_less rest)) 0 (λ e. passed e (tagged_run (suc n) rest)) (λ e. rw (add-zero n))
+    where
+      Passed : ℕ → Type 0
+      Passed j = tagged end n (b ∷ rest) ≡ tagged end (n + j) (drop j (b ∷ rest))
+
+      passed : is_no_less b ≡ true
+          → tagged end (suc n) rest ≡ tagged end (suc n + run is_no_less rest) (drop (run is_no_less rest) rest)
+          → Passed (suc (run is_no_less rest))
+      passed e later =
+          let j = run is_no_less rest in
+          let p : suc n + j ≡ n + suc j = omega arith in
+          tagged_other n b rest e ∙ later ∙ ap (λ (i : ℕ). tagged end i (drop j rest)) p
+
 -- the first tag from `at` on is the first from i on
 pub record Finding (src : List ℕ) (end : Bool) (at i : ℕ) : Type 0 where
   pub low : at ≤ i
@@ -124,8 +154,18 @@ pub record Finding (src : List ℕ) (end : Bool) (at i : ℕ) : Type 0 where
   pub same : tagged end at (drop at src) ≡ tagged end i (drop i src)
 
 module _ (src : List ℕ) (end : Bool) (at : ℕ) where
-  pub finding_first : at ≤ length src → Finding src end at at
-  finding_first h = record { low = omega arith; inside = h; same = refl }
+  finding_run : (i : ℕ) → Finding src end at i → (n : ℕ) → RunEnd is_no_less src i n → Finding src end at n
+  finding_run i f n p =
+      let size : run is_no_less (drop i src) ≡ n - i = omega (arith, p.place) in
+      let place : i + (n - i) ≡ n = omega (arith, p.place) in
+      record {
+        low = omega (arith, p.place, f.low);
+        inside = p.inside;
+        same = f.same ∙ tagged_run end i (drop i src) ∙ rw (size, drop-drop (n - i) i src, place);
+      }
+
+  pub finding_first : at ≤ length src → (n : ℕ) → RunEnd is_no_less src at n → Finding src end at n
+  finding_first h = finding_run at (record { low = omega arith; inside = h; same = refl })
 
   module _ (i : ℕ) (f : Finding src end at i) where
     pub finding_over : length src ≤ i → end ≡ true → Tagged.Over ≡ tagged end at (drop at src)
@@ -152,9 +192,12 @@ module _ (src : List ℕ) (end : Bool) (at : ℕ) where
       unfolding or_later
       finding_undecided g = sym (turn ∙ rw g)
 
-      pub finding_on : t ≡ Tag.None → Finding src end at (i + 1)
+      past : t ≡ Tag.None → Finding src end at (i + 1)
       unfolding or_later
-      finding_on g = record { low = omega (arith, f.low); inside = omega arith; same = turn ∙ rw g }
+      past g = record { low = omega (arith, f.low); inside = omega arith; same = turn ∙ rw g }
+
+      pub finding_on : t ≡ Tag.None → (n : ℕ) → RunEnd is_no_less src (i + 1) n → Finding src end at n
+      finding_on g = finding_run (i + 1) (past g)
 
 pub ruleset finding = (finding_first, finding_over, finding_more, finding_tag, finding_undecided, finding_on)
 

@@ -1,7 +1,10 @@
--- The plans of the mode Initial.
+-- The plans of the mode Initial, and what its search for a tag passes.
+--   is_no_less  a byte that begins no tag
 --   tag_plan    the text before a tag, if there is some, and the tag with its own span
 --   over_plan   the text that has no tag, up to its end
-use Rattle.std.specs.Prelude.{ℕ, ◌+◌, true}
+use Rattle.std.specs.Prelude.{ℕ, ◌+◌, Bool, true}
+use Prim.Native.Char.{code}
+use Rattle.byte.specs.Bytes.{is_none_of}
 use Rattle.state.specs.declared.Frame.{Frame}
 use Rattle.token.specs.Kinds.{inline_html}
 use Rattle.outcome.specs.declared.Change.{Change}
@@ -9,6 +12,9 @@ use Rattle.outcome.specs.declared.OpenTagKind.{OpenTagKind}
 use Rattle.outcome.specs.Initials.{tag_kind, tag_length}
 use Rattle.plan.specs.declared.Plan.{Plan}
 use Rattle.plan.specs.Code.{copied_draft, one_draft, parted_plan}
+
+abbrev pub is_no_less : ℕ → Bool
+is_no_less = is_none_of (code "<") (code "<") (code "<") (code "<")
 
 abbrev pub tag_plan : ℕ → OpenTagKind → ℕ → Plan
 tag_plan at kind place =

@@ -5,10 +5,11 @@
 
 ghost use Rattle.std.specs.Prelude.{◌≡◌, ◌+◌, ◌≤◌, ◌<◌, length, get_or, drop, if◌then◌else◌};
 ghost use Rattle.byte.specs.Words.{◌is◌, bytes};
+ghost use Rattle.source.specs.Code.{RunEnd};
 ghost use Rattle.outcome.specs.declared.Tag.{Tag};
 ghost use Rattle.outcome.specs.Initials.{lower, full_tag, open_tag, tag, tagged, tag_kind, tag_length, initial};
 ghost use Rattle.plan.specs.Code.{Here, Plans};
-ghost use Rattle.initial.specs.Code.{tag_plan, over_plan};
+ghost use Rattle.initial.specs.Code.{is_no_less, tag_plan, over_plan};
 
 use outcome::{Change, OpenTagKind, Tag, Tagged};
 use plan::{Plan, Work};
@@ -116,12 +117,20 @@ fn tag_from(src: &[u8], n: usize, end: bool) -> Tag
     Tag::None
 }
 
+// The first `<` from `at` on; the end where there is none.
+fn next_less(src: &[u8], at: usize) -> usize
+    requires { at ≤ length src.now }
+    ensures { RunEnd is_no_less src.now at result }
+{
+    source::stop_end(src, at, b'<', b'<', b'<', b'<')
+}
+
 // The first tag from `at` on.
 fn find_tag(src: &[u8], at: usize, end: bool) -> Tagged
     requires { at ≤ length src.now }
     ensures { result ≡ tagged end at (drop at src.now) }
 {
-    let mut i = at;
+    let mut i = next_less(src, at);
     while i < src.len() {
         let t = tag_from(src, i, end);
         match t {
@@ -133,7 +142,7 @@ fn find_tag(src: &[u8], at: usize, end: bool) -> Tagged
                 return Tagged::Undecided;
             }
         }
-        i += 1;
+        i = next_less(src, i + 1);
     }
     if end {
         return Tagged::Over;
