@@ -2,9 +2,11 @@
 // Of the Rust: the rows of `scripting` that read comments. Here the LF is not taken, `/*/` is open, and an open `/*` is refused.
 #![tactic(auto)]
 
-ghost use Rattle.std.specs.Prelude.{◌≡◌, ◌+◌, ◌≤◌, ◌<◌, length, get_or, drop, if◌then◌else◌};
-ghost use Rattle.source.specs.Code.{RunEnd};
+ghost use Rattle.std.specs.Prelude.{◌≡◌, ◌+◌, ◌≤◌, ◌<◌, not, length, get_or, take, drop, if◌then◌else◌};
+ghost use Rattle.byte.specs.Words.{every};
+ghost use Rattle.source.specs.Code.{Passing, RunEnd};
 ghost use Rattle.outcome.specs.declared.CommentEnd.{CommentEnd};
+ghost use Rattle.outcome.specs.declared.CommentKind.{CommentKind};
 ghost use Rattle.outcome.specs.Comments.{is_next, ends, end_taken, comment_end, endless, comment_at, slash, hash};
 ghost use Rattle.plan.specs.Code.{Plans};
 ghost use Rattle.comment.specs.Code.{is_inner};
@@ -40,6 +42,35 @@ fn ends_at(kind: CommentKind, src: &[u8], at: usize) -> bool
     }
 }
 
+// Whether a `*` stands among 16 bytes.
+fn star_in_16(src: &[u8], at: usize) -> bool
+    requires { at + 16 ≤ length src.now }
+    ensures { result ≡ not (every (is_inner CommentKind.MultiLine) (take 16 (drop at src.now))) }
+{
+    let mut hit = false;
+    let mut j = 0;
+    while j < 16 {
+        hit = hit | (src[at + j] == b'*');
+        j += 1;
+    }
+    hit
+}
+
+// From `at` on past blocks of 16 bytes, up to one with a `*` or to fewer than 16.
+fn star_blocks(src: &[u8], at: usize) -> usize
+    requires { at ≤ length src.now }
+    ensures { Passing (is_inner CommentKind.MultiLine) src.now at result }
+{
+    let mut i = at;
+    while 16 <= src.len() - i {
+        if star_in_16(src, i) {
+            return i;
+        }
+        i += 16;
+    }
+    i
+}
+
 // Where the bytes from `at` on that begin no end are over.
 fn inner_end(kind: CommentKind, src: &[u8], at: usize) -> usize
     requires { at ≤ length src.now }
@@ -47,7 +78,10 @@ fn inner_end(kind: CommentKind, src: &[u8], at: usize) -> usize
 {
     match kind {
         CommentKind::SingleLine => source::stop_end(src, at, b'\n', b'?', b'\n', b'?'),
-        CommentKind::MultiLine => source::stop_end(src, at, b'*', b'*', b'*', b'*'),
+        CommentKind::MultiLine => {
+            let i = star_blocks(src, at);
+            source::stop_end(src, i, b'*', b'*', b'*', b'*')
+        }
     }
 }
 
