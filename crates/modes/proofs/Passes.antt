@@ -307,7 +307,17 @@ module _ (call : Call) (src : List ℕ) (f : Frame) (p : Span) (step : Bool) (g 
     quick_alone t here h alone a own r s =
         quick_byte t 1 (alone_passes src p.position here h (sym a ∙ own)) r refl s
 
-pub ruleset quicks = (quick_call, quick_frame, quick_byte, quick_line, quick_alone)
+    pub quick_none : not flag ≡ false → Here src p.position → p.position < length src → (alone : Bool)
+        → alone ≡ is_alone (get_or src p.position 0) → alone ≡ false → (start : Bool)
+        → start ≡ is_start (get_or src p.position 0) → not start ≡ true → p ≡ quick call src f p
+    unfolding passed
+    quick_none t here h alone a own start s other =
+        let b = get_or src p.position 0 in
+        let none : start ≡ false = not-true start other in
+        let told : is_other b ≡ false = is_other_alone b (sym s ∙ none) ∙ sym a ∙ own in
+        quick-at t 0 (passes_at_none src p.position here h start s (is_other b) none refl told) p refl
+
+pub ruleset quicks = (quick_call, quick_frame, quick_byte, quick_line, quick_alone, quick_none)
 
 -- ---- what such a step tells
 

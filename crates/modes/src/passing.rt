@@ -96,6 +96,9 @@ fn passed(call: Call, src: &[u8], f: Frame, p: Span) -> Span
         if byte::is_alone(b) {
             return source::past_byte(p, b);
         }
+        if !byte::is_start(b) {
+            return p;
+        }
     }
     let k = passed_at(src, at);
     if k == 1 {

@@ -1,5 +1,5 @@
--- `modes::passing::passed` meets its contract: another call, another frame, a byte passed alone, one byte, or no LF.
--- Assumes nothing.
+-- `modes::passing::passed` meets its contract: another call, another frame, a byte passed alone, none that an identifier
+-- starts with, one byte, or no LF. Assumes nothing.
 use Rattle.modes.proofs.Passes.{quicks}
 use Rattle.modes.proofs.passing.passed.Goals as goal
 
@@ -11,6 +11,9 @@ returns-then-not-is_scripting c = search quicks
 
 pub returns-then-is_alone : goal.returns-then-is_alone
 returns-then-is_alone c = search quicks
+
+pub returns-then-not-is_start : goal.returns-then-not-is_start
+returns-then-not-is_start c = search quicks
 
 pub returns-then-k-eq1 : goal.returns-then-k-eq1
 returns-then-k-eq1 c = search quicks
