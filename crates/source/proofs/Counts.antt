@@ -20,7 +20,7 @@ use borrow.Author.Tests.{eq-eqb, ne_eqb, not-true, not-false, eqb-false, ltb-tru
 use Rattle.byte.specs.Words.{every}
 use Rattle.byte.specs.Bytes.{is_no_break}
 use Rattle.source.specs.Cursor.{passed_byte, passed}
-use Rattle.source.specs.Code.{Reaches, breaks, Unbroken, LineStart}
+use Rattle.source.specs.Code.{Reaches, breaks, Unbroken, LineStart, is_not}
 use Rattle.source.specs.declared.Span.{Span}
 use Rattle.byte.proofs.Tests.{&&-left, &&-right}
 use Rattle.byte.proofs.Words.{drop-one, every_append, every_get_d}
@@ -178,7 +178,11 @@ pub passed_same : (part : List ℕ) (p : Span) (start : ℕ) → LineStart part 
 passed_same part p start s e = sym (passed_unbroken p part (rw e at s.last.clear))
 
 -- both ways of `past`
-module _ (part : List ℕ) (p : Span) (hit : Bool) (has : hit ≡ not (every is_no_break part)) where
+module _ (part : List ℕ) (p : Span) (hit : Bool) (answer : hit ≡ not (every (is_not 10) part)) where
+  has : hit ≡ not (every is_no_break part)
+  unfolding is_no_break
+  has = answer
+
   pub passed_clear : not hit ≡ true
       → record { line = p.line; column = p.column + length part; position = p.position + length part }
       ≡ passed p part

@@ -44,11 +44,16 @@ pub fn pass_blocks<const N: usize>(src: &[u8], at: usize, c: u8) -> usize
     ensures { Passing (is_not c) src.now at result }
 {
     let (blocks, _) = src[at..].as_chunks::<N>();
-    let passed = blocks.iter().position(|block| -> bool ensures { result ≡ not (every (is_not c) block.now) } { has(block, c) });
+    let passed = blocks.iter().position(
+        |block| -> bool
+            ensures { result ≡ not (every (is_not c) block.now) }
+        { has(block, c) },
+    );
     at + passed.unwrap_or(blocks.len()) * N
 }
 
 // The first LF from `at` on; the end where there is none.
+#[tactic(auto, using(crate::proofs::Runs::passing_run), unfolding(byte::specs::Bytes::is_no_break))]
 pub fn break_end(src: &[u8], at: usize) -> usize
     requires { at ≤ length src.now }
     ensures { RunEnd is_no_break src.now at result }
@@ -58,10 +63,14 @@ pub fn break_end(src: &[u8], at: usize) -> usize
 }
 
 // The top bit of each of eight bytes that is one of four.
+#[tactic(auto, using(crate::proofs::Marks::marks_four))]
 fn stop_marks(block: &[u8; 8], w: u8, x: u8, y: u8, z: u8) -> u64
     ensures { result ≡ word_of (marks_of (is_none_of w x y z) block.now) }
 {
-    words::marks(block, w) | words::marks(block, x) | words::marks(block, y) | words::marks(block, z)
+    words::marks(block, w)
+        | words::marks(block, x)
+        | words::marks(block, y)
+        | words::marks(block, z)
 }
 
 // From `at` on past blocks of 8 bytes, up to one of the four bytes or to fewer than 8.
@@ -89,6 +98,7 @@ pub fn stop_end(src: &[u8], at: usize, w: u8, x: u8, y: u8, z: u8) -> usize
 }
 
 // The cursor past one byte.
+#[tactic(auto, using(crate::proofs::Cursor::passing_byte))]
 pub fn past_byte(p: Span, b: u8) -> Span
     requires { Reaches p 1 }
     ensures { result ≡ passed_byte p b }
@@ -121,7 +131,14 @@ fn breaks(part: &[u8]) -> u32
     ensures { result ≡ breaks part.now }
 {
     let (blocks, rest) = part.as_chunks::<64>();
-    let whole: u32 = blocks.iter().map(|block| -> u32 ensures { result ≡ breaks block.now } { u32::from(breaks_in(block)) }).sum();
+    let whole: u32 = blocks
+        .iter()
+        .map(
+            |block| -> u32
+                ensures { result ≡ breaks block.now }
+            { u32::from(breaks_in(block)) },
+        )
+        .sum();
     whole + u32::from(breaks_in(rest))
 }
 
@@ -143,20 +160,14 @@ fn line_start(part: &[u8]) -> usize
     end - passed.unwrap_or(end)
 }
 
-// Whether a part has an LF.
-fn has_break(part: &[u8]) -> bool
-    ensures { result ≡ not (every is_no_break part.now) }
-{
-    has(part, b'\n')
-}
-
 // The cursor past all bytes of a part: if it has LFs they are counted, and only the last line's bytes make its column.
+#[tactic(auto, using(crate::proofs::Counts::passing_lines))]
 pub fn past(part: &[u8], p: Span) -> Span
     requires { Reaches p (length part.now) }
     ensures { result ≡ passed p part.now }
 {
     let len = part.len() as u32;
-    if !has_break(part) {
+    if !has(part, b'\n') {
         return Span {
             line: p.line,
             column: p.column + len,
@@ -180,6 +191,7 @@ pub fn run_end(src: &[u8], at: usize) -> usize
 }
 
 // Where the identifier at a place ends: at the place itself where there is none.
+#[tactic(auto, using(crate::proofs::Identifiers::identifiers))]
 pub fn identifier_end(src: &[u8], at: usize) -> usize
     requires { at ≤ length src.now }
     ensures { IdentifierEnd src.now at result }
@@ -194,6 +206,7 @@ pub fn identifier_end(src: &[u8], at: usize) -> usize
 }
 
 // The identifier at a place: that part of the source itself, empty where there is none or the place lies past the end.
+#[tactic(auto, using(crate::proofs::Identifiers::identifiers))]
 pub fn peek_identifier(src: &[u8], at: usize) -> &[u8]
     ensures { result.now ≡ identifier_at src.now at }
 {

@@ -6,6 +6,7 @@ ghost use Rattle.std.specs.Int.Count.{count_trailing_zeros};
 ghost use Rattle.source.specs.Code.{Word, word_of, marks_of, repeated, is_not};
 
 // A byte eight times.
+#[tactic(auto, unfolding(crate::specs::Code::repeated))]
 fn eightfold(b: u8) -> u64
     ensures { (result ≡ repeated 8 b) × (b < 256) }
 {
@@ -13,6 +14,7 @@ fn eightfold(b: u8) -> u64
 }
 
 // Seven bits of each byte, and 127 to each.
+#[tactic(auto, unfolding(crate::specs::Code::repeated))]
 fn raised(x: u64) -> u64
     ensures { result ≡ bit_and x (repeated 8 127) + repeated 8 127 }
 {
@@ -20,6 +22,7 @@ fn raised(x: u64) -> u64
 }
 
 // The top bit of each of eight bytes that is c: the first of them is the lowest of the word.
+#[tactic(auto, using(crate::proofs::Marks::marks_word))]
 pub fn marks(block: &[u8; 8], c: u8) -> u64
     ensures { result ≡ word_of (marks_of (is_not c) block.now) }
 {
