@@ -16,7 +16,7 @@ use Rattle.std.proofs.lemmas.List.Sums.{sum_by-cons}
 use Rattle.std.specs.Simd.{first_chunks}
 use lib.ListN.{length, get_or, take, drop, length-drop, take-append-drop, length-append, drop_of_length-le}
 use lib.Seq.{take-add, drop-drop, take_all, take-suc, length-take-le, get_or-drop}
-use borrow.Author.Tests.{eq-eqb, ne_eqb, not-true, not-false, eqb-false, ltb-true, ltb-false}
+use borrow.Author.Tests.{ne_eqb, not-true, not-false, eqb-false, ltb-true, ltb-false}
 use Rattle.byte.specs.Words.{every}
 use Rattle.byte.specs.Bytes.{is_no_break}
 use Rattle.source.specs.Cursor.{passed_byte, passed}
@@ -122,8 +122,6 @@ module _ (part : List ℕ) where
     line_start_none h =
         let zero : i ≡ 0 = omega arith in
         record { last = rw zero at u; behind = λ h. absurd (omega arith) }
-
-pub ruleset walking_back = (unbroken_first, unbroken_block, unbroken_on, line_start_here, line_start_none)
 
 -- no second start stands further on: the byte before it would be an LF after the first
 later : (part : List ℕ) (r r' : ℕ) → LineStart part r → LineStart part r' → r < r' → ⊥

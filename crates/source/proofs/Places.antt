@@ -2,14 +2,14 @@
 use Rattle.std.specs.Prelude.{if◌then◌else◌}
 use Rattle.std.specs.Simd.{first_chunks}
 use Rattle.std.proofs.Common.{◌≡◌, ℕ, zero, suc, ◌+◌, ◌-◌, ◌*◌, ◌/◌, ◌%◌, ◌<◌, ◌≤◌, Bool, true, false, not, cond, ◌||◌, ◌&&◌, List, [], ◌∷◌, ◌++◌, reverse, length, get_or, take, drop, refl, sym, ◌∙◌, ap, arith, Some, None, Option, unwrap_or}
-use Rattle.std.specs.List.{list_any, position_or_len, prefix_len}
+use Rattle.std.specs.List.{list_any, position_or_len}
 use Rattle.std.proofs.lemmas.List.{reverse-append, length-reverse}
 use Rattle.std.proofs.Math.Nat.{div-mul-le_self}
 use Rattle.std.proofs.lemmas.List.Sums.{prefix_len-le-length}
 use lib.Dec.{eqb, ltb}
 use lib.ListN.{length-drop}
 use lib.Seq.{drop-drop, take-suc, take_all, length-take-le}
-use borrow.Author.Tests.{not-true, not-false, eqb-true, eqb-false, ltb-true, ltb-false}
+use borrow.Author.Tests.{eqb-true, eqb-false, ltb-false}
 use Rattle.byte.specs.Words.{run, every}
 use Rattle.byte.specs.Bytes.{is_no_break}
 use Rattle.source.specs.Code.{RunEnd, Passing, Unbroken, LineStart, is_not}

@@ -2,7 +2,7 @@
 // Of the Rust: state/source.rs, and `peek_identifier` of mod.rs. A cursor is a value beside the lent bytes.
 #![tactic(auto)]
 
-ghost use Rattle.std.specs.Prelude.{◌≡◌, ℕ, Bool, not, ◌+◌, ◌<◌, ◌≤◌, length, take, drop};
+ghost use Rattle.std.specs.Prelude.{◌≡◌, ℕ, Bool, not, ◌+◌, ◌<◌, ◌≤◌, length};
 ghost use Rattle.byte.specs.Words.{every};
 ghost use Rattle.byte.specs.Bytes.{is_identifier, is_no_break, is_none_of};
 ghost use Rattle.source.specs.Cursor.{passed_byte, passed};
@@ -111,9 +111,9 @@ pub fn past_byte(p: Span, b: u8) -> Span
         };
     }
     Span {
-        line: p.line,
         column: p.column + 1,
         position: p.position + 1,
+        ..p
     }
 }
 
@@ -169,9 +169,9 @@ pub fn past(part: &[u8], p: Span) -> Span
     let len = part.len() as u32;
     if !has(part, b'\n') {
         return Span {
-            line: p.line,
             column: p.column + len,
             position: p.position + len,
+            ..p
         };
     }
     let start = line_start(part);
