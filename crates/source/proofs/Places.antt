@@ -4,12 +4,12 @@ use Rattle.std.specs.Simd.{first_chunks}
 use Rattle.std.proofs.Common.{◌≡◌, ℕ, zero, suc, ◌+◌, ◌-◌, ◌*◌, ◌/◌, ◌%◌, ◌<◌, ◌≤◌, Bool, true, false, not, cond, ◌||◌, ◌&&◌, List, [], ◌∷◌, ◌++◌, reverse, length, get_or, take, drop, refl, sym, ◌∙◌, ap, arith, Some, None, Option, unwrap_or}
 use Rattle.std.specs.List.{list_any, position_or_len}
 use Rattle.std.proofs.lemmas.List.{reverse-append, length-reverse}
-use Rattle.std.proofs.Math.Nat.{div-mul-le_self}
+use Rattle.std.proofs.Math.Nat.{div-mul-le_self, lt-div-mul-add}
 use Rattle.std.proofs.lemmas.List.Sums.{prefix_len-le-length}
 use lib.Dec.{eqb, ltb}
 use lib.ListN.{length-drop}
 use lib.Seq.{drop-drop, take-suc, take_all, length-take-le}
-use borrow.Author.Tests.{eqb-true, eqb-false, ltb-false}
+use borrow.Author.Tests.{not-true, eqb-true, eqb-false, ltb-false}
 use Rattle.byte.specs.Words.{run, every}
 use Rattle.byte.specs.Bytes.{is_no_break}
 use Rattle.source.specs.Code.{RunEnd, Passing, Unbroken, LineStart, is_not}
@@ -78,18 +78,53 @@ blocks_passed test src at n (suc k) i p h = go (not (every test (take n (drop i 
         let on : i + (1 + rest) * n ≡ i + n + rest * n = omega arith in
         rw (drop-drop n i src, on) (more (passing_block test src at i p n false (omega arith) e refl))
 
-pub blocks_found : (test : ℕ → Bool) (src part : List ℕ) (blocks : List (List ℕ)) (at n passed : ℕ) (found : Option ℕ) → at ≤ length src
-    → part ≡ take (length src - at) (drop at src) → blocks ≡ first_chunks n (length part / n) part
-    → found ≡ cond (ltb (position_or_len (λ block. not (every test block)) blocks) (length blocks)) (Some (position_or_len (λ block. not (every test block)) blocks)) None
-    → passed ≡ unwrap_or found (length blocks) → Passing test src at (at + passed * n)
-blocks_found test src part blocks at n passed found h w b e f =
-    let size : length (drop at src) ≡ length src - at = length-drop at src in
-    let all : part ≡ drop at src = w ∙ take_all (length src - at) (drop at src) (omega (arith, size)) in
-    let many : passed ≡ position_or_len (λ block. not (every test block)) blocks = f ∙ place_or_end (λ block. not (every test block)) blocks found e in
-    let room : at + length part / n * n ≤ length src = omega (arith, div-mul-le_self (length part) n, ap length all, size) in
-    let at_first : Passing test src at at = passing_first test src at h in
-    let walk = blocks_passed test src at n (length part / n) at at_first room in
-    rw (many, b, all) (rw all at walk)
+-- and where that stops, the next block has a byte that fails, or there is none
+blocks_stopped : (test : ℕ → Bool) (src : List ℕ) (n k i : ℕ) → i ≤ length src → i + k * n ≤ length src → length src < i + (k + 1) * n
+    → n ≤ length src - (i + position_or_len (λ block. not (every test block)) (first_chunks n k (drop i src)) * n)
+    → every test (take n (drop (i + position_or_len (λ block. not (every test block)) (first_chunks n k (drop i src)) * n) src)) ≡ false
+blocks_stopped test src n zero i h l r m =
+    let none : i + 0 * n ≡ i = omega arith in
+    let over : length src < i + n = omega arith in
+    absurd (omega (arith, over, rw none at m))
+blocks_stopped test src n (suc k) i h l r m = go (not (every test (take n (drop i src)))) refl m (blocks_stopped test src n k (i + n) (omega (arith, l)) (omega (arith, l)) (omega (arith, r)))
+  where
+    go : (t : Bool) → t ≡ not (every test (take n (drop i src)))
+        → n ≤ length src - (i + cond (not t) (1 + position_or_len (λ block. not (every test block)) (first_chunks n k (drop n (drop i src)))) 0 * n)
+        → (n ≤ length src - (i + n + position_or_len (λ block. not (every test block)) (first_chunks n k (drop (i + n) src)) * n)
+        → every test (take n (drop (i + n + position_or_len (λ block. not (every test block)) (first_chunks n k (drop (i + n) src)) * n) src)) ≡ false)
+        → every test (take n (drop (i + cond (not t) (1 + position_or_len (λ block. not (every test block)) (first_chunks n k (drop n (drop i src)))) 0 * n) src)) ≡ false
+    go true e m more =
+        let stay : i + 0 * n ≡ i = omega arith in
+        rw stay (not-true (every test (take n (drop i src))) (sym e))
+    go false e m more =
+        let rest : ℕ = position_or_len (λ block. not (every test block)) (first_chunks n k (drop (i + n) src)) in
+        let on : i + (1 + rest) * n ≡ i + n + rest * n = omega arith in
+        rw (drop-drop n i src, on) (more (rw (drop-drop n i src, on) at m))
+
+-- what `as_chunks` and `position` tell, put together
+module _ (test : ℕ → Bool) (src part : List ℕ) (blocks : List (List ℕ)) (at n passed : ℕ) (found : Option ℕ) (h : at ≤ length src)
+    (w : part ≡ take (length src - at) (drop at src)) (b : blocks ≡ first_chunks n (length part / n) part)
+    (e : found ≡ cond (ltb (position_or_len (λ block. not (every test block)) blocks) (length blocks)) (Some (position_or_len (λ block. not (every test block)) blocks)) None)
+    (f : passed ≡ unwrap_or found (length blocks)) where
+  all : part ≡ drop at src
+  all = w ∙ take_all (length src - at) (drop at src) (omega (arith, length-drop at src))
+
+  size : length part ≡ length src - at
+  size = ap length all ∙ length-drop at src
+
+  many : passed ≡ position_or_len (λ block. not (every test block)) (first_chunks n (length part / n) (drop at src))
+  many = f ∙ place_or_end (λ block. not (every test block)) blocks found e ∙ rw b (ap (λ bytes. position_or_len (λ block. not (every test block)) (first_chunks n (length part / n) bytes)) all)
+
+  room : at + length part / n * n ≤ length src
+  room = omega (arith, div-mul-le_self (length part) n, size)
+
+  pub blocks_found : Passing test src at (at + passed * n)
+  blocks_found = rw many (blocks_passed test src at n (length part / n) at (passing_first test src at h) room)
+
+  pub block_stops : 0 < n → n ≤ length src - (at + passed * n) → every test (take n (drop (at + passed * n) src)) ≡ false
+  block_stops l m =
+      let over : length src < at + (length part / n + 1) * n = omega (arith, lt-div-mul-add {a = length part} {b = n} l, size) in
+      rw many (blocks_stopped test src n (length part / n) at h room over (rw many at m))
 
 -- a block of n bytes
 chunk_at : (n k j : ℕ) (xs : List ℕ) → j < k → get_or (first_chunks n k xs) j [] ≡ take n (drop (j * n) xs)

@@ -2,7 +2,7 @@
 // Of the Rust: state/source.rs, and `peek_identifier` of mod.rs. A cursor is a value beside the lent bytes.
 #![tactic(auto)]
 
-ghost use Rattle.std.specs.Prelude.{◌≡◌, ℕ, Bool, not, ◌+◌, ◌<◌, ◌≤◌, length};
+ghost use Rattle.std.specs.Prelude.{◌≡◌, ℕ, Bool, false, not, ◌+◌, ◌-◌, ◌<◌, ◌≤◌, length, take, drop};
 ghost use Rattle.byte.specs.Words.{every};
 ghost use Rattle.byte.specs.Bytes.{is_identifier, is_no_break, is_none_of};
 ghost use Rattle.source.specs.Cursor.{passed_byte, passed};
@@ -41,7 +41,8 @@ fn has(part: &[u8], c: u8) -> bool
 pub fn pass_blocks<const N: usize>(src: &[u8], at: usize, c: u8) -> usize
     requires inside { at ≤ length src.now }
     requires size { (0 < N) × (N < 9223372036854775808) }
-    ensures { Passing (is_not c) src.now at result }
+    ensures passes { Passing (is_not c) src.now at result }
+    ensures stops { N ≤ length src.now - result → every (is_not c) (take N (drop result src.now)) ≡ false }
 {
     let (blocks, _) = src[at..].as_chunks::<N>();
     let passed = blocks.iter().position(
