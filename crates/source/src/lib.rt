@@ -2,7 +2,7 @@
 // Of the Rust: state/source.rs, and `peek_identifier` of mod.rs. A cursor is a value beside the lent bytes.
 #![tactic(auto)]
 
-ghost use Rattle.std.specs.Prelude.{◌≡◌, ℕ, Bool, false, not, ◌+◌, ◌-◌, ◌<◌, ◌≤◌, length, take, drop};
+ghost use Rattle.std.specs.Prelude.{◌≡◌, ℕ, Bool, false, not, ◌+◌, ◌-◌, ◌^◌, ◌<◌, ◌≤◌, length, take, drop};
 ghost use Rattle.byte.specs.Words.{every};
 ghost use Rattle.byte.specs.Bytes.{is_identifier, is_no_break, is_none_of};
 ghost use Rattle.source.specs.Cursor.{passed_byte, passed};
@@ -40,7 +40,7 @@ fn has(part: &[u8], c: u8) -> bool
 // From `at` on past blocks of N bytes, up to one with the byte `c` or to fewer than N.
 pub fn pass_blocks<const N: usize>(src: &[u8], at: usize, c: u8) -> usize
     requires inside { at ≤ length src.now }
-    requires size { (0 < N) × (N < 9223372036854775808) }
+    requires size { (0 < N) × (N < 2 ^ 63) }
     ensures passes { Passing (is_not c) src.now at result }
     ensures stops { N ≤ length src.now - result → every (is_not c) (take N (drop result src.now)) ≡ false }
 {
@@ -126,20 +126,20 @@ fn breaks_in(part: &[u8]) -> u8
     part.iter().map(|b| u8::from(*b == b'\n')).sum()
 }
 
+// The LFs of a block of 64 bytes, as a number that can be added up.
+fn breaks_in_block(block: &[u8; 64]) -> u32
+    ensures { result ≡ breaks block.now }
+{
+    u32::from(breaks_in(block))
+}
+
 // The LFs of a part, by blocks of 64 bytes and the bytes after them.
 fn breaks(part: &[u8]) -> u32
     requires { length part.now < 4294967296 }
     ensures { result ≡ breaks part.now }
 {
     let (blocks, rest) = part.as_chunks::<64>();
-    let whole: u32 = blocks
-        .iter()
-        .map(
-            |block| -> u32
-                ensures { result ≡ breaks block.now }
-            { u32::from(breaks_in(block)) },
-        )
-        .sum();
+    let whole: u32 = blocks.iter().map(breaks_in_block).sum();
     whole + u32::from(breaks_in(rest))
 }
 
