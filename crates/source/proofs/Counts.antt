@@ -176,20 +176,22 @@ pub passed_same : (part : List ℕ) (p : Span) (start : ℕ) → LineStart part 
 passed_same part p start s e = sym (passed_unbroken p part (rw e at s.last.clear))
 
 -- both ways of `past`
-module _ (part : List ℕ) (p : Span) (hit : Bool) (answer : hit ≡ not (every (is_not 10) part)) where
-  has : hit ≡ not (every is_no_break part)
-  unfolding is_no_break
-  has = answer
+module _ (part : List ℕ) (p : Span) where
+  module _ (hit : Bool) (has : hit ≡ not (every (is_not 10) part)) where
+    pub passed_clear : hit ≡ false
+        → record { line = p.line; column = p.column + length part; position = p.position + length part }
+        ≡ passed p part
+    unfolding is_no_break
+    passed_clear f = sym (passed_unbroken p part (not-false (every is_no_break part) (sym has ∙ f)))
 
-  pub passed_clear : not hit ≡ true
-      → record { line = p.line; column = p.column + length part; position = p.position + length part }
-      ≡ passed p part
-  passed_clear f = sym (passed_unbroken p part (not-false (every is_no_break part) (sym has ∙ not-true hit f)))
+    pub passed_broken : hit ≡ true → every (is_not 10) part ≡ false
+    passed_broken t = not-true (every (is_not 10) part) (sym has ∙ t)
 
-  module _ (start : ℕ) (s : LineStart part start) (f : not hit ≡ false) where
+  module _ (start : ℕ) (s : LineStart part start) (broken : every (is_not 10) part ≡ false) where
     -- a part with an LF has a line before its last
     line_start_some : start ≡ 0 → ⊥
-    line_start_some e = false≢true (sym (ap not (rw e at s.last.clear)) ∙ sym has ∙ not-false hit f)
+    unfolding is_no_break
+    line_start_some e = false≢true (sym broken ∙ rw e at s.last.clear)
 
     -- past the last LF
     first : passed p (take start part) ≡ record { line = p.line + breaks (take start part); column = 1; position = p.position + start }
@@ -216,4 +218,4 @@ module _ (part : List ℕ) (p : Span) (hit : Bool) (answer : hit ≡ not (every 
     pub passed_column : Reaches p (length part) → length part - start + 1 < 4294967296
     passed_column r = omega (arith, r.line, s.last.inside, line_start_some)
 
-pub ruleset passing_lines = (passed_clear, passed_lines, passed_room, passed_column)
+pub ruleset passing_lines = (passed_clear, passed_broken, passed_lines, passed_room, passed_column)

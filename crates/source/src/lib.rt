@@ -30,7 +30,8 @@ pub fn end_of<F: Fn(u8) -> bool>(src: &[u8], at: usize, test: F) -> usize
     at + passed.unwrap_or(src.len() - at)
 }
 
-// Whether a byte stands in a part.
+// Whether a byte stands in a part. Always inlined, so that a block's size picks one branch of `contains`.
+#[inline(always)]
 fn has(part: &[u8], c: u8) -> bool
     ensures { result ≡ not (every (is_not c) part.now) }
 {
@@ -161,25 +162,37 @@ fn line_start(part: &[u8]) -> usize
     end - passed.unwrap_or(end)
 }
 
-// The cursor past all bytes of a part: if it has LFs they are counted, and only the last line's bytes make its column.
+// The cursor past a part with LFs: they are counted, and only the last line's bytes make its column. Never inlined: it is rare.
+#[inline(never)]
 #[tactic(auto, using(crate::proofs::Counts::passing_lines))]
-pub fn past(part: &[u8], p: Span) -> Span
-    requires { Reaches p (length part.now) }
+fn past_lines(part: &[u8], p: Span) -> Span
+    requires reaches { Reaches p (length part.now) }
+    requires broken { every (is_not 10) part.now ≡ false }
     ensures { result ≡ passed p part.now }
 {
     let len = part.len() as u32;
-    if !has(part, b'\n') {
-        return Span {
-            column: p.column + len,
-            position: p.position + len,
-            ..p
-        };
-    }
     let start = line_start(part);
     Span {
         line: p.line + breaks(&part[0..start]),
         column: len - start as u32 + 1,
         position: p.position + len,
+    }
+}
+
+// The cursor past all bytes of a part.
+#[tactic(auto, using(crate::proofs::Counts::passing_lines))]
+pub fn past(part: &[u8], p: Span) -> Span
+    requires { Reaches p (length part.now) }
+    ensures { result ≡ passed p part.now }
+{
+    if has(part, b'\n') {
+        return past_lines(part, p);
+    }
+    let len = part.len() as u32;
+    Span {
+        column: p.column + len,
+        position: p.position + len,
+        ..p
     }
 }
 
