@@ -162,8 +162,7 @@ fn line_start(part: &[u8]) -> usize
     end - passed.unwrap_or(end)
 }
 
-// The cursor past a part with LFs: they are counted, and only the last line's bytes make its column. Never inlined: it is rare.
-#[inline(never)]
+// The cursor past a part with LFs: they are counted, and only the last line's bytes make its column.
 #[tactic(auto, using(crate::proofs::Counts::passing_lines))]
 fn past_lines(part: &[u8], p: Span) -> Span
     requires reaches { Reaches p (length part.now) }
