@@ -48,6 +48,10 @@ pub laid_part : (l part : List ℕ) (i k : ℕ) (vs : List ℕ) → part ≡ vs 
 unfolding laid
 laid_part l part i k vs e n = rw (e, n, drop-drop (length vs) i l, ← append_assoc (take i l) vs (drop (i + length vs) l))
 
+pub laid_front : (l part : List ℕ) (k : ℕ) (vs : List ℕ) → part ≡ vs → k ≡ length vs → part ++ drop k l ≡ laid l 0 vs
+unfolding laid
+laid_front l part k vs e n = rw (e, n, zero-add (length vs))
+
 -- what was written at the start can be read there
 pub take_laid : (l vs : List ℕ) (n : ℕ) → n ≡ length vs → take n (laid l 0 vs) ≡ vs
 unfolding laid
