@@ -5,7 +5,6 @@ use mathlib.Core.Path.{◌≡◌, sym, ◌∙◌}
 use mathlib.Core.List.{List}
 use borrow.Author.Tests.{eq-eqb, ne_eqb}
 use Rattle.byte.specs.Laid.{laid}
-use Rattle.state.specs.declared.Answer.{Answer}
 use Rattle.state.specs.declared.Turn.{Turn}
 use Rattle.layout.specs.Sessions.{numbers_of}
 use Rattle.layout.specs.Answers.{answer_numbers, refusal_in, session_after, Turned}

@@ -1,24 +1,20 @@
 -- Lent numbers on each way through the functions that look at them. Assumes nothing.
 --   frame_in_at     the frame in a slot
 --   alone_session   the gate over numbers is the gate of their session
-use Prim.Native.Nat.{ℕ, zero, suc, ◌+◌, ◌*◌, ◌/◌, ◌≤◌, ◌<◌}
+use Prim.Native.Nat.{ℕ, zero, suc, ◌+◌, ◌*◌, ◌≤◌, ◌<◌}
 use mathlib.Core.Path.{◌≡◌, refl, sym, ap, ◌∙◌}
-use mathlib.Core.Bool.{Bool, true, false, not}
 use mathlib.Core.List.{List}
 use native.Mathlib.Omega.{arith}
-use lib.ListN.{length, get_or, drop, set}
-use lib.Seq.{sets-eq, drop-drop}
-use Rattle.byte.specs.Laid.{laid}
+use lib.ListN.{length, get_or, drop}
+use lib.Seq.{drop-drop}
 use Rattle.source.specs.declared.Span.{Span}
 use Rattle.state.specs.declared.Frame.{Frame}
 use Rattle.state.specs.declared.Slot.{Slot}
-use Rattle.state.specs.declared.Session.{Session}
-use Rattle.state.specs.Bounds.{is_frame, is_bottom, no_slot, is_stack, are_within}
+use Rattle.state.specs.Bounds.{no_slot}
 use Rattle.state.specs.Calls.{span_of}
 use Rattle.state.specs.Gates.{gate_over, gate_refusal}
 use Rattle.state.proofs.Gates.{gate_session}
 use Rattle.layout.specs.Sessions.{slot_in, frames_in, depth_in, session_in}
-use Rattle.layout.specs.Lent.{place_numbers}
 
 -- the slot that stands i slots on
 pub get_d_frames_in : (count i : ℕ) (numbers : List ℕ) → i < count

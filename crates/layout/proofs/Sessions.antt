@@ -1,29 +1,24 @@
 -- A session's numbers on each way through the functions that read and write them. Assumes nothing.
-use Prim.Native.Nat.{ℕ, zero, suc, ◌+◌, ◌*◌, ◌-◌, ◌/◌, ◌%◌, ◌≤◌, ◌<◌}
+use Prim.Native.Nat.{ℕ, zero, suc, ◌+◌, ◌*◌, ◌-◌, ◌≤◌, ◌<◌}
 use mathlib.Core.Path.{◌≡◌, refl, sym, ap, ◌∙◌}
-use mathlib.Core.Bool.{Bool, true, false, not}
 use mathlib.Core.List.{List, [], ◌∷◌, ◌++◌}
 use native.Mathlib.Omega.{arith}
 use native.Mathlib.Numerals.{add-one}
 use native.Mathlib.Nat.{add-zero, add_comm}
-use mir.Syntax.{w32}
-use mir.Val.{Fits}
 use lib.ListN.{length, get_or, take, drop, set, length-set}
-use lib.Seq.{sets-eq, get_or-drop, drop-drop, take_all, take-suc-set}
-use borrow.Author.Tests.{le-leb, lt-leb, eq-eqb, ne_eqb, not-true, not-false}
+use lib.Seq.{get_or-drop, drop-drop, take_all, take-suc-set}
 use Rattle.byte.specs.declared.Octal.{Octal}
 use Rattle.byte.specs.Laid.{laid}
 use Rattle.byte.proofs.Laid.{set_laid, laid_append, laid_rest, length_laid, Writing, writing_first, writing_on, writing_end}
-use Rattle.state.specs.declared.Label.{Label}
 use Rattle.state.specs.declared.Frame.{Frame}
 use Rattle.state.specs.declared.Slot.{Slot}
 use Rattle.state.specs.declared.Reading.{Reading}
 use Rattle.state.specs.declared.Choices.{Choices}
 use Rattle.state.specs.declared.Session.{Session}
-use Rattle.state.specs.Bounds.{no_slot, no_label}
+use Rattle.state.specs.Bounds.{no_slot}
 use Rattle.state.specs.Calls.{span_of}
 use Rattle.layout.specs.Lent.{place_numbers}
-use Rattle.layout.specs.Sessions.{frame_number, label_of, slot_numbers, frames_numbers, reading_flag, octal_flag, choices_number, head_numbers, numbers_of, label_in, frame_in, slot_in, frames_in, reading_in, octal_in, are_choices, choices_in, depth_in, session_in}
+use Rattle.layout.specs.Sessions.{slot_numbers, frames_numbers, reading_flag, octal_flag, choices_number, head_numbers, numbers_of, frame_in, slot_in, frames_in, choices_in, depth_in, session_in}
 
 pub slot_in_at : (numbers : List ℕ) (at : ℕ) (f : Frame) → f ≡ frame_in (get_or numbers at 0) (get_or numbers (at + 1) 0) (get_or numbers (at + 2) 0)
     → record { frame = f } ≡ slot_in (drop at numbers)

@@ -1,8 +1,7 @@
 -- Laws of a session's bounds, on each way through the functions that check them. Assumes nothing.
 use Prim.Native.Nat.{ℕ, zero, suc, ◌+◌, ◌-◌, ◌≤◌, ◌<◌}
 use mathlib.Core.Path.{◌≡◌, refl, sym, ap, subst, ◌∙◌}
-use mathlib.Core.Bool.{Bool, true, false, not, ◌&&◌}
-use mathlib.Core.Logic.{◌⊎◌, inl, inr}
+use mathlib.Core.Bool.{Bool, true, false, ◌&&◌}
 use mathlib.Core.List.{List, [], ◌∷◌}
 use native.Mathlib.Omega.{arith}
 use lib.Dec.{eqb, leb}
@@ -11,7 +10,7 @@ use lib.Seq.{length-take-le}
 use Rattle.std.proofs.lemmas.List.{take_all}
 use Rattle.std.proofs.lemmas.List.FromFn.{length-range_with_len, get_or-range_with_len}
 use Rattle.std.proofs.lemmas.List.Folds.{list_all_more, list_all_at}
-use borrow.Author.Tests.{leb-true, le-leb, lt-leb, not-true, not-false}
+use borrow.Author.Tests.{leb-true, le-leb}
 use Rattle.std.specs.List.{list_all, range_with_len}
 use Rattle.byte.specs.Words.{every, run}
 use Rattle.byte.specs.Bytes.{is_identifier}
@@ -85,68 +84,18 @@ module _ (size : ℕ) (s : Session) where
         column_high = rw (c, p) w.column_high;
       }
 
--- the arms of `is_bottom`
-pub is_bottom_kept : (f : Frame) → (f ≡ Frame.LookingForProperty) ⊎ (f ≡ Frame.VarOffset) → false ≡ is_bottom f
-unfolding is_bottom
-is_bottom_kept f e = elim e [ inl a ↦ rw a refl | inr b ↦ rw b refl ]
-
-pub is_bottom_other : (f : Frame) → (f ≡ Frame.LookingForProperty → ⊥) → (f ≡ Frame.VarOffset → ⊥) → true ≡ is_bottom f
-unfolding is_bottom
-is_bottom_other Frame.LookingForProperty a b = absurd (a refl)
-is_bottom_other Frame.VarOffset a b = absurd (b refl)
-is_bottom_other Frame.Initial a b = refl
-is_bottom_other Frame.Scripting a b = refl
-is_bottom_other Frame.DoubleQuote a b = refl
-is_bottom_other Frame.ShellExec a b = refl
-is_bottom_other (Frame.Heredoc l) a b = refl
-is_bottom_other (Frame.Nowdoc l) a b = refl
-is_bottom_other Frame.LookingForVarname a b = refl
-
--- the arms of `is_frame`
-module _ (src : List ℕ) where
-  pub is_frame_named : (f : Frame) (l : Label) → (f ≡ Frame.Heredoc l) ⊎ (f ≡ Frame.Nowdoc l) → is_label src l ≡ is_frame src f
-  unfolding is_frame
-  is_frame_named f l e = elim e [ inl a ↦ rw a refl | inr b ↦ rw b refl ]
-
-  pub is_frame_other : (f : Frame) → ((l : Label) → f ≡ Frame.Heredoc l → ⊥) → ((l : Label) → f ≡ Frame.Nowdoc l → ⊥) → true ≡ is_frame src f
-  unfolding is_frame
-  is_frame_other (Frame.Heredoc l) a b = absurd (a l refl)
-  is_frame_other (Frame.Nowdoc l) a b = absurd (b l refl)
-  is_frame_other Frame.Initial a b = refl
-  is_frame_other Frame.Scripting a b = refl
-  is_frame_other Frame.DoubleQuote a b = refl
-  is_frame_other Frame.ShellExec a b = refl
-  is_frame_other Frame.LookingForVarname a b = refl
-  is_frame_other Frame.LookingForProperty a b = refl
-  is_frame_other Frame.VarOffset a b = refl
-
-module _ (src : List ℕ) (l : Label) where
-  pub is_label_empty : l.len < 1 → false ≡ is_label src l
-  unfolding is_label
-  is_label_empty h = rw (lt-leb 1 l.len h)
-
-  module _ (some : 1 ≤ l.len) where
-    pub is_label_long : 64 < l.len → false ≡ is_label src l
-    unfolding is_label
-    is_label_long h = rw (le-leb 1 l.len some, lt-leb l.len 64 h)
-
-    module _ (short : l.len ≤ 64) where
-      pub is_label_past : length src < l.start + l.len → false ≡ is_label src l
-      unfolding is_label
-      is_label_past h = rw (le-leb 1 l.len some, le-leb l.len 64 short, lt-leb (l.start + l.len) (length src) h)
-
-      pub is_label_bytes : (n e : ℕ) → l.start + l.len ≤ length src → n ≡ l.start + l.len - l.start → RunEnd is_identifier (take n (drop l.start src)) 0 e → eqb e l.len ≡ is_label src l
-      unfolding is_label
-      is_label_bytes n e h m r =
-          let k : n ≡ l.len = omega arith in
-          let z : e ≡ run is_identifier (take n (drop l.start src)) = r.place ∙ omega arith in
-          let q : length (take n (drop l.start src)) ≡ l.len = length-take-le n (drop l.start src) (rw (length-drop l.start src) (omega arith)) ∙ k in
-          let same : every is_identifier (take l.len (drop l.start src)) ≡ eqb e l.len =
-          subst (λ (m : ℕ). every is_identifier (take m (drop l.start src)) ≡ eqb e l.len) k
-          (sym (every_run is_identifier (take n (drop l.start src))) ∙ rw (z, q)) in
-          rw (le-leb 1 l.len some, le-leb l.len 64 short, le-leb (l.start + l.len) (length src) h, same)
-
-pub ruleset labels = (is_label_empty, is_label_long, is_label_past, is_label_bytes)
+-- a label's numbers are good, and its bytes are looked at
+pub is_label_bytes : (src : List ℕ) (l : Label) → 1 ≤ l.len → l.len ≤ 64 → (n e : ℕ) → l.start + l.len ≤ length src → n ≡ l.start + l.len - l.start
+    → RunEnd is_identifier (take n (drop l.start src)) 0 e → eqb e l.len ≡ is_label src l
+unfolding is_label
+is_label_bytes src l some short n e h m r =
+    let k : n ≡ l.len = omega arith in
+    let z : e ≡ run is_identifier (take n (drop l.start src)) = r.place ∙ omega arith in
+    let q : length (take n (drop l.start src)) ≡ l.len = length-take-le n (drop l.start src) (rw (length-drop l.start src) (omega arith)) ∙ k in
+    let same : every is_identifier (take l.len (drop l.start src)) ≡ eqb e l.len =
+    subst (λ (m : ℕ). every is_identifier (take m (drop l.start src)) ≡ eqb e l.len) k
+    (sym (every_run is_identifier (take n (drop l.start src))) ∙ rw (z, q)) in
+    rw (le-leb 1 l.len some, le-leb l.len 64 short, le-leb (l.start + l.len) (length src) h, same)
 
 -- frames told by their places, of which the first i are frames
 abbrev pub Looked : List ℕ → (ℕ → Frame) → ℕ → ℕ → Type 0

@@ -129,6 +129,7 @@ pub fn refuse_at_gate(number: u32, s: Session) -> Turn
 }
 
 // Whether a label names 1 to 64 identifier bytes of the source.
+#[tactic(auto, unfolding(crate::specs::Bounds::is_label))]
 fn is_label(src: &[u8], l: Label) -> bool
     ensures { result ≡ is_label src.now l }
 {
@@ -142,6 +143,7 @@ fn is_label(src: &[u8], l: Label) -> bool
 }
 
 // Whether a frame's label, if it has one, is good.
+#[tactic(auto, unfolding(crate::specs::Bounds::is_frame))]
 pub fn is_frame(src: &[u8], f: Frame) -> bool
     ensures { result ≡ is_frame src.now f }
 {
@@ -152,6 +154,7 @@ pub fn is_frame(src: &[u8], f: Frame) -> bool
 }
 
 // Whether a frame may stand at the bottom: one that is left by its own routine may not.
+#[tactic(auto, unfolding(crate::specs::Bounds::is_bottom))]
 pub fn is_bottom(f: Frame) -> bool
     ensures { result ≡ is_bottom f }
 {
@@ -232,6 +235,7 @@ pub fn fresh(choices: Choices) -> Session
 }
 
 // The session `count` bytes on. Refused past the end.
+#[tactic(auto, unfolding(crate::specs::Calls::skipped))]
 pub fn skip(src: &[u8], s: Session, count: usize) -> Turn
     ensures { result ≡ skipped src.now s count }
 {
@@ -256,6 +260,7 @@ pub fn skip(src: &[u8], s: Session, count: usize) -> Turn
 }
 
 // The session with one frame more. Refused where its label is none, then where it would be the 65th.
+#[tactic(auto, unfolding(crate::specs::Calls::pushed))]
 pub fn push(src: &[u8], s: Session, f: Frame) -> Turn
     ensures { result ≡ pushed src.now s f }
 {
@@ -281,6 +286,7 @@ pub fn push(src: &[u8], s: Session, f: Frame) -> Turn
 }
 
 // The session with one frame less. Refused at depth 1.
+#[tactic(auto, unfolding(crate::specs::Calls::popped))]
 pub fn pop(src: &[u8], s: Session) -> Turn
     ensures { result ≡ popped src.now s }
 {

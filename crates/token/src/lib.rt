@@ -2,11 +2,11 @@
 // Of the Rust: token.rs. The list is lent numbers, eight a token; a write touches its own places and no other.
 #![tactic(auto)]
 
-ghost use Rattle.std.specs.Prelude.{◌≡◌, ◌+◌, ◌*◌, ◌≤◌, length, take, drop};
+ghost use Rattle.std.specs.Prelude.{◌≡◌, ◌+◌, ◌*◌, ◌≤◌, ◌<◌, length};
 ghost use Rattle.source.specs.Cursor.{origin};
 ghost use Rattle.byte.specs.Laid.{laid};
 ghost use Rattle.token.specs.Records.{record_of, room_refusal};
-ghost use Rattle.token.specs.Files.{little_endian, number_at, file_of, list_of, to_file_refusal, to_list_refusal, ToFile, ToList};
+ghost use Rattle.token.specs.Files.{little_endian, number_at, file_of, list_of, records_refusal, to_file_refusal, to_list_refusal, ToFile, ToList};
 
 use source::Span;
 use state::Answer;
@@ -68,6 +68,7 @@ pub struct Token {
 }
 
 // Whether `count` records and `len` value bytes fit from the marks on: 7, 8, or 0 where they do. To be asked before any write.
+#[tactic(auto, unfolding(crate::specs::Records::room_refusal))]
 pub fn room(list: usize, pool: usize, tokens: u32, bytes: u32, count: u32, len: u32) -> u32
     ensures { result ≡ room_refusal list pool tokens bytes count len }
 {
@@ -116,6 +117,7 @@ fn put_number(file: &mut [u8], at: usize, n: u32)
 }
 
 // The number in four bytes of a file.
+#[tactic(auto, unfolding(crate::specs::Files::number_at))]
 fn number_at(file: &[u8], at: usize) -> u32
     requires { at + 4 ≤ length file.now }
     ensures { result ≡ number_at file.now at }
@@ -123,51 +125,51 @@ fn number_at(file: &[u8], at: usize) -> u32
     u32::from_le_bytes([file[at], file[at + 1], file[at + 2], file[at + 3]])
 }
 
-// Refusals 11, 10 and 8 of `list_to_file`, or 0.
-fn to_file_refusal(list: usize, file: usize) -> u32
-    ensures { result ≡ to_file_refusal list file }
+// Of so many places, `unit` to a record, and room for so many records: 11 for too many, 10 for a broken one, `full`, or 0.
+#[tactic(auto, unfolding(crate::specs::Files::records_refusal))]
+fn records_refusal(size: usize, unit: usize, room: usize, full: u32) -> u32
+    requires { 0 < unit }
+    ensures { result ≡ records_refusal size unit room full }
 {
-    if 65537 < list / 8 {
+    if 65537 < size / unit {
         return byte::TOO_LARGE;
     }
-    if list % 8 != 0 {
+    if size % unit != 0 {
         return byte::OUT_OF_PLACE;
     }
-    if file / 32 < list / 8 {
-        return byte::POOL_FULL;
+    if room < size / unit {
+        return full;
     }
     0
 }
 
+// Refusals 11, 10 and 8 of `list_to_file`, or 0.
+#[tactic(auto, unfolding(crate::specs::Files::records_refusal, crate::specs::Files::to_file_refusal))]
+fn to_file_refusal(list: usize, file: usize) -> u32
+    ensures { result ≡ to_file_refusal list file }
+{
+    records_refusal(list, 8, file / 32, byte::POOL_FULL)
+}
+
 // Refusals 11, 10 and 7 of `file_to_list`, or 0.
+#[tactic(auto, unfolding(crate::specs::Files::records_refusal, crate::specs::Files::to_list_refusal))]
 fn to_list_refusal(file: usize, list: usize) -> u32
     ensures { result ≡ to_list_refusal file list }
 {
-    if 65537 < file / 32 {
-        return byte::TOO_LARGE;
-    }
     if 65537 < list / 8 {
         return byte::TOO_LARGE;
     }
-    if file % 32 != 0 {
-        return byte::OUT_OF_PLACE;
-    }
-    if list / 8 < file / 32 {
-        return byte::LIST_FULL;
-    }
-    0
+    records_refusal(file, 32, list / 8, byte::LIST_FULL)
 }
 
 // A refusal of a call without a session bears a script's beginning.
 fn refuse(number: u32) -> Answer
     ensures { result ≡ Answer.Refused number origin }
 {
-    let span = Span {
-        line: 1,
-        column: 1,
-        position: 0,
-    };
-    Answer::Refused { number, span }
+    Answer::Refused {
+        number,
+        span: state::origin(),
+    }
 }
 
 // Each number of the list as four bytes from the file's start on.
@@ -192,6 +194,7 @@ fn put_list(file: &[u8], count: usize, list: &mut [u32])
 
 // All records of a list as a file: 32 bytes a record, little-endian, no header.
 // Refused: a list over 65,537 tokens (11) or of no whole number of records (10), a file with less room (8).
+#[tactic(auto, unfolding(crate::specs::Files::to_file_refusal, crate::specs::Files::file_answer))]
 pub fn list_to_file(list: &[u32], file: &mut [u8]) -> Answer
     ensures { ToFile list.now file.old result file.new }
 {
@@ -205,6 +208,7 @@ pub fn list_to_file(list: &[u32], file: &mut [u8]) -> Answer
 
 // All records of a file as a list.
 // Refused: a file or a list over 65,537 tokens (11), a file of no whole number of records (10), a list with fewer places (7).
+#[tactic(auto, unfolding(crate::specs::Files::to_list_refusal, crate::specs::Files::file_answer))]
 pub fn file_to_list(file: &[u8], list: &mut [u32]) -> Answer
     ensures { ToList file.now list.old result list.new }
 {

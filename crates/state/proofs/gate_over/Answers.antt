@@ -1,4 +1,3 @@
-use Rattle.std.proofs.Common.{rules}
 use Rattle.state.proofs.Gates.{gate_large, gate_numbers, gate_frames, gate_open}
 use Rattle.state.proofs.gate_over.Goals.{then-not-is_within-via-then-not-is_within, then-not-is_within-via-else-not-is_within+then-not-are_frames}
 use Rattle.state.proofs.gate_over.Goals as goal

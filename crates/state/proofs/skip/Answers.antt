@@ -2,14 +2,8 @@ use Rattle.std.proofs.Common.{rules}
 use Rattle.state.proofs.Calls.{skipping}
 use Rattle.state.proofs.skip.Goals as goal
 
-pub returns-then-shut-ne0 : goal.returns-then-shut-ne0
-returns-then-shut-ne0 c = search skipping
-
 pub overflow_sub-src : goal.overflow_sub-src
 overflow_sub-src c = search (skipping, rules)
-
-pub returns-then-src-at : goal.returns-then-src-at
-returns-then-src-at c = search skipping
 
 pub slice_bounds-past-end : goal.slice_bounds-past-end
 slice_bounds-past-end c = search (skipping, rules)

@@ -1,4 +1,4 @@
-use Rattle.std.proofs.Common.{rules, arith}
+use Rattle.std.proofs.Common.{arith}
 use Rattle.token.proofs.Files.{listing_first, listing_on}
 use Rattle.token.proofs.put_list.Goals as goal
 
