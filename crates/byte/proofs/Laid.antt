@@ -6,6 +6,7 @@ use native.Mathlib.Omega.{arith}
 use native.Mathlib.Nat.{add-zero, zero-add}
 use lib.ListN.{length, take, drop, set, length-append, length-drop, take-append-drop}
 use lib.Seq.{sets-eq, length-take-le, take_at, drop-drop, drop-append-add, take-length, drop-length, take-append_seam}
+use borrow.Rule.Slice.PartMut.{put_mid}
 use Rattle.byte.specs.Laid.{laid}
 
 -- a write of nothing changes nothing
@@ -41,6 +42,15 @@ unfolding laid
 laid_rest l rest m vs h f =
     let n : length l - m ≡ length (drop m l) = simp length-drop (omega arith) in
     rw (f, n, take-length (drop m l), drop-length (drop m l), zero-add (length vs), append-nil (vs ++ drop (length vs) (drop m l)), drop-drop (length vs) m l, ← append_assoc (take m l) vs (drop (m + length vs) l))
+
+-- what is copied into a part is written in the whole from the part's place on
+pub laid_part : (l part : List ℕ) (i k : ℕ) (vs : List ℕ) → part ≡ vs → k ≡ length vs → put_mid i k l part ≡ laid l i vs
+unfolding laid
+laid_part l part i k vs e n = rw (e, n, drop-drop (length vs) i l, ← append_assoc (take i l) vs (drop (i + length vs) l))
+
+pub laid_front : (l part : List ℕ) (k : ℕ) (vs : List ℕ) → part ≡ vs → k ≡ length vs → part ++ drop k l ≡ laid l 0 vs
+unfolding laid
+laid_front l part k vs e n = rw (e, n, zero-add (length vs))
 
 -- what was written at the start can be read there
 pub take_laid : (l vs : List ℕ) (n : ℕ) → n ≡ length vs → take n (laid l 0 vs) ≡ vs

@@ -5,17 +5,9 @@ use mathlib.Core.Path.{◌≡◌, sym, ◌∙◌}
 use mathlib.Core.List.{List}
 use borrow.Author.Tests.{eq-eqb, ne_eqb}
 use Rattle.byte.specs.Laid.{laid}
-use Rattle.state.specs.declared.Answer.{Answer}
 use Rattle.state.specs.declared.Turn.{Turn}
 use Rattle.layout.specs.Sessions.{numbers_of}
 use Rattle.layout.specs.Answers.{answer_numbers, refusal_in, session_after, Turned}
-
--- an arm of a match on an answer
-pub answer_arm : (a arm : Answer) (l m : List ℕ) → a ≡ arm → m ≡ laid l 0 (answer_numbers arm) → m ≡ laid l 0 (answer_numbers a)
-answer_arm a arm l m e h = rw e h
-
-pub refusal_arm : (a arm : Answer) (r : ℕ) → a ≡ arm → r ≡ refusal_in arm → r ≡ refusal_in a
-refusal_arm a arm r e h = rw e h
 
 -- a turn written back
 module _ (t : Turn) (session answer answer' : List ℕ) (number : ℕ) (e : number ≡ refusal_in t.answer) (a : answer' ≡ laid answer 0 (answer_numbers t.answer)) where

@@ -1,12 +1,12 @@
 // A session as numbers, both ways, and a turn as numbers: what crosses to a host. include/puretakoi.h tells the layout.
 #![tactic(auto)]
 
-ghost use Rattle.std.specs.Prelude.{◌≡◌, [], ◌∷◌, ◌+◌, ◌*◌, ◌≤◌, ◌<◌, length, get_or, drop};
+ghost use Rattle.std.specs.Prelude.{◌≡◌, ◌+◌, ◌*◌, ◌≤◌, ◌<◌, length, get_or, drop};
 ghost use Rattle.byte.specs.Laid.{laid};
-ghost use Rattle.state.specs.Bounds.{no_slot, is_stack};
-ghost use Rattle.state.specs.Gates.{gate_refusal, lent_refusal};
+ghost use Rattle.state.specs.Bounds.{no_slot};
+ghost use Rattle.state.specs.Gates.{lent_refusal};
 ghost use Rattle.state.specs.Calls.{span_of};
-ghost use Rattle.layout.specs.Sessions.{frame_number, label_of, slot_numbers, frames_numbers, head_numbers, numbers_of, label_in, frame_in, slot_in, frames_in, depth_in, session_in};
+ghost use Rattle.layout.specs.Sessions.{frame_number, label_of, slot_numbers, frames_numbers, numbers_of, label_in, frame_in, slot_in, frames_in, depth_in, session_in};
 ghost use Rattle.layout.specs.Lent.{place_numbers};
 ghost use Rattle.layout.specs.Answers.{answer_numbers, refusal_in, Turned};
 
@@ -17,23 +17,22 @@ mod choices;
 
 pub use choices::{are_choices, choices_in};
 
-// The label in two numbers; one of no bytes where a number has more than 16 bits.
+// The label of what has none: it names no bytes.
+const NO_LABEL: Label = Label { start: 0, len: 0 };
+
+// The label in two numbers; that of none where a number has more than 16 bits.
+#[tactic(auto, unfolding(crate::specs::Sessions::label_in))]
 fn label_in(start: u32, len: u32) -> Label
     ensures { result ≡ label_in start len }
 {
-    if 65535 < start {
-        return Label { start: 0, len: 0 };
-    }
-    if 65535 < len {
-        return Label { start: 0, len: 0 };
-    }
-    Label {
-        start: start as u16,
-        len: len as u16,
+    match (u16::try_from(start), u16::try_from(len)) {
+        (Ok(start), Ok(len)) => Label { start, len },
+        _ => NO_LABEL,
     }
 }
 
 // The frame in three numbers; what is none becomes a text block without a label, which every call refuses.
+#[tactic(auto, unfolding(crate::specs::Sessions::frame_in))]
 pub fn frame_in(number: u32, start: u32, len: u32) -> Frame
     ensures { result ≡ frame_in number start len }
 {
@@ -47,7 +46,7 @@ pub fn frame_in(number: u32, start: u32, len: u32) -> Frame
         6 => Frame::LookingForVarname,
         7 => Frame::LookingForProperty,
         8 => Frame::VarOffset,
-        _ => Frame::Heredoc(Label { start: 0, len: 0 }),
+        _ => Frame::Heredoc(NO_LABEL),
     }
 }
 
@@ -71,6 +70,7 @@ pub fn frame_at(numbers: &[u32], i: usize) -> Frame
 }
 
 // The depth; 0, which no session has, where the choices are none.
+#[tactic(auto, unfolding(crate::specs::Sessions::depth_in))]
 fn depth_in(depth: u32, choices: u32) -> u32
     ensures { result ≡ depth_in depth choices }
 {
@@ -92,72 +92,23 @@ pub fn span_in(numbers: &[u32]) -> Span
     }
 }
 
-// Whether the slots up to the depth hold a mode stack.
-fn is_stack_in(src: &[u8], numbers: &[u32], depth: u32) -> bool
-    requires { (199 ≤ length numbers.now) × ((depth ≤ 64) × (depth ≡ (session_in numbers.now).depth)) }
-    ensures { result ≡ is_stack src.now (session_in numbers.now) }
-{
-    let most = depth as usize;
-    if !state::is_bottom(frame_at(numbers, 0)) {
-        return false;
-    }
-    let mut i = 0;
-    while i < most {
-        if !state::is_frame(src, frame_at(numbers, i)) {
-            return false;
-        }
-        i += 1;
-    }
-    true
-}
-
-// Refusals 11 and 12 of a source and a session's numbers, without the tables. 0 for neither.
-fn gate_alone(src: &[u8], numbers: &[u32]) -> u32
-    requires { 199 ≤ length numbers.now }
-    ensures { result ≡ gate_refusal src.now (session_in numbers.now) }
-{
-    if 65536 < src.len() {
-        return byte::TOO_LARGE;
-    }
-    let depth = depth_in(numbers[3], numbers[6]);
-    if !state::is_within(src.len(), span_in(numbers), depth) {
-        return byte::BAD_SESSION;
-    }
-    if !is_stack_in(src, numbers, depth) {
-        return byte::BAD_SESSION;
-    }
-    0
-}
-
-// A number as a length.
-fn wide(n: u32) -> usize
-    ensures { result ≡ n }
-{
-    n as usize
-}
-
 // Refusals 11 and 12 where a list of `list` numbers and a pool of `pool` bytes are lent. 0 for neither. Slots from the depth on are not
 // looked at.
 pub fn gate_in(src: &[u8], list: usize, pool: usize, numbers: &[u32]) -> u32
     requires { 199 ≤ length numbers.now }
     ensures { result ≡ lent_refusal src.now list pool (session_in numbers.now) }
 {
-    if 65536 < pool {
+    if 65536 < pool || 65537 < list / 8 {
         return byte::TOO_LARGE;
     }
-    if 65537 < list / 8 {
-        return byte::TOO_LARGE;
-    }
-    let alone = gate_alone(src, numbers);
+    let depth = depth_in(numbers[3], numbers[6]);
+    let alone = state::gate_over(src, span_in(numbers), depth, |i| frame_at(numbers, i));
     if alone != 0 {
         return alone;
     }
-    let tokens = wide(numbers[4]);
-    let bytes = wide(numbers[5]);
-    if list / 8 < tokens {
-        return byte::BAD_SESSION;
-    }
-    if pool < bytes {
+    let tokens = numbers[4] as usize;
+    let bytes = numbers[5] as usize;
+    if list / 8 < tokens || pool < bytes {
         return byte::BAD_SESSION;
     }
     0
@@ -171,10 +122,8 @@ pub fn session_in(numbers: &[u32]) -> Session
     let mut frames = [Slot {
         frame: Frame::Initial,
     }; 64];
-    let mut i = 0;
-    while i < 64 {
+    for i in 0..64 {
         frames[i] = slot_in(numbers, 7 + i * 3);
-        i += 1;
     }
     Session {
         position: numbers[0],
@@ -189,6 +138,7 @@ pub fn session_in(numbers: &[u32]) -> Session
 }
 
 // A frame's number.
+#[tactic(auto, unfolding(crate::specs::Sessions::frame_number))]
 fn frame_number(f: Frame) -> u32
     ensures { result ≡ frame_number f }
 {
@@ -205,21 +155,14 @@ fn frame_number(f: Frame) -> u32
     }
 }
 
-// A frame's label; one of no bytes where it has none.
+// A frame's label, or that of none.
+#[tactic(auto, unfolding(crate::specs::Sessions::label_of))]
 fn label_of(f: Frame) -> Label
     ensures { result ≡ label_of f }
 {
-    let none = Label { start: 0, len: 0 };
     match f {
-        Frame::Initial => none,
-        Frame::Scripting => none,
-        Frame::DoubleQuote => none,
-        Frame::ShellExec => none,
-        Frame::Heredoc(l) => l,
-        Frame::Nowdoc(l) => l,
-        Frame::LookingForVarname => none,
-        Frame::LookingForProperty => none,
-        Frame::VarOffset => none,
+        Frame::Heredoc(label) | Frame::Nowdoc(label) => label,
+        _ => NO_LABEL,
     }
 }
 
@@ -228,11 +171,13 @@ fn put_slot(numbers: &mut [u32], at: usize, slot: Slot)
     requires { at + 3 ≤ length numbers.old }
     ensures { numbers.new ≡ laid numbers.old at (slot_numbers slot) }
 {
-    let f = slot.frame;
-    let l = label_of(f);
-    numbers[at] = frame_number(f);
-    numbers[at + 1] = l.start as u32;
-    numbers[at + 2] = l.len as u32;
+    let label = label_of(slot.frame);
+    let values = [
+        frame_number(slot.frame),
+        u32::from(label.start),
+        u32::from(label.len),
+    ];
+    numbers[at..at + 3].copy_from_slice(&values);
 }
 
 // A frame in slot i of a session's numbers.
@@ -248,12 +193,7 @@ pub fn put_place(numbers: &mut [u32], span: Span, depth: u32, tokens: u32, bytes
     requires { 199 ≤ length numbers.old }
     ensures { numbers.new ≡ laid numbers.old 0 (place_numbers span depth tokens bytes) }
 {
-    numbers[0] = span.position;
-    numbers[1] = span.line;
-    numbers[2] = span.column;
-    numbers[3] = depth;
-    numbers[4] = tokens;
-    numbers[5] = bytes;
+    numbers[..6].copy_from_slice(&[span.position, span.line, span.column, depth, tokens, bytes]);
 }
 
 // The 64 slots from a list's start on.
@@ -261,27 +201,9 @@ fn put_frames(numbers: &mut [u32], s: Session)
     requires { 192 ≤ length numbers.old }
     ensures { numbers.new ≡ laid numbers.old 0 (frames_numbers 64 s.frames) }
 {
-    let mut i = 0;
-    while i < 64 {
-        let slot = s.frames[i];
-        put_slot(numbers, i * 3, slot);
-        i += 1;
+    for (i, slot) in s.frames.iter().enumerate() {
+        put_slot(numbers, i * 3, *slot);
     }
-}
-
-// The seven numbers before the slots.
-fn put_head(numbers: &mut [u32], s: Session)
-    requires { 7 ≤ length numbers.old }
-    ensures { numbers.new ≡ laid numbers.old 0 (head_numbers s) }
-{
-    let choices = s.choices;
-    numbers[0] = s.position;
-    numbers[1] = s.line;
-    numbers[2] = s.column;
-    numbers[3] = s.depth;
-    numbers[4] = s.tokens;
-    numbers[5] = s.bytes;
-    numbers[6] = choices::choices_number(choices);
 }
 
 // A session as 199 numbers.
@@ -289,46 +211,32 @@ pub fn put_session(numbers: &mut [u32], s: Session)
     requires { 199 ≤ length numbers.old }
     ensures { numbers.new ≡ laid numbers.old 0 (numbers_of s) }
 {
-    put_head(numbers, s);
+    put_place(numbers, state::span_of(s), s.depth, s.tokens, s.bytes);
+    numbers[6] = choices::choices_number(s.choices);
     put_frames(&mut numbers[7..], s);
 }
 
-// Five numbers at the start of an answer.
-fn put_five(answer: &mut [u32], way: u32, number: u32, span: Span)
-    requires { 5 ≤ length answer.old }
-    ensures { answer.new ≡ laid answer.old 0 (way ∷ number ∷ span.line ∷ span.column ∷ span.position ∷ []) }
-{
-    answer[0] = way;
-    answer[1] = number;
-    answer[2] = span.line;
-    answer[3] = span.column;
-    answer[4] = span.position;
-}
-
 // An answer as five numbers.
+#[tactic(auto, unfolding(crate::specs::Answers::answer_numbers))]
 pub fn put_answer(answer: &mut [u32], a: Answer)
     requires { 5 ≤ length answer.old }
     ensures { answer.new ≡ laid answer.old 0 (answer_numbers a) }
 {
-    let nowhere = Span {
-        line: 0,
-        column: 0,
-        position: 0,
+    let numbers = match a {
+        Answer::Done => [0, 0, 0, 0, 0],
+        Answer::Finished => [1, 0, 0, 0, 0],
+        Answer::Refused { number, span } => [2, number, span.line, span.column, span.position],
     };
-    match a {
-        Answer::Done => put_five(answer, 0, 0, nowhere),
-        Answer::Finished => put_five(answer, 1, 0, nowhere),
-        Answer::Refused { number, span } => put_five(answer, 2, number, span),
-    }
+    answer[..5].copy_from_slice(&numbers);
 }
 
 // An answer's refusal, or 0.
+#[tactic(auto, unfolding(crate::specs::Answers::refusal_in))]
 pub fn refusal_in(a: Answer) -> u32
     ensures { result ≡ refusal_in a }
 {
     match a {
-        Answer::Done => 0,
-        Answer::Finished => 0,
+        Answer::Done | Answer::Finished => 0,
         Answer::Refused { number, span: _ } => number,
     }
 }

@@ -1,21 +1,27 @@
 -- Laws of a session's bounds, on each way through the functions that check them. Assumes nothing.
-use Prim.Native.Nat.{ℕ, ◌+◌, ◌-◌, ◌≤◌, ◌<◌}
-use mathlib.Core.Path.{◌≡◌, refl, sym, ◌∙◌}
-use mathlib.Core.Bool.{Bool, true, false, not, ◌&&◌}
-use mathlib.Core.List.{List}
+use Prim.Native.Nat.{ℕ, zero, suc, ◌+◌, ◌-◌, ◌≤◌, ◌<◌}
+use mathlib.Core.Path.{◌≡◌, refl, sym, ap, subst, ◌∙◌}
+use mathlib.Core.Bool.{Bool, true, false, ◌&&◌}
+use mathlib.Core.List.{List, [], ◌∷◌}
 use native.Mathlib.Omega.{arith}
 use lib.Dec.{eqb, leb}
-use lib.ListN.{length, get_or, take, drop}
-use borrow.Author.Tests.{leb-true, le-leb, lt-leb, not-true, not-false}
-use Rattle.byte.specs.Words.{run}
+use lib.ListN.{length, get_or, take, drop, length-drop}
+use lib.Seq.{length-take-le}
+use Rattle.std.proofs.lemmas.List.{take_all}
+use Rattle.std.proofs.lemmas.List.FromFn.{length-range_with_len, get_or-range_with_len}
+use Rattle.std.proofs.lemmas.List.Folds.{list_all_more, list_all_at}
+use borrow.Author.Tests.{leb-true, le-leb}
+use Rattle.std.specs.List.{list_all, range_with_len}
+use Rattle.byte.specs.Words.{every, run}
 use Rattle.byte.specs.Bytes.{is_identifier}
 use Rattle.source.specs.Code.{RunEnd}
 use Rattle.byte.proofs.Tests.{&&-left, &&-right}
-use Rattle.byte.proofs.Words.{every_run, Holding, holding_first, holding_end, holding_stop, holding_on}
+use Rattle.byte.proofs.Words.{every_run}
 use Rattle.state.specs.declared.Label.{Label}
 use Rattle.state.specs.declared.Frame.{Frame}
+use Rattle.state.specs.declared.Slot.{Slot}
 use Rattle.state.specs.declared.Session.{Session}
-use Rattle.state.specs.Bounds.{is_label, is_frame, is_bottom, no_slot, is_slot, is_stack, is_within}
+use Rattle.state.specs.Bounds.{is_label, is_frame, is_bottom, no_slot, is_slot, is_stack, are_frames, is_within}
 
 -- what the numbers of a good session tell
 pub record Within (size : ℕ) (s : Session) : Type 0 where
@@ -78,64 +84,70 @@ module _ (size : ℕ) (s : Session) where
         column_high = rw (c, p) w.column_high;
       }
 
--- an arm of a match on a frame
-pub is_bottom_arm : (f arm : Frame) (r : Bool) → f ≡ arm → r ≡ is_bottom arm → r ≡ is_bottom f
-is_bottom_arm f arm r e h = rw e h
+-- a label's numbers are good, and its bytes are looked at
+pub is_label_bytes : (src : List ℕ) (l : Label) → 1 ≤ l.len → l.len ≤ 64 → (n e : ℕ) → l.start + l.len ≤ length src → n ≡ l.start + l.len - l.start
+    → RunEnd is_identifier (take n (drop l.start src)) 0 e → eqb e l.len ≡ is_label src l
+unfolding is_label
+is_label_bytes src l some short n e h m r =
+    let k : n ≡ l.len = omega arith in
+    let z : e ≡ run is_identifier (take n (drop l.start src)) = r.place ∙ omega arith in
+    let q : length (take n (drop l.start src)) ≡ l.len = length-take-le n (drop l.start src) (rw (length-drop l.start src) (omega arith)) ∙ k in
+    let same : every is_identifier (take l.len (drop l.start src)) ≡ eqb e l.len =
+    subst (λ (m : ℕ). every is_identifier (take m (drop l.start src)) ≡ eqb e l.len) k
+    (sym (every_run is_identifier (take n (drop l.start src))) ∙ rw (z, q)) in
+    rw (le-leb 1 l.len some, le-leb l.len 64 short, le-leb (l.start + l.len) (length src) h, same)
 
-pub is_frame_arm : (src : List ℕ) (f arm : Frame) (r : Bool) → f ≡ arm → r ≡ is_frame src arm → r ≡ is_frame src f
-is_frame_arm src f arm r e h = rw e h
+-- frames told by their places, of which the first i are frames
+abbrev pub Looked : List ℕ → (ℕ → Frame) → ℕ → ℕ → Type 0
+Looked src frame depth i =
+    (is_bottom (frame 0) ≡ true) × (list_all (λ k. is_frame src (frame k)) (take i (range_with_len 0 depth)) ≡ true)
 
-module _ (src : List ℕ) (l : Label) where
-  pub is_label_empty : l.len < 1 → false ≡ is_label src l
-  unfolding is_label
-  is_label_empty h = rw (lt-leb 1 l.len h)
+module _ (src : List ℕ) (frame : ℕ → Frame) (depth : ℕ) where
+  pub looked_bottom : (f : Frame) (flag : Bool) → flag ≡ is_bottom f → f ≡ frame 0 → flag ≡ false → false ≡ are_frames src depth frame
+  unfolding are_frames
+  looked_bottom f flag e first t = rw (← first, ← e, t)
 
-  module _ (some : 1 ≤ l.len) where
-    pub is_label_long : 64 < l.len → false ≡ is_label src l
-    unfolding is_label
-    is_label_long h = rw (le-leb 1 l.len some, lt-leb l.len 64 h)
+  pub looked_first : (f : Frame) (flag : Bool) → flag ≡ is_bottom f → f ≡ frame 0 → flag ≡ true → Looked src frame depth 0
+  looked_first f flag e first t = (rw (← first, ← e, t), refl)
 
-    module _ (short : l.len ≤ 64) where
-      pub is_label_past : length src < l.start + l.len → false ≡ is_label src l
-      unfolding is_label
-      is_label_past h = rw (le-leb 1 l.len some, le-leb l.len 64 short, lt-leb (l.start + l.len) (length src) h)
+  module _ (i : ℕ) (so_far : Looked src frame depth i) where
+    module _ (h : i < depth) (f : Frame) (flag : Bool) (e : flag ≡ is_frame src f) (here : f ≡ frame i) where
+      at : get_or (range_with_len 0 depth) i 0 ≡ i
+      at = get_or-range_with_len 0 depth i 0 h ∙ omega arith
 
-      pub is_label_bytes : (n e : ℕ) → l.start + l.len ≤ length src → n ≡ l.start + l.len - l.start → RunEnd is_identifier (take n (drop l.start src)) 0 e → eqb e (length (take n (drop l.start src))) ≡ is_label src l
-      unfolding is_label
-      is_label_bytes n e h m r =
-          let k : n ≡ l.len = omega arith in
-          let z : e ≡ run is_identifier (take n (drop l.start src)) = r.place ∙ omega arith in
-          rw (z, every_run is_identifier (take n (drop l.start src)), k, le-leb 1 l.len some, le-leb l.len 64 short, le-leb (l.start + l.len) (length src) h)
+      inside : i < length (range_with_len 0 depth)
+      inside = rw (length-range_with_len 0 depth) h
 
-pub ruleset labels = (is_label_empty, is_label_long, is_label_past, is_label_bytes)
+      pub looked_on : flag ≡ true → Looked src frame depth (i + 1)
+      looked_on t = (so_far.0, list_all_more (λ k. is_frame src (frame k)) (range_with_len 0 depth) i 0 inside ∙ rw (so_far.1, at, ← here, ← e, t))
 
--- the frames up to i are good, and the bottom one is
-pub record Checking (src : List ℕ) (s : Session) (depth i : ℕ) : Type 0 where
-  pub whole : depth ≡ s.depth
-  pub bottom : is_bottom (get_or s.frames 0 no_slot).frame ≡ true
-  pub passed : Holding (is_slot src) s.frames s.depth i
+      pub looked_stop : flag ≡ false → false ≡ are_frames src depth frame
+      unfolding are_frames
+      looked_stop t = rw (so_far.0, list_all_at (λ k. is_frame src (frame k)) (range_with_len 0 depth) i 0 inside (rw (at, ← here, ← e, t)))
 
-module _ (src : List ℕ) (s : Session) where
-  module _ (flag : Bool) (e : flag ≡ is_bottom (get_or s.frames 0 no_slot).frame) where
-    pub is_stack_bottom : not flag ≡ true → false ≡ is_stack src s
-    unfolding is_stack
-    is_stack_bottom t = rw (← e, not-true flag t)
+    pub looked_end : depth ≤ i → true ≡ are_frames src depth frame
+    unfolding are_frames
+    looked_end h =
+        let all : take i (range_with_len 0 depth) ≡ range_with_len 0 depth = take_all i (range_with_len 0 depth) (rw (length-range_with_len 0 depth) h) in
+        rw (so_far.0, ← all, so_far.1)
 
-    pub checking_first : not flag ≡ false → Checking src s s.depth 0
-    checking_first t = record { whole = refl; bottom = sym e ∙ not-false flag t; passed = holding_first no_slot (is_slot src) s.frames s.depth }
+-- a session's frames, told by their places
+every_none : (test : Slot → Bool) (n : ℕ) → every test (take n []) ≡ true
+unfolding every
+every_none test zero = refl
+every_none test (suc n) = refl
 
-  module _ (depth i : ℕ) (c : Checking src s depth i) where
-    pub checking_end : depth ≤ i → true ≡ is_stack src s
-    unfolding is_stack
-    checking_end h = rw c.bottom (holding_end no_slot (is_slot src) s.frames s.depth i c.passed (rw (← c.whole) h))
+every_told : (test : Slot → Bool) → test no_slot ≡ true → (frame : ℕ → Slot) (frames : List Slot) (a n : ℕ) → ((i : ℕ) → frame (a + i) ≡ get_or frames i no_slot)
+    → list_all (λ i. test (frame i)) (range_with_len a n) ≡ every test (take n frames)
+unfolding every
+every_told test e frame frames a zero h = refl
+every_told test e frame [] a (suc n) h =
+    let here : frame a ≡ no_slot = ap frame (omega arith) ∙ h 0 in
+    rw (here, e, every_told test e frame [] (a + 1) n (λ i. ap frame (omega arith) ∙ h (i + 1)), every_none test n)
+every_told test e frame (slot ∷ rest) a (suc n) h =
+    let here : frame a ≡ slot = ap frame (omega arith) ∙ h 0 in
+    rw (here, every_told test e frame rest (a + 1) n (λ i. ap frame (omega arith) ∙ h (suc i)))
 
-    module _ (flag : Bool) (h : i < depth) (e : flag ≡ is_frame src (get_or s.frames i no_slot).frame) where
-      pub checking_stop : not flag ≡ true → false ≡ is_stack src s
-      unfolding is_stack is_frame
-      checking_stop t = rw c.bottom (holding_stop no_slot (is_slot src) s.frames s.depth i c.passed flag (rw (← c.whole) h) e refl t)
-
-      pub checking_on : not flag ≡ false → Checking src s depth (i + 1)
-      unfolding is_frame
-      checking_on t = record { whole = c.whole; bottom = c.bottom; passed = holding_on no_slot (is_slot src) s.frames s.depth i c.passed flag (rw (← c.whole) h) e refl t }
-
-pub ruleset checking = (is_stack_bottom, checking_first, checking_end, checking_stop, checking_on)
+pub frames_stack : (src : List ℕ) (s : Session) → are_frames src s.depth (λ i. (get_or s.frames i no_slot).frame) ≡ is_stack src s
+unfolding are_frames is_stack is_frame
+frames_stack src s = rw (every_told (is_slot src) refl (λ i. get_or s.frames i no_slot) s.frames 0 s.depth (λ i. ap (λ (k : ℕ). get_or s.frames k no_slot) (omega arith)))

@@ -1,28 +1,17 @@
--- The host's calls on each way through them. Assumes nothing.
-use Prim.Native.Nat.{ℕ, ◌+◌, ◌-◌, ◌≤◌, ◌<◌}
+-- What `skip` asks on its way past an open gate. Assumes nothing.
+use Prim.Native.Nat.{ℕ, ◌+◌, ◌-◌, ◌≤◌}
 use mathlib.Core.Path.{◌≡◌, sym, ◌∙◌}
-use mathlib.Core.Bool.{Bool, true, false, not}
 use mathlib.Core.List.{List}
 use native.Mathlib.Omega.{arith}
 use lib.ListN.{length, take, drop, length-take, length-drop}
-use borrow.Author.Tests.{lt-ltb, le-ltb, lt-leb, le-leb, eq-eqb, ne_eqb, not-true, not-false}
-use Rattle.source.specs.Cursor.{origin, passed}
+use borrow.Author.Tests.{le-leb, eq-eqb}
+use Rattle.source.specs.Cursor.{passed}
 use Rattle.source.specs.Code.{Reaches}
 use Rattle.source.specs.declared.Span.{Span}
-use Rattle.state.specs.declared.Frame.{Frame}
 use Rattle.state.specs.declared.Session.{Session}
-use Rattle.state.specs.declared.Turn.{Turn}
-use Rattle.state.specs.Bounds.{is_frame}
 use Rattle.state.specs.Gates.{gate_refusal}
 use Rattle.state.proofs.Gates.{gate_opened}
-use Rattle.state.specs.Calls.{span_of, refused, done, gated, moved, entered, left, skipped, pushed, popped}
-
--- a shut gate refuses, and an open one lets the call through
-pub gated_shut : (shut n : ℕ) (s : Session) (t : Turn) → shut ≡ n → (shut ≡ 0 → ⊥) → refused shut origin s ≡ gated n s t
-gated_shut shut n s t e h = rw (← e, ne_eqb shut 0 h)
-
-pub gated_open : (shut n : ℕ) (s : Session) (t u : Turn) → shut ≡ n → shut ≡ 0 → t ≡ u → t ≡ gated n s u
-gated_open shut n s t u e h same = rw (← e, eq-eqb shut 0 h) same
+use Rattle.state.specs.Calls.{span_of, done, moved, skipped}
 
 -- what an open gate tells `skip`
 module _ (src : List ℕ) (s : Session) (shut : ℕ) (e : shut ≡ gate_refusal src s) (opened : shut ≡ 0) where
@@ -43,55 +32,11 @@ module _ (src : List ℕ) (s : Session) (shut : ℕ) (e : shut ≡ gate_refusal 
         position = omega (arith, o.source, o.numbers.position);
       })
 
-module _ (src : List ℕ) (s : Session) (shut : ℕ) (e : shut ≡ gate_refusal src s) where
-  module _ (r : Turn) (closed : shut ≡ 0 → ⊥) (back : r ≡ refused shut origin s) where
-    pub skip_shut : (count : ℕ) → r ≡ skipped src s count
-    unfolding skipped
-    skip_shut count = back ∙ gated_shut shut _ s _ e closed
+  pub skip_done : (count n : ℕ) (p q : Span) → count ≤ length src - s.position → n ≡ s.position + count - s.position → q ≡ span_of s → p ≡ passed q (take n (drop s.position src)) → done (moved s p) ≡ skipped src s count
+  unfolding skipped
+  skip_done count n p q h m here a =
+      let k : n ≡ count = omega arith in
+      let i : s.position ≤ length src = open_position in
+      rw (← e, eq-eqb shut 0 opened, a, here, k, le-leb (s.position + count) (length src) (omega arith))
 
-    pub push_shut : (f : Frame) → r ≡ pushed src s f
-    unfolding pushed
-    push_shut f = back ∙ gated_shut shut _ s _ e closed
-
-    pub pop_shut : r ≡ popped src s
-    unfolding popped
-    pop_shut = back ∙ gated_shut shut _ s _ e closed
-
-  module _ (opened : shut ≡ 0) where
-    module _ (r : Turn) (p : Span) (here : p ≡ span_of s) where
-      pub skip_past : (count : ℕ) → length src - s.position < count → r ≡ refused 10 p s → r ≡ skipped src s count
-      unfolding skipped
-      skip_past count h back = gated_open shut _ s r _ e opened (back ∙ rw (here, lt-leb (s.position + count) (length src) (omega arith)))
-
-      pub push_label : (f : Frame) (flag : Bool) → flag ≡ is_frame src f → not flag ≡ true → r ≡ refused 10 p s → r ≡ pushed src s f
-      unfolding pushed
-      push_label f flag b t back = gated_open shut _ s r _ e opened (back ∙ rw (here, ← b, not-true flag t))
-
-      pub push_full : (f : Frame) (flag : Bool) → flag ≡ is_frame src f → not flag ≡ false → 64 ≤ s.depth → r ≡ refused 9 p s → r ≡ pushed src s f
-      unfolding pushed
-      push_full f flag b t d back = gated_open shut _ s r _ e opened (back ∙ rw (here, ← b, not-false flag t, le-ltb s.depth 64 d))
-
-      pub pop_last : s.depth ≤ 1 → r ≡ refused 10 p s → r ≡ popped src s
-      unfolding popped
-      pop_last d back = gated_open shut _ s r _ e opened (back ∙ rw (here, le-ltb 1 s.depth d))
-
-    pub skip_done : (count n : ℕ) (p q : Span) → count ≤ length src - s.position → n ≡ s.position + count - s.position → q ≡ span_of s → p ≡ passed q (take n (drop s.position src)) → done (moved s p) ≡ skipped src s count
-    unfolding skipped
-    skip_done count n p q h m here a =
-        let k : n ≡ count = omega arith in
-        let i : s.position ≤ length src = open_position src s shut e opened in
-        gated_open shut _ s _ _ e opened (rw (a, here, k, le-leb (s.position + count) (length src) (omega arith)))
-
-    pub push_done : (f : Frame) (flag : Bool) → flag ≡ is_frame src f → not flag ≡ false → s.depth < 64 → done (entered s f) ≡ pushed src s f
-    unfolding pushed
-    push_done f flag b t d = gated_open shut _ s _ _ e opened (rw (← b, not-false flag t, lt-ltb s.depth 64 d))
-
-    pub pop_done : 1 < s.depth → done (left s) ≡ popped src s
-    unfolding popped
-    pop_done d = gated_open shut _ s _ _ e opened (rw (lt-ltb 1 s.depth d))
-
-pub ruleset skipping = (open_position, open_end, open_reaches, skip_shut, skip_past, skip_done)
-
-pub ruleset pushing = (push_shut, push_label, push_full, push_done)
-
-pub ruleset popping = (pop_shut, pop_last, pop_done)
+pub ruleset skipping = (open_position, open_end, open_reaches, skip_done)

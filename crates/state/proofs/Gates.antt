@@ -2,47 +2,55 @@
 use Rattle.std.specs.Prelude.{if◌then◌else◌}
 use Prim.Native.Nat.{ℕ, ◌/◌, ◌≤◌, ◌<◌}
 use mathlib.Core.Path.{◌≡◌, refl, sym, ◌∙◌}
-use mathlib.Core.Bool.{Bool, true, false, not, ◌&&◌}
+use mathlib.Core.Bool.{Bool, true, false, ◌&&◌}
 use mathlib.Core.List.{List}
 use native.Mathlib.Omega.{arith}
-use lib.ListN.{length}
-use borrow.Author.Tests.{leb-true, le-leb, lt-leb, not-true, not-false}
+use lib.ListN.{length, get_or}
+use borrow.Author.Tests.{leb-true, le-leb, lt-leb}
 use Rattle.source.specs.declared.Span.{Span}
 use Rattle.byte.proofs.Tests.{&&-left, &&-right, unrefused}
+use Rattle.state.specs.declared.Frame.{Frame}
 use Rattle.state.specs.declared.Session.{Session}
-use Rattle.state.specs.Bounds.{are_within, is_within, is_stack, is_good, fits_tables}
-use Rattle.state.proofs.Bounds.{Within, is_within_facts}
+use Rattle.state.specs.Bounds.{no_slot, are_frames, are_within, is_within, is_stack, is_good, fits_tables}
+use Rattle.state.proofs.Bounds.{Within, is_within_facts, frames_stack}
 use Rattle.state.specs.Calls.{span_of}
-use Rattle.state.specs.Gates.{checked, source_fits, tables_fit, gate_refusal, lent_refusal}
+use Rattle.state.specs.Gates.{checked, source_fits, tables_fit, gate_over, gate_refusal, lent_refusal}
 
-module _ (src : List ℕ) (s : Session) where
-  pub gate_large : 65536 < length src → 11 ≡ gate_refusal src s
-  unfolding gate_refusal source_fits
+pub gate_depth : (size : ℕ) (p : Span) (depth : ℕ) (within : Bool) → within ≡ are_within size p depth → within ≡ true → depth ≤ 64
+gate_depth size p depth within e t =
+    leb-true _ _ (&&-right _ _ (&&-left _ _ (&&-left _ _ (&&-left _ _ (&&-left _ _ (sym e ∙ t))))))
+
+module _ (src : List ℕ) (p : Span) (depth : ℕ) (frame : ℕ → Frame) where
+  pub gate_large : 65536 < length src → 11 ≡ gate_over src p depth frame
+  unfolding gate_over source_fits
   gate_large h = rw (lt-leb (length src) 65536 h)
 
-  module _ (p : Span) (e : p ≡ span_of s) (numbers : Bool) (n : numbers ≡ are_within (length src) p s.depth) where
-    within : is_within (length src) s ≡ numbers
-    unfolding is_within
-    within = sym (n ∙ rw e)
+  module _ (h : length src ≤ 65536) (within : Bool) (w : within ≡ are_within (length src) p depth) where
+    pub gate_numbers : within ≡ false → 12 ≡ gate_over src p depth frame
+    unfolding gate_over source_fits
+    gate_numbers t =
+        let no : are_within (length src) p depth ≡ false = sym w ∙ t in
+        rw (le-leb (length src) 65536 h, no)
 
-    pub gate_depth : not numbers ≡ false → s.depth ≤ 64
-    gate_depth t = (is_within_facts (length src) s (within ∙ not-false numbers t)).depth_high
+    module _ (t : within ≡ true) (frames : Bool) (f : frames ≡ are_frames src depth frame) where
+      looked_at : gate_over src p depth frame ≡ (if frames then 0 else 12)
+      unfolding gate_over source_fits
+      looked_at =
+          let yes : are_within (length src) p depth ≡ true = sym w ∙ t in
+          rw (le-leb (length src) 65536 h, yes, ← f)
 
-    module _ (h : length src ≤ 65536) where
-      pub gate_numbers : not numbers ≡ true → 12 ≡ gate_refusal src s
-      unfolding gate_refusal source_fits is_good
-      gate_numbers t = rw (le-leb (length src) 65536 h, within, not-true numbers t)
+      pub gate_frames : frames ≡ false → 12 ≡ gate_over src p depth frame
+      gate_frames u = rw (looked_at, u)
 
-      module _ (t : not numbers ≡ false) (frames : Bool) (f : frames ≡ is_stack src s) where
-        pub gate_frames : not frames ≡ true → 12 ≡ gate_refusal src s
-        unfolding gate_refusal source_fits is_good
-        gate_frames u = rw (le-leb (length src) 65536 h, within, not-false numbers t, ← f, not-true frames u)
-
-        pub gate_open : not frames ≡ false → 0 ≡ gate_refusal src s
-        unfolding gate_refusal source_fits is_good
-        gate_open u = rw (le-leb (length src) 65536 h, within, not-false numbers t, ← f, not-false frames u)
+      pub gate_open : frames ≡ true → 0 ≡ gate_over src p depth frame
+      gate_open u = rw (looked_at, u)
 
 pub ruleset gates = (gate_depth, gate_large, gate_numbers, gate_frames, gate_open)
+
+-- the gate of a session is the gate of its numbers and its frames
+pub gate_session : (src : List ℕ) (s : Session) (p : Span) → p ≡ span_of s → gate_over src p s.depth (λ i. (get_or s.frames i no_slot).frame) ≡ gate_refusal src s
+unfolding gate_over gate_refusal is_good is_within
+gate_session src s p e = rw (e, frames_stack src s)
 
 -- what an open gate tells
 pub record Opened (src : List ℕ) (s : Session) : Type 0 where

@@ -3,14 +3,17 @@
 // A call takes the session by value and gives it back in its turn, the same one where it refuses.
 #![tactic(auto)]
 
-ghost use Rattle.std.specs.Prelude.{◌≡◌, ◌≤◌};
+ghost use Rattle.std.specs.Prelude.{ℕ, ◌≡◌, ◌≤◌, ◌<◌};
 ghost use Rattle.source.specs.Cursor.{origin};
-ghost use Rattle.state.specs.Bounds.{is_label, is_frame, is_bottom, is_stack, are_within};
-ghost use Rattle.state.specs.Gates.{gate_refusal};
+ghost use Rattle.state.specs.Bounds.{is_label, is_frame, is_bottom, Told, are_frames, are_within};
+ghost use Rattle.state.specs.Gates.{gate_over, gate_refusal};
 ghost use Rattle.state.specs.Calls.{span_of, refused, fresh_session, skipped, pushed, popped};
 
 use byte::Octal;
 use source::Span;
+
+// The number of the first line, and of the first column.
+const FIRST: u32 = 1;
 
 // A text block's label: a range of the source.
 #[derive(Clone, Copy)]
@@ -86,6 +89,17 @@ pub struct Turn {
     pub session: Session,
 }
 
+// The script's beginning.
+pub fn origin() -> Span
+    ensures { result ≡ origin }
+{
+    Span {
+        line: FIRST,
+        column: FIRST,
+        position: 0,
+    }
+}
+
 // The place that a session stands at.
 pub fn span_of(s: Session) -> Span
     ensures { result ≡ span_of s }
@@ -111,87 +125,55 @@ pub fn refuse(number: u32, span: Span, s: Session) -> Turn
 pub fn refuse_at_gate(number: u32, s: Session) -> Turn
     ensures { result ≡ refused number origin s }
 {
-    let first = Span {
-        line: 1,
-        column: 1,
-        position: 0,
-    };
-    refuse(number, first, s)
+    refuse(number, origin(), s)
 }
 
 // Whether a label names 1 to 64 identifier bytes of the source.
+#[tactic(auto, unfolding(crate::specs::Bounds::is_label))]
 fn is_label(src: &[u8], l: Label) -> bool
     ensures { result ≡ is_label src.now l }
 {
     let start = l.start as usize;
     let len = l.len as usize;
     let end = start + len;
-    if len < 1 {
+    if len < 1 || 64 < len || src.len() < end {
         return false;
     }
-    if 64 < len {
-        return false;
-    }
-    if src.len() < end {
-        return false;
-    }
-    let part = &src[start..end];
-    source::run_end(part, 0) == part.len()
+    source::run_end(&src[start..end], 0) == len
 }
 
 // Whether a frame's label, if it has one, is good.
+#[tactic(auto, unfolding(crate::specs::Bounds::is_frame))]
 pub fn is_frame(src: &[u8], f: Frame) -> bool
     ensures { result ≡ is_frame src.now f }
 {
     match f {
-        Frame::Initial => true,
-        Frame::Scripting => true,
-        Frame::DoubleQuote => true,
-        Frame::ShellExec => true,
-        Frame::Heredoc(l) => is_label(src, l),
-        Frame::Nowdoc(l) => is_label(src, l),
-        Frame::LookingForVarname => true,
-        Frame::LookingForProperty => true,
-        Frame::VarOffset => true,
+        Frame::Heredoc(l) | Frame::Nowdoc(l) => is_label(src, l),
+        _ => true,
     }
 }
 
 // Whether a frame may stand at the bottom: one that is left by its own routine may not.
+#[tactic(auto, unfolding(crate::specs::Bounds::is_bottom))]
 pub fn is_bottom(f: Frame) -> bool
     ensures { result ≡ is_bottom f }
 {
-    match f {
-        Frame::Initial => true,
-        Frame::Scripting => true,
-        Frame::DoubleQuote => true,
-        Frame::ShellExec => true,
-        Frame::Heredoc(_) => true,
-        Frame::Nowdoc(_) => true,
-        Frame::LookingForVarname => true,
-        Frame::LookingForProperty => false,
-        Frame::VarOffset => false,
-    }
+    !matches!(f, Frame::LookingForProperty | Frame::VarOffset)
 }
 
-// Whether the frames up to the depth are a mode stack.
-fn is_stack(src: &[u8], s: Session) -> bool
-    requires { s.depth ≤ 64 }
-    ensures { result ≡ is_stack src.now s }
+// Whether so many frames are a mode stack, where `frame` gives each by its place.
+fn are_frames<F: Fn(usize) -> Frame>(src: &[u8], depth: usize, frame: F) -> bool
+    requires few { depth ≤ 64 }
+    requires callable { (i : ℕ) → i < 64 → F.pre frame i }
+    ensures { Told (F.post frame) (are_frames src.now depth) result }
 {
-    let depth = s.depth as usize;
-    let bottom = s.frames[0];
-    let first = bottom.frame;
-    if !is_bottom(first) {
+    if !is_bottom(frame(0)) {
         return false;
     }
-    let mut i = 0;
-    while i < depth {
-        let slot = s.frames[i];
-        let f = slot.frame;
-        if !is_frame(src, f) {
+    for i in 0..depth {
+        if !is_frame(src, frame(i)) {
             return false;
         }
-        i += 1;
     }
     true
 }
@@ -213,20 +195,25 @@ pub fn is_within(size: usize, p: Span, depth: u32) -> bool
         & (column <= next)
 }
 
-// Refusals 11 and 12 where no tables are lent: source and session alone. 0 for neither. (With tables: layout::gate_in.)
-pub fn gate(src: &[u8], s: Session) -> u32
-    ensures { result ≡ gate_refusal src.now s }
+// Refusals 11 and 12 of a source, a place in it and so many frames, where `frame` gives each by its place. 0 for neither.
+pub fn gate_over<F: Fn(usize) -> Frame>(src: &[u8], place: Span, depth: u32, frame: F) -> u32
+    requires callable { (i : ℕ) → i < 64 → F.pre frame i }
+    ensures { Told (F.post frame) (gate_over src.now place depth) result }
 {
     if 65536 < src.len() {
         return byte::TOO_LARGE;
     }
-    if !is_within(src.len(), span_of(s), s.depth) {
-        return byte::BAD_SESSION;
-    }
-    if !is_stack(src, s) {
+    if !is_within(src.len(), place, depth) || !are_frames(src, depth as usize, frame) {
         return byte::BAD_SESSION;
     }
     0
+}
+
+// Refusals 11 and 12 where no tables are lent: source and session alone. 0 for neither. (With tables: layout::gate_in.)
+pub fn gate(src: &[u8], s: Session) -> u32
+    ensures { result ≡ gate_refusal src.now s }
+{
+    gate_over(src, span_of(s), s.depth, |i| s.frames[i].frame)
 }
 
 // A session before its script: one frame, Initial, at the beginning, with both marks 0.
@@ -235,8 +222,8 @@ pub fn fresh(choices: Choices) -> Session
 {
     Session {
         position: 0,
-        line: 1,
-        column: 1,
+        line: FIRST,
+        column: FIRST,
         depth: 1,
         tokens: 0,
         bytes: 0,
@@ -248,6 +235,7 @@ pub fn fresh(choices: Choices) -> Session
 }
 
 // The session `count` bytes on. Refused past the end.
+#[tactic(auto, unfolding(crate::specs::Calls::skipped))]
 pub fn skip(src: &[u8], s: Session, count: usize) -> Turn
     ensures { result ≡ skipped src.now s count }
 {
@@ -272,6 +260,7 @@ pub fn skip(src: &[u8], s: Session, count: usize) -> Turn
 }
 
 // The session with one frame more. Refused where its label is none, then where it would be the 65th.
+#[tactic(auto, unfolding(crate::specs::Calls::pushed))]
 pub fn push(src: &[u8], s: Session, f: Frame) -> Turn
     ensures { result ≡ pushed src.now s f }
 {
@@ -297,6 +286,7 @@ pub fn push(src: &[u8], s: Session, f: Frame) -> Turn
 }
 
 // The session with one frame less. Refused at depth 1.
+#[tactic(auto, unfolding(crate::specs::Calls::popped))]
 pub fn pop(src: &[u8], s: Session) -> Turn
     ensures { result ≡ popped src.now s }
 {

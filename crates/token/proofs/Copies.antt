@@ -9,16 +9,6 @@ use lib.Seq.{length-take-le, drop-drop, drop-append-add, take-add, take-length, 
 use Rattle.byte.specs.Laid.{laid}
 use Rattle.byte.proofs.Words.{drop-one}
 use Rattle.byte.proofs.Laid.{laid_nil, length_laid, set_laid}
-use Rattle.source.proofs.Blocks.{eight_bytes}
-use Rattle.token.proofs.Records.{eight_laid}
-
--- eight bytes of a part, stored one after another
-pub eight_copied : (part l : List ℕ) (from to : ℕ) → (from + 8 ≤ length part) × (to + 8 ≤ length l)
-    → set (set (set (set (set (set (set (set l to (get_or part from 0)) (to + 1) (get_or part (from + 1) 0))
-    (to + 2) (get_or part (from + 2) 0)) (to + 3) (get_or part (from + 3) 0)) (to + 4) (get_or part (from + 4) 0))
-    (to + 5) (get_or part (from + 5) 0)) (to + 6) (get_or part (from + 6) 0)) (to + 7) (get_or part (from + 7) 0)
-    ≡ laid l to (take 8 (drop from part))
-eight_copied part l from to h = rw (eight_bytes part from h.0) (eight_laid l to _ _ _ _ _ _ _ _ h.1)
 
 drop_over : (xs l : List ℕ) (i j : ℕ) → length xs ≡ i → i ≤ j → drop j (xs ++ drop i l) ≡ drop j l
 drop_over xs l i j e h =

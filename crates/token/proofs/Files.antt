@@ -9,13 +9,13 @@ use native.Mathlib.Numerals.{add-one}
 use lib.Dec.{leb, eqb}
 use lib.ListN.{length, take, drop, set, get_or}
 use lib.Seq.{take-length, take-suc, get_or-drop, length-take-le}
-use borrow.Author.Tests.{le-leb, lt-leb, eq-eqb, ne_eqb, leb-true, eqb-true}
+use borrow.Author.Tests.{eq-eqb, leb-true, eqb-true}
 use Rattle.byte.specs.Laid.{laid}
 use Rattle.byte.proofs.Tests.{unrefused}
 use Rattle.byte.proofs.Laid.{set_laid, Writing, writing_first, writing_on, writing_end}
 use Rattle.source.specs.Cursor.{origin}
 use Rattle.state.specs.declared.Answer.{Answer}
-use Rattle.token.specs.Files.{little_endian, file_of, number_at, list_of, to_file_refusal, to_list_refusal, file_answer, Written}
+use Rattle.token.specs.Files.{little_endian, file_of, number_at, list_of, to_list_refusal, file_answer, Written}
 
 pub file_of_append : (xs ys : List ℕ) → file_of (xs ++ ys) ≡ file_of xs ++ file_of ys
 unfolding file_of
@@ -53,13 +53,6 @@ module _ (list old : List ℕ) (fits : length list * 4 ≤ length old) where
 
     pub filing_end : length list ≤ i → file ≡ laid old 0 (file_of list)
     filing_end h = writing_end (λ (k : ℕ). file_of (take k list)) (length list) old file i f h ∙ rw (take-length list)
-
-pub ruleset filing = (filing_first, filing_room, filing_on, filing_end)
-
--- four bytes that were read, put together
-pub number_at_sum : (file : List ℕ) (at a b c d : ℕ) → a ≡ get_or file at 0 → b ≡ get_or file (at + 1) 0 → c ≡ get_or file (at + 2) 0 → d ≡ get_or file (at + 3) 0 → a + b * 256 + c * 65536 + d * 16777216 ≡ number_at file at
-unfolding number_at
-number_at_sum file at a b c d ea eb ec ed = rw (ea, eb, ec, ed)
 
 number_at_drop : (file : List ℕ) (n at : ℕ) → number_at (drop n file) at ≡ number_at file (n + at)
 unfolding number_at
@@ -100,57 +93,6 @@ module _ (file : List ℕ) (count : ℕ) (old : List ℕ) where
     pub listing_end : count ≤ i → list ≡ laid old 0 (list_of count file)
     listing_end h = writing_end (λ (k : ℕ). list_of k file) count old list i l h
 
-pub ruleset listing = (listing_first, listing_on, listing_end)
-
--- `list_to_file`'s refusals, each on its way
-module _ (list file : ℕ) where
-  pub to_file_large : 65537 < list / 8 → 11 ≡ to_file_refusal list file
-  unfolding to_file_refusal
-  to_file_large h = rw (lt-leb (list / 8) 65537 h)
-
-  module _ (l : list / 8 ≤ 65537) where
-    pub to_file_broken : (list % 8 ≡ 0 → ⊥) → 10 ≡ to_file_refusal list file
-    unfolding to_file_refusal
-    to_file_broken h = rw (le-leb (list / 8) 65537 l, ne_eqb (list % 8) 0 h)
-
-    module _ (w : list % 8 ≡ 0) where
-      pub to_file_full : file / 32 < list / 8 → 8 ≡ to_file_refusal list file
-      unfolding to_file_refusal
-      to_file_full h = rw (le-leb (list / 8) 65537 l, eq-eqb (list % 8) 0 w, lt-leb (list / 8) (file / 32) h)
-
-      pub to_file_open : list / 8 ≤ file / 32 → 0 ≡ to_file_refusal list file
-      unfolding to_file_refusal
-      to_file_open h = rw (le-leb (list / 8) 65537 l, eq-eqb (list % 8) 0 w, le-leb (list / 8) (file / 32) h)
-
-pub ruleset to_file_refusals = (to_file_large, to_file_broken, to_file_full, to_file_open)
-
--- `file_to_list`'s
-module _ (file list : ℕ) where
-  pub to_list_file : 65537 < file / 32 → 11 ≡ to_list_refusal file list
-  unfolding to_list_refusal
-  to_list_file h = rw (lt-leb (file / 32) 65537 h)
-
-  module _ (f : file / 32 ≤ 65537) where
-    pub to_list_list : 65537 < list / 8 → 11 ≡ to_list_refusal file list
-    unfolding to_list_refusal
-    to_list_list h = rw (le-leb (file / 32) 65537 f, lt-leb (list / 8) 65537 h)
-
-    module _ (l : list / 8 ≤ 65537) where
-      pub to_list_broken : (file % 32 ≡ 0 → ⊥) → 10 ≡ to_list_refusal file list
-      unfolding to_list_refusal
-      to_list_broken h = rw (le-leb (file / 32) 65537 f, le-leb (list / 8) 65537 l, ne_eqb (file % 32) 0 h)
-
-      module _ (w : file % 32 ≡ 0) where
-        pub to_list_full : list / 8 < file / 32 → 7 ≡ to_list_refusal file list
-        unfolding to_list_refusal
-        to_list_full h = rw (le-leb (file / 32) 65537 f, le-leb (list / 8) 65537 l, eq-eqb (file % 32) 0 w, lt-leb (file / 32) (list / 8) h)
-
-        pub to_list_open : file / 32 ≤ list / 8 → 0 ≡ to_list_refusal file list
-        unfolding to_list_refusal
-        to_list_open h = rw (le-leb (file / 32) 65537 f, le-leb (list / 8) 65537 l, eq-eqb (file % 32) 0 w, le-leb (file / 32) (list / 8) h)
-
-pub ruleset to_list_refusals = (to_list_file, to_list_list, to_list_broken, to_list_full, to_list_open)
-
 -- an answer that is no refusal
 pub file_answer_done : (number : ℕ) → Answer.Done ≡ file_answer number → number ≡ 0
 unfolding file_answer
@@ -160,15 +102,6 @@ file_answer_done number e = go (eqb number 0) refl e
     go true h e = eqb-true number 0 h
     go false h e = cc
 
-module _ (number refusal : ℕ) (lent values : List ℕ) (e : number ≡ refusal) where
-  pub written_refused : (r : Answer) → (number ≡ 0 → ⊥) → r ≡ Answer.Refused number origin → Written refusal lent values r lent
-  unfolding file_answer
-  written_refused r n back = record { answer = back ∙ rw (← e, ne_eqb number 0 n); holds = rw (← e, ne_eqb number 0 n) }
-
-  pub written_done : (after : List ℕ) → number ≡ 0 → after ≡ laid lent 0 values → Written refusal lent values Answer.Done after
-  unfolding file_answer
-  written_done after z w = record { answer = rw (← e, eq-eqb number 0 z); holds = w ∙ rw (← e, eq-eqb number 0 z) }
-
 -- two results that meet one statement are equal
 pub written_one : (refusal : ℕ) (lent values : List ℕ) (r r' : Answer) (after after' : List ℕ) → Written refusal lent values r after → Written refusal lent values r' after' → (r ≡ r') × (after ≡ after')
 written_one refusal lent values r r' after after' f g = (f.answer ∙ sym g.answer, f.holds ∙ sym g.holds)
@@ -177,15 +110,7 @@ written_one refusal lent values r r' after after' f g = (f.answer ∙ sym g.answ
 pub written_values : (refusal : ℕ) (lent values after : List ℕ) → Written refusal lent values Answer.Done after → after ≡ laid lent 0 values
 written_values refusal lent values after f = rw (eq-eqb refusal 0 (file_answer_done refusal f.answer)) at f.holds
 
--- there is room for what an accepted call writes
-pub to_file_room : (list file number : ℕ) → number ≡ to_file_refusal list file → number ≡ 0 → list * 4 ≤ file
-unfolding to_file_refusal
-to_file_room list file number e z =
-    let fits = unrefused (leb (list / 8) 65537) _ 10 (sym e ∙ z) in
-    let whole = unrefused (eqb (list % 8) 0) _ 9 fits.1 in
-    let enough = unrefused (leb (list / 8) (file / 32)) 0 7 whole.1 in
-    omega (arith, eqb-true (list % 8) 0 whole.0, leb-true (list / 8) (file / 32) enough.0)
-
+-- an accepted file is a whole number of numbers
 module _ (file list number : ℕ) (e : number ≡ to_list_refusal file list) (z : number ≡ 0) where
   lengths : (file % 32 ≡ 0) × (file / 32 ≤ list / 8)
   unfolding to_list_refusal
@@ -197,11 +122,3 @@ module _ (file list number : ℕ) (e : number ≡ to_list_refusal file list) (z 
 
   pub to_list_whole : file / 4 * 4 ≡ file
   to_list_whole = omega (arith, lengths.0)
-
-  pub to_list_bytes : file / 4 * 4 ≤ file
-  to_list_bytes = omega (arith, lengths.0)
-
-  pub to_list_room : file / 4 ≤ list
-  to_list_room = omega (arith, lengths.0, lengths.1)
-
-pub ruleset filed = (written_refused, written_done, to_file_room, to_list_bytes, to_list_room)

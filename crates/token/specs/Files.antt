@@ -3,6 +3,7 @@
 --   file_of           the bytes of a list of numbers
 --   number_at         the number in the four bytes from a place on
 --   list_of           so many numbers from the file's start on
+--   records_refusal   of so many places, so many to a record, and room for so many records: 11, 10, full, or 0
 --   to_file_refusal   of a list of so many numbers and a file of so many bytes: 11, 10, 8, or 0
 --   to_list_refusal   of a file of so many bytes and a list of so many numbers: 11, 10, 7, or 0
 --   ToFile, ToList    answer, and what the lent file or list then holds: a refusal changes nothing
@@ -27,6 +28,12 @@ number_at file at =
 unfoldable pub list_of : ℕ → List ℕ → List ℕ
 list_of zero file = []
 list_of (suc count) file = number_at file 0 ∷ list_of count (drop 4 file)
+
+unfoldable pub records_refusal : ℕ → ℕ → ℕ → ℕ → ℕ
+records_refusal size unit room full =
+    if leb (size / unit) 65537 then
+    (if eqb (size % unit) 0 then (if leb (size / unit) room then 0 else full) else out_of_place)
+    else too_large
 
 unfoldable pub to_file_refusal : ℕ → ℕ → ℕ
 to_file_refusal list file =

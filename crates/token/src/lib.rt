@@ -2,11 +2,11 @@
 // Of the Rust: token.rs. The list is lent numbers, eight a token; a write touches its own places and no other.
 #![tactic(auto)]
 
-ghost use Rattle.std.specs.Prelude.{◌≡◌, ◌+◌, ◌*◌, ◌≤◌, length, take, drop};
+ghost use Rattle.std.specs.Prelude.{◌≡◌, ◌+◌, ◌*◌, ◌≤◌, ◌<◌, length};
 ghost use Rattle.source.specs.Cursor.{origin};
 ghost use Rattle.byte.specs.Laid.{laid};
 ghost use Rattle.token.specs.Records.{record_of, room_refusal};
-ghost use Rattle.token.specs.Files.{little_endian, number_at, file_of, list_of, to_file_refusal, to_list_refusal, ToFile, ToList};
+ghost use Rattle.token.specs.Files.{little_endian, number_at, file_of, list_of, records_refusal, to_file_refusal, to_list_refusal, ToFile, ToList};
 
 use source::Span;
 use state::Answer;
@@ -68,6 +68,7 @@ pub struct Token {
 }
 
 // Whether `count` records and `len` value bytes fit from the marks on: 7, 8, or 0 where they do. To be asked before any write.
+#[tactic(auto, unfolding(crate::specs::Records::room_refusal))]
 pub fn room(list: usize, pool: usize, tokens: u32, bytes: u32, count: u32, len: u32) -> u32
     ensures { result ≡ room_refusal list pool tokens bytes count len }
 {
@@ -86,75 +87,25 @@ pub fn put_token(list: &mut [u32], place: usize, t: Token)
     ensures { list.new ≡ laid list.old (place * 8) (record_of t) }
 {
     let at = place * 8;
-    list[at] = t.kind;
-    list[at + 1] = t.detail;
-    list[at + 2] = t.span.line;
-    list[at + 3] = t.span.column;
-    list[at + 4] = t.span.position;
-    list[at + 5] = t.start;
-    list[at + 6] = t.len;
-    list[at + 7] = t.end;
+    let record = [
+        t.kind,
+        t.detail,
+        t.span.line,
+        t.span.column,
+        t.span.position,
+        t.start,
+        t.len,
+        t.end,
+    ];
+    list[at..at + 8].copy_from_slice(&record);
 }
 
-// Eight bytes: all are read before any is written, so that both are one move.
-fn copy_8(part: &[u8], from: usize, rest: &mut [u8], to: usize)
-    requires { (from + 8 ≤ length part.now) × (to + 8 ≤ length rest.old) }
-    ensures { rest.new ≡ laid rest.old to (take 8 (drop from part.now)) }
-{
-    let a = part[from];
-    let b = part[from + 1];
-    let c = part[from + 2];
-    let d = part[from + 3];
-    let e = part[from + 4];
-    let f = part[from + 5];
-    let g = part[from + 6];
-    let h = part[from + 7];
-    rest[to] = a;
-    rest[to + 1] = b;
-    rest[to + 2] = c;
-    rest[to + 3] = d;
-    rest[to + 4] = e;
-    rest[to + 5] = f;
-    rest[to + 6] = g;
-    rest[to + 7] = h;
-}
-
-// Fewer than eight, one by one.
-fn copy_few(part: &[u8], rest: &mut [u8])
-    requires { length part.now ≤ length rest.old }
-    ensures { rest.new ≡ laid rest.old 0 part.now }
-{
-    let mut i = 0;
-    while i < part.len() {
-        rest[i] = part[i];
-        i += 1;
-    }
-}
-
-// The bytes of a part, copied to the start of another by blocks of eight: the last block lies over the one before.
-fn copy(part: &[u8], rest: &mut [u8])
-    requires { length part.now ≤ length rest.old }
-    ensures { rest.new ≡ laid rest.old 0 part.now }
-{
-    if part.len() < 8 {
-        copy_few(part, rest);
-        return;
-    }
-    let last = part.len() - 8;
-    let mut i = 0;
-    while i < last {
-        copy_8(part, i, rest, i);
-        i += 8;
-    }
-    copy_8(part, last, rest, last);
-}
-
-// A value in the pool from its fill mark on: the free rest of the pool is passed on as a part.
+// A value in the pool from its fill mark on.
 pub fn put_value(part: &[u8], pool: &mut [u8], mark: usize)
     requires { mark + length part.now ≤ length pool.old }
     ensures { pool.new ≡ laid pool.old mark part.now }
 {
-    copy(part, &mut pool[mark..]);
+    pool[mark..mark + part.len()].copy_from_slice(part);
 }
 
 // One number of a record, as four bytes of a file, the lowest first.
@@ -162,76 +113,63 @@ fn put_number(file: &mut [u8], at: usize, n: u32)
     requires { at + 4 ≤ length file.old }
     ensures { file.new ≡ laid file.old at (little_endian n) }
 {
-    file[at] = (n % 256) as u8;
-    file[at + 1] = (n / 256 % 256) as u8;
-    file[at + 2] = (n / 65536 % 256) as u8;
-    file[at + 3] = (n / 16777216 % 256) as u8;
-}
-
-// A byte as a number that can be added up.
-fn wide(b: u8) -> u32
-    ensures { (result ≡ b) × (result ≤ 255) }
-{
-    b as u32
+    file[at..at + 4].copy_from_slice(&n.to_le_bytes());
 }
 
 // The number in four bytes of a file.
+#[tactic(auto, unfolding(crate::specs::Files::number_at))]
 fn number_at(file: &[u8], at: usize) -> u32
     requires { at + 4 ≤ length file.now }
     ensures { result ≡ number_at file.now at }
 {
-    let first = wide(file[at]);
-    let second = wide(file[at + 1]);
-    let third = wide(file[at + 2]);
-    let fourth = wide(file[at + 3]);
-    first + second * 256 + third * 65536 + fourth * 16777216
+    u32::from_le_bytes([file[at], file[at + 1], file[at + 2], file[at + 3]])
+}
+
+// Of so many places, `unit` to a record, and room for so many records: 11 for too many, 10 for a broken one, `full`, or 0.
+#[tactic(auto, unfolding(crate::specs::Files::records_refusal))]
+fn records_refusal(size: usize, unit: usize, room: usize, full: u32) -> u32
+    requires { 0 < unit }
+    ensures { result ≡ records_refusal size unit room full }
+{
+    if 65537 < size / unit {
+        return byte::TOO_LARGE;
+    }
+    if size % unit != 0 {
+        return byte::OUT_OF_PLACE;
+    }
+    if room < size / unit {
+        return full;
+    }
+    0
 }
 
 // Refusals 11, 10 and 8 of `list_to_file`, or 0.
+#[tactic(auto, unfolding(crate::specs::Files::records_refusal, crate::specs::Files::to_file_refusal))]
 fn to_file_refusal(list: usize, file: usize) -> u32
     ensures { result ≡ to_file_refusal list file }
 {
-    if 65537 < list / 8 {
-        return byte::TOO_LARGE;
-    }
-    if list % 8 != 0 {
-        return byte::OUT_OF_PLACE;
-    }
-    if file / 32 < list / 8 {
-        return byte::POOL_FULL;
-    }
-    0
+    records_refusal(list, 8, file / 32, byte::POOL_FULL)
 }
 
 // Refusals 11, 10 and 7 of `file_to_list`, or 0.
+#[tactic(auto, unfolding(crate::specs::Files::records_refusal, crate::specs::Files::to_list_refusal))]
 fn to_list_refusal(file: usize, list: usize) -> u32
     ensures { result ≡ to_list_refusal file list }
 {
-    if 65537 < file / 32 {
-        return byte::TOO_LARGE;
-    }
     if 65537 < list / 8 {
         return byte::TOO_LARGE;
     }
-    if file % 32 != 0 {
-        return byte::OUT_OF_PLACE;
-    }
-    if list / 8 < file / 32 {
-        return byte::LIST_FULL;
-    }
-    0
+    records_refusal(file, 32, list / 8, byte::LIST_FULL)
 }
 
 // A refusal of a call without a session bears a script's beginning.
 fn refuse(number: u32) -> Answer
     ensures { result ≡ Answer.Refused number origin }
 {
-    let span = Span {
-        line: 1,
-        column: 1,
-        position: 0,
-    };
-    Answer::Refused { number, span }
+    Answer::Refused {
+        number,
+        span: state::origin(),
+    }
 }
 
 // Each number of the list as four bytes from the file's start on.
@@ -239,10 +177,8 @@ fn put_numbers(list: &[u32], file: &mut [u8])
     requires { length list.now * 4 ≤ length file.old }
     ensures { file.new ≡ laid file.old 0 (file_of list.now) }
 {
-    let mut i = 0;
-    while i < list.len() {
-        put_number(file, i * 4, list[i]);
-        i += 1;
+    for (i, n) in list.iter().enumerate() {
+        put_number(file, i * 4, *n);
     }
 }
 
@@ -251,15 +187,14 @@ fn put_list(file: &[u8], count: usize, list: &mut [u32])
     requires { (count * 4 ≤ length file.now) × (count ≤ length list.old) }
     ensures { list.new ≡ laid list.old 0 (list_of count file.now) }
 {
-    let mut i = 0;
-    while i < count {
+    for i in 0..count {
         list[i] = number_at(file, i * 4);
-        i += 1;
     }
 }
 
 // All records of a list as a file: 32 bytes a record, little-endian, no header.
 // Refused: a list over 65,537 tokens (11) or of no whole number of records (10), a file with less room (8).
+#[tactic(auto, unfolding(crate::specs::Files::to_file_refusal, crate::specs::Files::file_answer))]
 pub fn list_to_file(list: &[u32], file: &mut [u8]) -> Answer
     ensures { ToFile list.now file.old result file.new }
 {
@@ -273,6 +208,7 @@ pub fn list_to_file(list: &[u32], file: &mut [u8]) -> Answer
 
 // All records of a file as a list.
 // Refused: a file or a list over 65,537 tokens (11), a file of no whole number of records (10), a list with fewer places (7).
+#[tactic(auto, unfolding(crate::specs::Files::to_list_refusal, crate::specs::Files::file_answer))]
 pub fn file_to_list(file: &[u8], list: &mut [u32]) -> Answer
     ensures { ToList file.now list.old result list.new }
 {
