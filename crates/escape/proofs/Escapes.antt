@@ -62,55 +62,60 @@ module _ (octals : Octal) (src : List ℕ) (end : Bool) (base value n : ℕ) whe
         let less : suc left - 1 ≡ left = omega arith in
         rw (drop-one src n inside, lt-ltb (digit_value (get_or src n 0)) base h, less, add-one n) refl
 
--- the loop of `digits_at`: after i digits more, what is left decides
-pub record Reading (octals : Octal) (end : Bool) (base more : ℕ) (src : List ℕ) (at first i value n : ℕ) : Type 0 where
+-- the loop of `digits_at`: before n, what is left decides
+pub record Reading (octals : Octal) (end : Bool) (base more : ℕ) (src : List ℕ) (at first value n : ℕ) : Type 0 where
+  pub from : at ≤ n
+  pub upto : n ≤ at + more
   pub inside : n ≤ length src
-  pub small : i < 2 → value < 16 + 240 * i
-  pub same : digits octals end base more first at (drop at src) ≡ digits octals end base (more - i) value n (drop n src)
+  pub small : n < at + 2 → value + 240 * at < 16 + 240 * n
+  pub same : digits octals end base more first at (drop at src) ≡ digits octals end base (at + more - n) value n (drop n src)
 
 module _ (octals : Octal) (end : Bool) (base more : ℕ) (src : List ℕ) (at first : ℕ) where
-  pub reading_first : at ≤ length src → first < 16 → Reading octals end base more src at first 0 first at
-  reading_first h k = record { inside = h; small = λ z. omega (arith, k); same = rw none refl }
+  pub reading_first : at ≤ length src → first < 16 → Reading octals end base more src at first first at
+  reading_first h k = record { from = omega arith; upto = omega arith; inside = h; small = λ z. omega (arith, k); same = rw all refl }
     where
-      none : more - 0 ≡ more
-      none = omega arith
+      all : at + more - at ≡ more
+      all = omega arith
 
-  module _ (i value n : ℕ) (g : Reading octals end base more src at first i value n) where
-    pub reading_end : (r : TextUnit) → more ≤ i → r ≡ fitted octals value n → r ≡ digits octals end base more first at (drop at src)
+  module _ (value n : ℕ) (g : Reading octals end base more src at first value n) where
+    pub reading_end : (r : TextUnit) → at + more ≤ n → r ≡ fitted octals value (at + more) → r ≡ digits octals end base more first at (drop at src)
     unfolding digits
     reading_end r h e =
-        let none : more - i ≡ 0 = omega arith in
-        e ∙ sym (g.same ∙ rw none)
+        let none : at + more - n ≡ 0 = omega arith in
+        let here : n ≡ at + more = omega (arith, g.upto) in
+        rw (g.same, none, here) e
 
-    module _ (h : i < more) where
+    module _ (h : n < at + more) where
       pub reading_past : (u r : TextUnit) → length src ≤ n → u ≡ fitted octals value n → r ≡ last end u
           → r ≡ digits octals end base more first at (drop at src)
       reading_past u r past e f =
-          digits_past octals src end base value n (more - i) r (omega arith) past (rw (← e) f) ∙ sym g.same
+          digits_past octals src end base value n (at + more - n) r (omega arith) past (rw (← e) f) ∙ sym g.same
 
       module _ (there : n < length src) where
         pub reading_stop : (r : TextUnit) → base ≤ digit_value (get_or src n 0) → r ≡ fitted octals value n
             → r ≡ digits octals end base more first at (drop at src)
-        reading_stop r k e = digits-stop octals src end base value n there (more - i) r (omega arith) k e ∙ sym g.same
+        reading_stop r k e = digits-stop octals src end base value n there (at + more - n) r (omega arith) k e ∙ sym g.same
 
         module _ (few : more ≤ 2) (low : base ≤ 16) (d : ℕ) (told : d ≡ digit_value (get_or src n 0)) (k : d < base) where
           product : value * base ≤ value * 16
           product = mul-le-mul_left value low
 
           pub reading_product : value * base < 4294967296
-          reading_product = omega (arith, product, g.small (omega arith))
+          reading_product = omega (arith, product, g.from, g.small (omega arith))
 
           pub reading_sum : value * base + d < 4294967296
-          reading_sum = omega (arith, product, g.small (omega arith))
+          reading_sum = omega (arith, product, g.from, g.small (omega arith))
 
-          pub reading_on : Reading octals end base more src at first (i + 1) (value * base + d) (n + 1)
+          pub reading_on : Reading octals end base more src at first (value * base + d) (n + 1)
           reading_on = record {
+            from = omega (arith, g.from);
+            upto = omega arith;
             inside = omega arith;
-            small = λ z. omega (arith, product, g.small (omega arith));
-            same = g.same ∙ rw (told) (digits_step octals src end base value n there (more - i) (omega arith) (rw (← told) k) ∙ rw less refl);
+            small = λ z. omega (arith, product, g.from, g.small (omega arith));
+            same = g.same ∙ rw (told) (digits_step octals src end base value n there (at + more - n) (omega arith) (rw (← told) k) ∙ rw less refl);
           }
             where
-              less : more - i - 1 ≡ more - (i + 1)
+              less : at + more - n - 1 ≡ at + more - (n + 1)
               less = omega arith
 
 pub ruleset digit_runs = (reading_first, reading_end, reading_past, reading_stop, reading_product, reading_sum, reading_on)

@@ -158,8 +158,7 @@ fn digits_at<const BASE: u32, const MORE: usize>(
     ensures { result ≡ digits octals end BASE MORE first at (drop at src.now) }
 {
     let mut value = first;
-    let mut n = at;
-    for _ in 0..MORE {
+    for n in at..at + MORE {
         if src.len() <= n {
             let unit = fitted(octals, value, n);
             return last(end, unit);
@@ -168,9 +167,8 @@ fn digits_at<const BASE: u32, const MORE: usize>(
             return fitted(octals, value, n);
         };
         value = value * BASE + digit;
-        n += 1;
     }
-    fitted(octals, value, n)
+    fitted(octals, value, at + MORE)
 }
 
 // `\x`, its `x` at `at`.

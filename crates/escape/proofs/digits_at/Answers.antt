@@ -10,11 +10,11 @@ returns-then-src-n g c = search digit_runs
 
 pub returns-in_default : goal.returns-in_default
 returns-in_default g c =
-    let none : g.row.BASE ≤ digit_value (get_or c.args.src.now c.loop.n 0) = c.in_default.ensures in
+    let none : g.row.BASE ≤ digit_value (get_or c.args.src.now c.loop-n.n 0) = c.in_default.ensures in
     search (none, digit_runs)
 
-pub loop-preserved : goal.loop-preserved
-loop-preserved g c =
+pub loop-n-preserved : goal.loop-n-preserved
+loop-n-preserved g c =
     let told = c.in-Some.ensures.0 in
     let below : c.in-Some.digit < g.row.BASE = c.in-Some.ensures.1 in
     search (told, below, c.requires.base.1, digit_runs)
