@@ -1,6 +1,7 @@
 -- Scans and their plans: what a scan found makes the outcome of what was read. Assumes nothing.
 --   read-plans, number_plans   the plan of a reading that was measured makes its outcome
 --   .. -arm                    the same on each arm of a match on the scan
+use Rattle.std.specs.Prelude.{Option, Some, None}
 use Prim.Native.Nat.{ℕ, ◌+◌, ◌-◌, ◌≤◌}
 use mathlib.Core.Path.{◌≡◌, refl, sym, ◌∙◌}
 use mathlib.Core.Bool.{Bool}
@@ -190,21 +191,22 @@ module _ (place : ℕ) (src : List ℕ) (end : Bool) (at : ℕ) (here : Here src
       (record { size = refl; able = record { order = inside.0; inside = high } }))
   number_plans numbers.Reading.Wait e = record { told = refl; ready = tt }
 
-  module _ (scan : number.Scanned) (s : scan ≡ numbers.scanned (numbers.number_at end at (drop at src))) where
-    number_arm : (arm : number.Scanned) (r : Plan) → scan ≡ arm → r ≡ number_work place at arm
+  module _ (scan : Option number.Scanned) (s : scan ≡ numbers.scanned (numbers.number_at end at (drop at src))) where
+    number_arm : (arm : Option number.Scanned) (r : Plan) → scan ≡ arm → r ≡ number_work place at arm
         → Plans src end (numbered place (numbers.number_at end at (drop at src))) r
     number_arm arm r a e =
         let work : r ≡ number_work place at (numbers.scanned (numbers.number_at end at (drop at src))) = e ∙ rw (← a, s) in
         rw work (number_plans (numbers.number_at end at (drop at src)) refl)
 
-    pub number_found : (literal : Literal) (after len kind : ℕ) (d : Draft) (r : Plan) → scan ≡ number.Scanned.Number literal after len
-        → kind ≡ number_kind literal → d ≡ made_draft kind place Making.Number at after len → r ≡ one_plan d after Change.Keep
+    pub number_found : (found : number.Scanned) (kind : ℕ) (d : Draft) (r : Plan) → scan ≡ Some found
+        → kind ≡ number_kind found.literal → d ≡ made_draft kind place Making.Number at found.after found.len
+        → r ≡ one_plan d found.after Change.Keep
         → Plans src end (numbered place (numbers.number_at end at (drop at src))) r
     unfolding number_work number_plan
-    number_found literal after len kind d r a k m e = number_arm (number.Scanned.Number literal after len) r a (e ∙ rw (m, k))
+    number_found found kind d r a k m e = number_arm (Some found) r a (e ∙ rw (m, k))
 
-    pub number_wait : scan ≡ number.Scanned.Wait → Plans src end (numbered place (numbers.number_at end at (drop at src))) Plan.Wait
+    pub number_wait : scan ≡ None → Plans src end (numbered place (numbers.number_at end at (drop at src))) Plan.Wait
     unfolding number_work
-    number_wait a = number_arm number.Scanned.Wait Plan.Wait a refl
+    number_wait a = number_arm None Plan.Wait a refl
 
 pub ruleset numbering = (number_found, number_wait)

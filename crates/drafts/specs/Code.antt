@@ -12,7 +12,7 @@
 --   literal_plan, number_plan           a quoted string; a number
 --   Placed                              a text that was measured lies before what ends it
 --   text_work, read_plan, number_work   a scan: found, refused, or wait
-use Rattle.std.specs.Prelude.{ℕ, ◌+◌, ◌-◌, ◌≤◌, Bool, false, eqb, leb, if◌then◌else◌}
+use Rattle.std.specs.Prelude.{ℕ, Option, Some, None, ◌+◌, ◌-◌, ◌≤◌, Bool, false, eqb, leb, if◌then◌else◌}
 use Rattle.state.specs.declared.Frame.{Frame}
 use Rattle.state.specs.declared.Label.{Label}
 use Rattle.token.specs.Kinds.{string_part, literal_single_quoted_string, literal_double_quoted_string}
@@ -102,6 +102,6 @@ unfoldable pub number_plan : ℕ → ℕ → Literal → ℕ → ℕ → Plan
 number_plan place at literal after len =
     one_plan (made_draft (number_kind literal) place Making.Number at after len) after Change.Keep
 
-unfoldable pub number_work : ℕ → ℕ → number.Scanned → Plan
-number_work place at (number.Scanned.Number literal after len) = number_plan place at literal after len
-number_work place at number.Scanned.Wait = Plan.Wait
+unfoldable pub number_work : ℕ → ℕ → Option number.Scanned → Plan
+number_work place at (Some scan) = number_plan place at scan.literal scan.after scan.len
+number_work place at None = Plan.Wait

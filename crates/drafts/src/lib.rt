@@ -339,21 +339,15 @@ fn number_kind(literal: Literal) -> u32
 }
 
 // The number at a place, as one token that bears the span of `place`.
+#[tactic(auto, using(crate::proofs::Works::numbering))]
 pub fn number(place: usize, src: &[u8], at: usize, end: bool) -> Plan
     requires { Here src.now at }
     ensures { Plans src.now end (numbered place (number_at end at (drop at src.now))) result }
 {
-    let scan = number::scan_number(src, at, end);
-    match scan {
-        number::Scanned::Number {
-            literal,
-            after,
-            len,
-        } => plan::one(
-            made_draft(number_kind(literal), place, Making::Number, at, after, len),
-            after,
-            Change::Keep,
-        ),
-        number::Scanned::Wait => Plan::Wait,
-    }
+    let Some(scan) = number::scan_number(src, at, end) else {
+        return Plan::Wait;
+    };
+    let kind = number_kind(scan.literal);
+    let draft = made_draft(kind, place, Making::Number, at, scan.after, scan.len);
+    plan::one(draft, scan.after, Change::Keep)
 }

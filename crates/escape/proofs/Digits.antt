@@ -1,14 +1,17 @@
 -- Laws of digits and of code points in UTF-8, on each way through the functions that read and write them. Assumes nothing.
+use Rattle.std.specs.Prelude.{Option, Some, None, SomeIff, MatchOption, min}
+use Rattle.std.specs.Char.{digit_value as char_digit}
 use Prim.Native.Nat.{ℕ, suc, ◌+◌, ◌-◌, ◌/◌, ◌%◌, ◌≤◌, ◌<◌}
-use mathlib.Core.Path.{◌≡◌}
+use mathlib.Core.Path.{◌≡◌, refl}
+use mathlib.Core.Bool.{Bool, true, false}
+use lib.Dec.{ltb}
 use mathlib.Core.List.{List, [], ◌∷◌}
 use native.Mathlib.Omega.{arith}
-use lib.ListN.{length, set}
-use lib.Seq.{sets-eq}
-use borrow.Author.Tests.{le-leb, lt-leb, lt-ltb, le-ltb}
+use lib.ListN.{length}
+use borrow.Author.Tests.{le-leb, lt-leb, lt-ltb, le-ltb, ltb-true, ltb-false}
 use Rattle.byte.specs.Laid.{laid}
-use Rattle.byte.proofs.Laid.{set_laid}
-use Rattle.unit.specs.Digits.{digit_value, utf8}
+use lib.Utf8.{scalar}
+use Rattle.unit.specs.Digits.{digit_value, is_scalar, utf8}
 
 -- a byte against both ends of the three ranges
 module _ (b : ℕ) where
@@ -60,7 +63,44 @@ module _ (b : ℕ) where
               lt-leb b 102 (omega arith),
             )
 
-pub ruleset digit_values = (digit_value_below, digit_value_decimal, digit_value_between, digit_value_capital, digit_value_middle, digit_value_small, digit_value_above)
+-- by the two answers of a test, and by which number is smaller
+pub either : {P : Type 0} (t : Bool) → (t ≡ true → P) → (t ≡ false → P) → P
+either true first second = first refl
+either false first second = second refl
+
+by_order : {P : Type 0} (m n : ℕ) → (m < n → P) → (n ≤ m → P) → P
+by_order m n less rest = either (ltb m n) (λ t. less (ltb-true m n t)) (λ t. rest (ltb-false m n t))
+
+-- the value that `char` gives a digit is the same below 16, and more letters are digits there
+digit_value_char : (b : ℕ) → digit_value b ≡ min 16 (char_digit b)
+digit_value_char b =
+    by_order b 48 (λ h. rw (← digit_value_below b h, lt-ltb b 48 h) refl)
+    (λ low. by_order b 58 (λ h. rw (← digit_value_decimal b low h, le-ltb b 48 low, lt-ltb b 58 h) (omega arith))
+    (λ past. by_order b 65 (λ h. rw (← digit_value_between b low past h, le-ltb b 48 low, le-ltb b 58 past, lt-ltb b 65 h) refl)
+    (λ capital. by_order b 91
+    (λ h. let same : char_digit b ≡ b - 55 = rw (le-ltb b 48 low, le-ltb b 58 past, le-ltb b 65 capital, lt-ltb b 91 h) refl in
+    rw same (by_order b 71
+    (λ k. rw (← digit_value_capital b low capital k) (omega arith))
+    (λ k. rw (← digit_value_middle b low capital k (omega arith)) (omega arith))))
+    (λ after. by_order b 97
+    (λ h. rw (← digit_value_middle b low capital (omega arith) h, le-ltb b 48 low, le-ltb b 58 past, le-ltb b 65 capital, le-ltb b 91 after, lt-ltb b 97 h) refl)
+    (λ small. by_order b 123
+    (λ h. let same : char_digit b ≡ b - 87 = rw (le-ltb b 48 low, le-ltb b 58 past, le-ltb b 65 capital, le-ltb b 91 after, le-ltb b 97 small, lt-ltb b 123 h) refl in
+    rw same (by_order b 103
+    (λ k. rw (← digit_value_small b low capital small k) (omega arith))
+    (λ k. rw (← digit_value_above b low capital small k) (omega arith))))
+    (λ h. rw (← digit_value_above b low capital small (omega arith), le-ltb b 48 low, le-ltb b 58 past, le-ltb b 65 capital, le-ltb b 91 after, le-ltb b 97 small, le-ltb b 123 h) refl))))))
+
+-- so `to_digit` tells the digits of a base up to 16
+pub digit_told : (b base : ℕ) (r : Option ℕ) → base ≤ 16 → SomeIff r (char_digit b < base) (char_digit b)
+    → MatchOption r (base ≤ digit_value b) (λ (d : ℕ). (d ≡ digit_value b) × (d < base))
+digit_told b base None small none =
+    let same = digit_value_char b in
+    let over : base ≤ char_digit b = omega (arith, none) in
+    omega (arith, same, over)
+digit_told b base (Some d) small some =
+    let same = digit_value_char b in
+    (omega (arith, same, some.0, some.1), omega (arith, some.0, some.1))
 
 -- the bytes of a code point, by its size
 module _ (c : ℕ) where
@@ -95,7 +135,7 @@ module _ (c : ℕ) where
 
   -- and the room that they ask for
   module _ (at size : ℕ) (fits : at + length (utf8 c) ≤ size) where
-    pub room_one : c < 128 → at < size
+    pub room_one : c < 128 → at + 1 ≤ size
     room_one h = omega (arith, length_utf8_one h)
 
     pub room_two : 128 ≤ c → c < 2048 → at + 2 ≤ size
@@ -109,35 +149,25 @@ module _ (c : ℕ) where
 
 pub ruleset utf8_lengths = (length_utf8_one, length_utf8_two, length_utf8_three, length_utf8_four)
 
-pub ruleset utf8_rooms = (room_one, room_two, room_three, room_four)
+-- the bytes of a code point, written
+module _ (l : List ℕ) (at c : ℕ) (r : List ℕ) where
+  pub utf8_laid_one : c < 128 → r ≡ laid l at (c ∷ []) → r ≡ laid l at (utf8 c)
+  utf8_laid_one h e = rw (← utf8_one c h) e
 
--- stores in one place after another are one write
-module _ (l : List ℕ) (at c : ℕ) where
-  pub utf8_laid_one : at + length (utf8 c) ≤ length l → c < 128 → set l at c ≡ laid l at (utf8 c)
-  utf8_laid_one fits h = rw (← utf8_one c h) (set_laid l at c (room_one c at (length l) fits h))
+  pub utf8_laid_two : 128 ≤ c → c < 2048 → r ≡ laid l at ((192 + c / 64) ∷ (128 + c % 64) ∷ []) → r ≡ laid l at (utf8 c)
+  utf8_laid_two g h e = rw (← utf8_two c g h) e
 
-  pub utf8_laid_two : at + 2 ≤ length l → 128 ≤ c → c < 2048 → set (set l at (192 + c / 64)) (at + 1) (128 + c % 64) ≡ laid l at (utf8 c)
-  unfolding laid
-  utf8_laid_two fits g h =
-      let e1 : at + 1 ≡ suc at = omega arith in
-      rw (← utf8_two c g h, e1) (sets-eq ((192 + c / 64) ∷ (128 + c % 64) ∷ []) l at fits)
+  pub utf8_laid_three : 2048 ≤ c → c < 65536 → r ≡ laid l at ((224 + c / 4096) ∷ (128 + c / 64 % 64) ∷ (128 + c % 64) ∷ [])
+      → r ≡ laid l at (utf8 c)
+  utf8_laid_three g h e = rw (← utf8_three c g h) e
 
-  pub utf8_laid_three : at + 3 ≤ length l → 2048 ≤ c → c < 65536
-      → set (set (set l at (224 + c / 4096)) (at + 1) (128 + c / 64 % 64)) (at + 2) (128 + c % 64) ≡ laid l at (utf8 c)
-  unfolding laid
-  utf8_laid_three fits g h =
-      let e1 : at + 1 ≡ suc at = omega arith in
-      let e2 : at + 2 ≡ suc (suc at) = omega arith in
-      rw (← utf8_three c g h, e1, e2) (sets-eq ((224 + c / 4096) ∷ (128 + c / 64 % 64) ∷ (128 + c % 64) ∷ []) l at fits)
+  pub utf8_laid_four : 65536 ≤ c
+      → r ≡ laid l at ((240 + c / 262144) ∷ (128 + c / 4096 % 64) ∷ (128 + c / 64 % 64) ∷ (128 + c % 64) ∷ []) → r ≡ laid l at (utf8 c)
+  utf8_laid_four g e = rw (← utf8_four c g) e
 
-  pub utf8_laid_four : at + 4 ≤ length l → 65536 ≤ c
-      → set (set (set (set l at (240 + c / 262144)) (at + 1) (128 + c / 4096 % 64)) (at + 2) (128 + c / 64 % 64)) (at + 3) (128 + c % 64) ≡ laid l at (utf8 c)
-  unfolding laid
-  utf8_laid_four fits g =
-      let e1 : at + 1 ≡ suc at = omega arith in
-      let e2 : at + 2 ≡ suc (suc at) = omega arith in
-      let e3 : at + 3 ≡ suc (suc (suc at)) = omega arith in
-      rw (← utf8_four c g, e1, e2, e3)
-      (sets-eq ((240 + c / 262144) ∷ (128 + c / 4096 % 64) ∷ (128 + c / 64 % 64) ∷ (128 + c % 64) ∷ []) l at fits)
+pub ruleset utf8_writes = (room_one, room_two, room_three, room_four, utf8_laid_one, utf8_laid_two, utf8_laid_three, utf8_laid_four)
 
-pub ruleset utf8_laid = (utf8_laid_one, utf8_laid_two, utf8_laid_three, utf8_laid_four)
+-- a code point that UTF-8 has is a `char`
+pub scalar_point : (c : ℕ) → scalar c ≡ is_scalar c
+unfolding is_scalar
+scalar_point c = either (ltb c 55296) (λ t. rw t refl) (λ t. rw t refl)

@@ -2,7 +2,7 @@
 // Of the Rust: the escapes of its string routines, read by one reader. In the order of unit's definitions, Digits and then Escapes.
 #![tactic(auto)]
 
-ghost use Rattle.std.specs.Prelude.{◌≡◌, true, false, ltb, ◌+◌, ◌*◌, ◌≤◌, ◌<◌, length, drop, if◌then◌else◌};
+ghost use Rattle.std.specs.Prelude.{◌≡◌, false, ltb, ◌+◌, ◌*◌, ◌≤◌, ◌<◌, length, drop, if◌then◌else◌, MatchOption};
 ghost use Rattle.byte.specs.Laid.{laid};
 ghost use Rattle.unit.specs.declared.TextUnit.{TextUnit};
 ghost use Rattle.unit.specs.Digits.{digit_value, is_scalar, utf8};
@@ -11,26 +11,17 @@ ghost use Rattle.unit.specs.Escapes.{last, backslash, letter_value, overflowing,
 use byte::Octal;
 use unit::TextUnit;
 
-// The value of a digit, 0 to 9, A to F, a to f; 16 of any other byte.
-fn digit_value(b: u8) -> u32
-    ensures { result ≡ digit_value b }
+// The value of a digit of this base; none of any other byte.
+#[tactic(auto, using(crate::proofs::Digits::digit_told))]
+fn digit_of(b: u8, base: u32) -> Option<u32>
+    requires { (2 ≤ base) × (base ≤ 16) }
+    ensures { MatchOption result (base ≤ digit_value b) (λ d. (d ≡ digit_value b) × (d < base)) }
 {
-    match b {
-        b'0'..=b'9' => (b - b'0') as u32,
-        b'A'..=b'F' => (b - b'A' + 10) as u32,
-        b'a'..=b'f' => (b - b'a' + 10) as u32,
-        _ => 16,
-    }
+    char::from(b).to_digit(base)
 }
 
-// A code point that UTF-8 has: no surrogate, and none past the last.
-fn is_scalar(code: u32) -> bool
-    ensures { result ≡ is_scalar code }
-{
-    (code < 0xD800) | ((0xE000 <= code) & (code < 0x110000))
-}
-
-// How many bytes a code point has in UTF-8.
+// How many bytes a code point has in UTF-8. No `char::len_utf8`: this is told of surrogates and larger numbers too.
+#[tactic(auto, using(crate::proofs::Digits::utf8_lengths))]
 pub fn utf8_len(code: u32) -> usize
     ensures { result ≡ length (utf8 code) }
 {
@@ -46,54 +37,41 @@ pub fn utf8_len(code: u32) -> usize
     4
 }
 
-// A code point of two bytes.
-fn put_two(dst: &mut [u8], at: usize, code: u32)
-    requires { (128 ≤ code) × (code < 2048) × (at + 2 ≤ length dst.old) }
-    ensures { dst.new ≡ laid dst.old at (utf8 code) }
+// Bytes at a place of a part.
+#[tactic(auto, unfolding(byte::specs::Laid::laid))]
+fn put(dst: &mut [u8], at: usize, bytes: &[u8])
+    requires { at + length bytes.now ≤ length dst.old }
+    ensures { dst.new ≡ laid dst.old at bytes.now }
 {
-    dst[at] = (0xC0 + code / 64) as u8;
-    dst[at + 1] = (0x80 + code % 64) as u8;
+    dst[at..at + bytes.len()].copy_from_slice(bytes);
 }
 
-// A code point of three bytes.
-fn put_three(dst: &mut [u8], at: usize, code: u32)
-    requires { (2048 ≤ code) × (code < 65536) × (at + 3 ≤ length dst.old) }
-    ensures { dst.new ≡ laid dst.old at (utf8 code) }
-{
-    dst[at] = (0xE0 + code / 4096) as u8;
-    dst[at + 1] = (0x80 + code / 64 % 64) as u8;
-    dst[at + 2] = (0x80 + code % 64) as u8;
-}
-
-// A code point of four bytes.
-fn put_four(dst: &mut [u8], at: usize, code: u32)
-    requires { (65536 ≤ code) × (code < 1114112) × (at + 4 ≤ length dst.old) }
-    ensures { dst.new ≡ laid dst.old at (utf8 code) }
-{
-    dst[at] = (0xF0 + code / 262144) as u8;
-    dst[at + 1] = (0x80 + code / 4096 % 64) as u8;
-    dst[at + 2] = (0x80 + code / 64 % 64) as u8;
-    dst[at + 3] = (0x80 + code % 64) as u8;
-}
-
-// A code point in UTF-8, at a place of a part.
+// A code point in UTF-8, at a place of a part. No `char::encode_utf8`: its contract takes surrogates, which no char is.
+#[tactic(auto, using(crate::proofs::Digits::utf8_writes))]
 pub fn put_utf8(dst: &mut [u8], at: usize, code: u32)
     requires { (code < 1114112) × (at + length (utf8 code) ≤ length dst.old) }
     ensures { dst.new ≡ laid dst.old at (utf8 code) }
 {
     if code < 0x80 {
-        dst[at] = code as u8;
+        put(dst, at, &[code as u8]);
         return;
     }
+    let last = (0x80 + code % 64) as u8;
     if code < 0x800 {
-        put_two(dst, at, code);
+        put(dst, at, &[(0xC0 + code / 64) as u8, last]);
         return;
     }
+    let before = (0x80 + code / 64 % 64) as u8;
     if code < 0x10000 {
-        put_three(dst, at, code);
+        put(dst, at, &[(0xE0 + code / 4096) as u8, before, last]);
         return;
     }
-    put_four(dst, at, code);
+    let second = (0x80 + code / 4096 % 64) as u8;
+    put(
+        dst,
+        at,
+        &[(0xF0 + code / 262144) as u8, second, before, last],
+    );
 }
 
 // Nothing is left: this at the announced end, else undecided.
@@ -116,25 +94,25 @@ fn backslash(at: usize) -> TextUnit
     }
 }
 
-// The byte that a backslash and this letter stand for; 256 where the two are no escape.
-fn letter_value(b: u8) -> u32
-    ensures { result ≡ letter_value b }
+// The byte that a backslash and this letter stand for; none where the two are no escape.
+#[tactic(auto, using(crate::proofs::Escapes::letters_told), unfolding(unit::specs::Escapes::letter_value))]
+fn letter_value(b: u8) -> Option<u8>
+    ensures { MatchOption result (256 ≤ letter_value b) (λ v. v ≡ letter_value b) }
 {
     match b {
-        b'n' => 10,
-        b'r' => 13,
-        b't' => 9,
-        b'v' => 11,
-        b'e' => 27,
-        b'f' => 12,
-        b'\\' => 92,
-        b'$' => 36,
-        b'"' => 34,
-        _ => 256,
+        b'n' => Some(b'\n'),
+        b'r' => Some(b'\r'),
+        b't' => Some(b'\t'),
+        b'v' => Some(0x0B),
+        b'e' => Some(0x1B),
+        b'f' => Some(0x0C),
+        b'\\' | b'$' | b'"' => Some(b),
+        _ => None,
     }
 }
 
 // A value over 255, after its digits.
+#[tactic(auto, using(crate::proofs::Escapes::overflowing_arm), unfolding(unit::specs::Escapes::overflowing))]
 fn overflowing(octals: Octal, value: u32, n: usize) -> TextUnit
     ensures { result ≡ overflowing octals value n }
 {
@@ -151,6 +129,7 @@ fn overflowing(octals: Octal, value: u32, n: usize) -> TextUnit
 }
 
 // Digits with this value end before n.
+#[tactic(auto, using(crate::proofs::Escapes::choices), unfolding(unit::specs::Escapes::fitted))]
 fn fitted(octals: Octal, value: u32, n: usize) -> TextUnit
     ensures { result ≡ fitted octals value n }
 {
@@ -163,55 +142,37 @@ fn fitted(octals: Octal, value: u32, n: usize) -> TextUnit
     overflowing(octals, value, n)
 }
 
-// After two octal digits with this value.
-fn octal_third(octals: Octal, src: &[u8], n: usize, end: bool, value: u32) -> TextUnit
-    requires { value < 64 }
-    ensures { result ≡ digits octals end 8 1 value n (drop n src.now) }
+// After a digit of a base with this value: at most MORE digits follow.
+#[tactic(auto, using(crate::proofs::Escapes::digit_runs))]
+fn digits_at<const BASE: u32, const MORE: usize>(
+    octals: Octal,
+    src: &[u8],
+    at: usize,
+    end: bool,
+    first: u32,
+) -> TextUnit
+    requires few { MORE ≤ 2 }
+    requires base { (2 ≤ BASE) × (BASE ≤ 16) }
+    requires first { first < 16 }
+    requires inside { at ≤ length src.now }
+    ensures { result ≡ digits octals end BASE MORE first at (drop at src.now) }
 {
-    if src.len() <= n {
-        let unit = fitted(octals, value, n);
-        return last(end, unit);
+    let mut value = first;
+    for n in at..at + MORE {
+        if src.len() <= n {
+            let unit = fitted(octals, value, n);
+            return last(end, unit);
+        }
+        let Some(digit) = digit_of(src[n], BASE) else {
+            return fitted(octals, value, n);
+        };
+        value = value * BASE + digit;
     }
-    let digit = digit_value(src[n]);
-    if digit < 8 {
-        return fitted(octals, value * 8 + digit, n + 1);
-    }
-    fitted(octals, value, n)
-}
-
-// After one octal digit with this value.
-fn octal_second(octals: Octal, src: &[u8], n: usize, end: bool, value: u32) -> TextUnit
-    requires { value < 8 }
-    ensures { result ≡ digits octals end 8 2 value n (drop n src.now) }
-{
-    if src.len() <= n {
-        let unit = fitted(octals, value, n);
-        return last(end, unit);
-    }
-    let digit = digit_value(src[n]);
-    if digit < 8 {
-        return octal_third(octals, src, n + 1, end, value * 8 + digit);
-    }
-    fitted(octals, value, n)
-}
-
-// After `\x` and one digit with this value.
-fn hex_second(octals: Octal, src: &[u8], n: usize, end: bool, value: u32) -> TextUnit
-    requires { value < 16 }
-    ensures { result ≡ digits octals end 16 1 value n (drop n src.now) }
-{
-    if src.len() <= n {
-        let unit = fitted(octals, value, n);
-        return last(end, unit);
-    }
-    let digit = digit_value(src[n]);
-    if digit < 16 {
-        return fitted(octals, value * 16 + digit, n + 1);
-    }
-    fitted(octals, value, n)
+    fitted(octals, value, at + MORE)
 }
 
 // `\x`, its `x` at `at`.
+#[tactic(auto, using(crate::proofs::Escapes::hexes))]
 fn hex_at(octals: Octal, src: &[u8], at: usize, end: bool) -> TextUnit
     requires { at < length src.now }
     ensures { result ≡ hex octals end at (drop (at + 1) src.now) }
@@ -221,14 +182,14 @@ fn hex_at(octals: Octal, src: &[u8], at: usize, end: bool) -> TextUnit
         let unit = backslash(at);
         return last(end, unit);
     }
-    let digit = digit_value(src[n]);
-    if digit < 16 {
-        return hex_second(octals, src, n + 1, end, digit);
-    }
-    backslash(at)
+    let Some(digit) = digit_of(src[n], 16) else {
+        return backslash(at);
+    };
+    digits_at::<16, 1>(octals, src, n + 1, end, digit)
 }
 
 // One digit more. From 0x110000 on the value no longer grows: what is no code point stays none.
+#[tactic(auto, using(crate::proofs::Escapes::choices))]
 fn grown(value: u32, digit: u32) -> u32
     requires { digit < 16 }
     ensures { result ≡ (if ltb value 1114112 then value * 16 + digit else value) }
@@ -240,10 +201,11 @@ fn grown(value: u32, digit: u32) -> u32
 }
 
 // A value in closed braces.
+#[tactic(auto, using(crate::proofs::Digits::scalar_point))]
 fn closed(code: u32, after: usize) -> TextUnit
     ensures { result ≡ (if is_scalar code then TextUnit.Point code after else TextUnit.Fault 2 after) }
 {
-    if is_scalar(code) {
+    if char::from_u32(code).is_some() {
         return TextUnit::Point { code, after };
     }
     TextUnit::Fault {
@@ -253,37 +215,33 @@ fn closed(code: u32, after: usize) -> TextUnit
 }
 
 // After `\u{`.
+#[tactic(auto, using(crate::proofs::Escapes::pointing))]
 fn code_point_at(src: &[u8], at: usize, end: bool) -> TextUnit
     requires { at ≤ length src.now }
     ensures { result ≡ code_point end false 0 at (drop at src.now) }
 {
-    let mut some = false;
-    let mut value: u32 = 0;
-    let mut n = at;
-    while n < src.len() {
-        let b = src[n];
-        let digit = digit_value(b);
-        if 16 <= digit {
-            if some & (b == b'}') {
-                return closed(value, n + 1);
-            }
-            return TextUnit::Fault {
-                number: byte::INVALID_UNICODE_ESCAPE,
-                place: n,
+    let mut value = None;
+    for n in at..src.len() {
+        let Some(digit) = digit_of(src[n], 16) else {
+            return match value {
+                Some(code) if src[n] == b'}' => closed(code, n + 1),
+                _ => TextUnit::Fault {
+                    number: byte::INVALID_UNICODE_ESCAPE,
+                    place: n,
+                },
             };
-        }
-        some = true;
-        value = grown(value, digit);
-        n += 1;
+        };
+        value = Some(grown(value.unwrap_or(0), digit));
     }
     let fault = TextUnit::Fault {
         number: byte::INVALID_UNICODE_ESCAPE,
-        place: n,
+        place: src.len(),
     };
     last(end, fault)
 }
 
 // `\u`, its `u` at `at`.
+#[tactic(auto, using(crate::proofs::Escapes::bracings), unfolding(unit::specs::Escapes::braced))]
 fn braced_at(src: &[u8], at: usize, end: bool) -> TextUnit
     requires { at < length src.now }
     ensures { result ≡ braced end at (drop (at + 1) src.now) }
@@ -300,6 +258,7 @@ fn braced_at(src: &[u8], at: usize, end: bool) -> TextUnit
 }
 
 // What stands after the backslash before `at`, in double quotes and heredocs.
+#[tactic(auto, using(crate::proofs::Escapes::escapes))]
 pub fn escape_at(octals: Octal, src: &[u8], at: usize, end: bool) -> TextUnit
     requires { (at ≤ length src.now) × (length src.now ≤ 65536) }
     ensures { result ≡ escape octals end at (drop at src.now) }
@@ -309,16 +268,14 @@ pub fn escape_at(octals: Octal, src: &[u8], at: usize, end: bool) -> TextUnit
         return last(end, unit);
     }
     let b = src[at];
-    let letter = letter_value(b);
-    if letter < 256 {
+    if let Some(value) = letter_value(b) {
         return TextUnit::Byte {
-            value: letter as u8,
+            value,
             after: at + 1,
         };
     }
-    let digit = digit_value(b);
-    if digit < 8 {
-        return octal_second(octals, src, at + 1, end, digit);
+    if let Some(digit) = digit_of(b, 8) {
+        return digits_at::<8, 2>(octals, src, at + 1, end, digit);
     }
     if b == b'x' {
         return hex_at(octals, src, at, end);
@@ -330,6 +287,7 @@ pub fn escape_at(octals: Octal, src: &[u8], at: usize, end: bool) -> TextUnit
 }
 
 // The same in single quotes.
+#[tactic(auto, using(crate::proofs::Escapes::quote_escapes))]
 pub fn quote_escape_at(src: &[u8], at: usize, end: bool) -> TextUnit
     requires { (at ≤ length src.now) × (length src.now ≤ 65536) }
     ensures { result ≡ quote_escape end at (drop at src.now) }

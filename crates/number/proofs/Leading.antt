@@ -4,6 +4,7 @@
 --   leading_begins               a text begins with them
 --   leading_run, leading_whole   of digits that are there, and of those that nothing carries on
 --   digits_place                 the reader's digits end where they do
+use Rattle.std.specs.Prelude.{Option, Some, None}
 use Prim.Native.Nat.{ℕ, suc, ◌+◌, ◌≤◌}
 use mathlib.Core.Path.{◌≡◌, refl, sym, ap, ◌∙◌}
 use mathlib.Core.Bool.{Bool, true, false, ◌&&◌, ◌||◌, false≢true}
@@ -15,7 +16,6 @@ use Rattle.byte.specs.Words.{◌is◌}
 use Rattle.byte.specs.Bytes.{is_digit}
 use Rattle.byte.proofs.Tests.{&&-left, &&-right, choice}
 use Rattle.number.specs.declared.Base.{Base}
-use Rattle.number.specs.declared.Place.{Place}
 use Rattle.number.specs.Numbers.{is_one, last, digits_more, digits}
 use Rattle.number.specs.Code.{place_of}
 use Rattle.number.specs.Manual.{grouped, is_lnum, maybe_lnum, Begins, starts_with, leading_more, leading, following}
@@ -133,28 +133,28 @@ leading_maybe xs =
 
 module _ (base : Base) where
   digits_more_place : (n : ℕ) (xs : List ℕ)
-      → place_of (digits_more base true n xs) ≡ Place.At (n + length (leading_more (is_one base) xs))
+      → place_of (digits_more base true n xs) ≡ Some (n + length (leading_more (is_one base) xs))
   unfolding digits_more last place_of leading_more starts_with
-  digits_more_place n [] = ap Place.At (omega arith)
+  digits_more_place n [] = ap Some (omega arith)
   digits_more_place n (b ∷ []) =
       either (is_one base b)
-      (λ d. rw (d, place_of_before) (ap Place.At (omega arith)))
-      (λ d. either (b is "_") (λ u. rw (d, u) (ap Place.At (omega arith)))
-      (λ u. rw (d, u) (ap Place.At (omega arith))))
+      (λ d. rw (d, place_of_before) (ap Some (omega arith)))
+      (λ d. either (b is "_") (λ u. rw (d, u) (ap Some (omega arith)))
+      (λ u. rw (d, u) (ap Some (omega arith))))
   digits_more_place n (b ∷ c ∷ xs) =
       either (is_one base b)
-      (λ d. rw (d, place_of_before) (digits_more_place (suc n) (c ∷ xs) ∙ ap Place.At (omega arith)))
+      (λ d. rw (d, place_of_before) (digits_more_place (suc n) (c ∷ xs) ∙ ap Some (omega arith)))
       (λ d. either (b is "_" && is_one base c)
       (λ u.
       rw (d, u, place_of_before, &&-right (b is "_") (is_one base c) u)
-      (digits_more_place (suc (suc n)) xs ∙ ap Place.At (omega arith)))
-      (λ u. rw (d, u) (ap Place.At (omega arith))))
+      (digits_more_place (suc (suc n)) xs ∙ ap Some (omega arith)))
+      (λ u. rw (d, u) (ap Some (omega arith))))
 
   pub digits_place : (n : ℕ) (xs : List ℕ)
-      → place_of (digits base true n xs) ≡ Place.At (n + length (leading (is_one base) xs))
+      → place_of (digits base true n xs) ≡ Some (n + length (leading (is_one base) xs))
   unfolding digits last place_of leading leading_more starts_with
-  digits_place n [] = ap Place.At (omega arith)
+  digits_place n [] = ap Some (omega arith)
   digits_place n (b ∷ xs) =
       either (is_one base b)
-      (λ d. rw (d, place_of_before) (digits_more_place (suc n) xs ∙ ap Place.At (omega arith)))
-      (λ d. rw d (ap Place.At (omega arith)))
+      (λ d. rw (d, place_of_before) (digits_more_place (suc n) xs ∙ ap Some (omega arith)))
+      (λ d. rw d (ap Some (omega arith)))

@@ -6,7 +6,7 @@
 --   integer_read      decimal, hexadecimal, octal, binary
 --   float_read        DNUM, EXPONENT_DNUM
 --   differences       texts that the manual does not have as literals, and what is read of them
-use Rattle.std.specs.Prelude.{if◌then◌else◌}
+use Rattle.std.specs.Prelude.{if◌then◌else◌, Option, Some, None}
 use Prim.Native.Nat.{ℕ, suc, ◌+◌, ◌-◌, ◌≤◌}
 use mathlib.Core.Path.{◌≡◌, refl, ap, ◌∙◌}
 use mathlib.Core.Bool.{Bool, true, false, not, ◌&&◌, ◌||◌, false≢true}
@@ -23,12 +23,11 @@ use Rattle.number.specs.declared.Ahead.{Ahead}
 use Rattle.number.specs.declared.Base.{Base}
 use Rattle.number.specs.declared.Extent.{Extent}
 use Rattle.number.specs.declared.Literal.{Literal}
-use Rattle.number.specs.declared.Place.{Place}
 use Rattle.number.specs.Numbers.{Digits, Reading, is_one, base_named, base_of, is_exponent, before, last, digits_more}
 use Rattle.number.specs.Numbers.{digits, closing, followed, exponent, tail, decimal, prefixed, number_in, number_at}
 use Rattle.number.specs.Numbers.{spelled, is_sign, signed, onto, power, fraction, digit_ahead, power_ahead, decided}
 use Rattle.number.specs.Numbers.{marked}
-use Rattle.number.specs.Code.{place_of, extent_of, closing_extent}
+use Rattle.number.specs.Code.{extent_at, place_of, extent_of, closing_extent}
 use Rattle.number.specs.Manual.{grouped, is_lnum, maybe_lnum, closes, is_binary, maybe_sign, IntegerLiteral, Dnum}
 use Rattle.number.specs.Manual.{FloatLiteral}
 use Rattle.number.proofs.Values.{either, other, number_at_extent, letter_either}
@@ -44,7 +43,7 @@ abbrev pub ReadWhole : Literal → Base → Bool → ℕ → List ℕ → List �
 ReadWhole literal base end n text rest = number_at end n (text ++ rest) ≡ Reading.Number literal (spelled base text) (n + length text)
 
 read_whole : (literal : Literal) (base : Base) (end : Bool) (n : ℕ) (text rest : List ℕ)
-    → base_of (text ++ rest) ≡ base → extent_of (number_at end n (text ++ rest)) ≡ Extent.Number literal (n + length text)
+    → base_of (text ++ rest) ≡ base → extent_of (number_at end n (text ++ rest)) ≡ extent_at literal (n + length text)
     → ReadWhole literal base end n text rest
 read_whole literal base end n text rest named e =
     let count : n + length text - n ≡ length text = omega arith in
@@ -52,7 +51,7 @@ read_whole literal base end n text rest named e =
 
 -- digits end where what stops them begins, in front and after a digit
 stops_place : (base : Base) (end : Bool) (n : ℕ) (rest : List ℕ) → Stops base end rest
-    → (place_of (digits base end n rest) ≡ Place.At n) × (place_of (digits_more base end n rest) ≡ Place.At n)
+    → (place_of (digits base end n rest) ≡ Some n) × (place_of (digits_more base end n rest) ≡ Some n)
 unfolding digits digits_more last place_of
 stops_place base end n [] h = (rw h refl, rw h refl)
 stops_place base end n (b ∷ rest) h =
@@ -60,38 +59,38 @@ stops_place base end n (b ∷ rest) h =
 
 module _ (base : Base) (end : Bool) (rest : List ℕ) (stops : Stops base end rest) where
   -- one digit more in front
-  run_one : (n b m k : ℕ) (xs : List ℕ) → place_of (digits_more base end m xs) ≡ Place.At (m + k) → m + k ≡ n
-      → place_of (before b (digits_more base end m xs)) ≡ Place.At n
-  run_one n b m k xs h e = place_of_before b (digits_more base end m xs) ∙ h ∙ ap Place.At e
+  run_one : (n b m k : ℕ) (xs : List ℕ) → place_of (digits_more base end m xs) ≡ Some (m + k) → m + k ≡ n
+      → place_of (before b (digits_more base end m xs)) ≡ Some n
+  run_one n b m k xs h e = place_of_before b (digits_more base end m xs) ∙ h ∙ ap Some e
 
   run_more : (n : ℕ) (xs : List ℕ) → grouped (is_one base) true xs ≡ true
-      → place_of (digits_more base end n (xs ++ rest)) ≡ Place.At (n + length xs)
+      → place_of (digits_more base end n (xs ++ rest)) ≡ Some (n + length xs)
   unfolding grouped digits_more
-  run_more n [] g = (stops_place base end n rest stops).1 ∙ ap Place.At (omega arith)
+  run_more n [] g = (stops_place base end n rest stops).1 ∙ ap Some (omega arith)
   run_more n (b ∷ []) g =
       ap place_of (digits_more_byte base end n b rest)
-      ∙ choice (λ (d : Digits). place_of d ≡ Place.At (n + 1)) (is_one base b) _ _
+      ∙ choice (λ (d : Digits). place_of d ≡ Some (n + 1)) (is_one base b) _ _
       (λ one. run_one (n + 1) b (suc n) 0 rest (run_more (suc n) [] refl) (omega arith))
       (λ none. absurd (false≢true (&&-right (eqb b 95) false (rw none at g))))
   run_more n (b ∷ c ∷ xs) g =
-      choice (λ (d : Digits). place_of d ≡ Place.At (n + length (b ∷ c ∷ xs))) (is_one base b) _ _
+      choice (λ (d : Digits). place_of d ≡ Some (n + length (b ∷ c ∷ xs))) (is_one base b) _ _
       (λ one. run_one _ b (suc n) (length (c ∷ xs)) (c ∷ (xs ++ rest))
       (run_more (suc n) (c ∷ xs) (rw one at g)) (omega arith))
       (λ none.
       let pair : (eqb b 95 && (if is_one base c then grouped (is_one base) true xs else false)) ≡ true = rw none at g in
       let under : eqb b 95 ≡ true = &&-left (eqb b 95) _ pair in
       rw under
-      (choice (λ (d : Digits). place_of d ≡ Place.At (n + length (b ∷ c ∷ xs))) (is_one base c) _ _
+      (choice (λ (d : Digits). place_of d ≡ Some (n + length (b ∷ c ∷ xs))) (is_one base c) _ _
       (λ one. run_one _ c (suc (suc n)) (length xs) (xs ++ rest)
       (run_more (suc (suc n)) xs (rw one at (&&-right (eqb b 95) _ pair))) (omega arith))
       (λ lone. absurd (false≢true (rw lone at (&&-right (eqb b 95) _ pair))))))
 
   run_digits : (n : ℕ) (xs : List ℕ) → grouped (is_one base) false xs ≡ true
-      → place_of (digits base end n (xs ++ rest)) ≡ Place.At (n + length xs)
+      → place_of (digits base end n (xs ++ rest)) ≡ Some (n + length xs)
   unfolding grouped digits
   run_digits n [] g = absurd (false≢true g)
   run_digits n (b ∷ xs) g =
-      choice (λ (d : Digits). place_of d ≡ Place.At (n + length (b ∷ xs))) (is_one base b) _ _
+      choice (λ (d : Digits). place_of d ≡ Some (n + length (b ∷ xs))) (is_one base b) _ _
       (λ one. run_one _ b (suc n) (length xs) _ (run_more (suc n) xs (rw one at g)) (omega arith))
       (λ none. absurd (false≢true (rw none at g)))
 
@@ -197,14 +196,14 @@ record Front (end : Bool) (n : ℕ) (text rest : List ℕ) (r : Reading) : Type 
   same : extent_of (number_at end n (text ++ rest)) ≡ extent_of r
 
 front_read : (literal : Literal) (end : Bool) (n : ℕ) (text rest : List ℕ) (r : Reading) → Front end n text rest r
-    → extent_of r ≡ Extent.Number literal (n + length text) → ReadWhole literal Base.Decimal end n text rest
+    → extent_of r ≡ extent_at literal (n + length text) → ReadWhole literal Base.Decimal end n text rest
 front_read literal end n text rest r f e = read_whole literal Base.Decimal end n text rest f.base (f.same ∙ e)
 
 module _ (end : Bool) where
   maybe_digits : (n : ℕ) (xs rest : List ℕ) → maybe_lnum xs ≡ true → Stops Base.Decimal end rest
-      → place_of (digits Base.Decimal end n (xs ++ rest)) ≡ Place.At (n + length xs)
+      → place_of (digits Base.Decimal end n (xs ++ rest)) ≡ Some (n + length xs)
   unfolding maybe_lnum is_lnum is_one
-  maybe_digits n [] rest g stops = (stops_place Base.Decimal end n rest stops).0 ∙ ap Place.At (omega arith)
+  maybe_digits n [] rest g stops = (stops_place Base.Decimal end n rest stops).0 ∙ ap Some (omega arith)
   maybe_digits n (b ∷ xs) rest g stops = run_digits Base.Decimal end rest stops n (b ∷ xs) g
 
   -- digits, then what stands after them
@@ -242,7 +241,7 @@ module _ (end : Bool) where
       read_whole Literal.Integer base end n (48 ∷ x ∷ ds) rest named
       (rw (named, same (48 ∷ x ∷ (ds ++ rest)), extent_of_onto, extent_of_closing)
       (ap (closing_extent Literal.Integer)
-      (run_digits base end rest (closes_stops end base rest h) (suc (suc n)) ds g ∙ ap Place.At (omega arith))))
+      (run_digits base end rest (closes_stops end base rest h) (suc (suc n)) ds g ∙ ap Some (omega arith))))
 
 -- octal digits are decimal digits
 pub grouped_octal : (behind wider : Bool) (xs : List ℕ) → (behind ≡ true → wider ≡ true) → grouped is_octal behind xs ≡ true → grouped is_digit wider xs ≡ true
@@ -331,14 +330,14 @@ module _ (end : Bool) where
   -- after the `e`: a sign or none, and digits, which a look ahead finds
   signed_run : (n : ℕ) (sign power rest : List ℕ) → maybe_sign sign ≡ true → Lnum power → maybe_lnum power ≡ true
       → Stops Base.Decimal end rest
-      → (place_of (signed end n (sign ++ (power ++ rest))) ≡ Place.At (n + length (sign ++ power)))
+      → (place_of (signed end n (sign ++ (power ++ rest))) ≡ Some (n + length (sign ++ power)))
       × (power_ahead end (sign ++ (power ++ rest)) ≡ Ahead.Yes)
   unfolding maybe_sign signed is_sign power_ahead digit_ahead
   signed_run n [] _ rest h (digit b xs first more) g stops =
       (rw (digit_sign b first) (maybe_digits end n (b ∷ xs) rest g stops), rw (digit_sign b first, first) refl)
   signed_run n (c ∷ []) _ rest h (digit b xs first more) g stops =
       let place = maybe_digits end (suc n) (b ∷ xs) rest g stops in
-      (rw h (place_of_before c _ ∙ place ∙ ap Place.At (omega arith)), rw (h, first) refl)
+      (rw h (place_of_before c _ ∙ place ∙ ap Some (omega arith)), rw (h, first) refl)
   signed_run n (c ∷ d ∷ sign) power rest h l g stops = absurd (false≢true h)
 
   -- a text whose exponent begins at its end
@@ -355,7 +354,7 @@ module _ (end : Bool) where
       rw (append_assoc text (e ∷ (sign ++ digits)) rest, append_assoc sign digits rest) refl in
       let stops = closes_stops end Base.Decimal rest h in
       let run = signed_run (suc (n + length text)) sign digits rest s (lnum digits g) (lnum_maybe digits g) stops in
-      let over = extent_of_closing Literal.Float _ ∙ ap (closing_extent Literal.Float) (run.0 ∙ ap Place.At place) in
+      let over = extent_of_closing Literal.Float _ ∙ ap (closing_extent Literal.Float) (run.0 ∙ ap Some place) in
       read_whole Literal.Float Base.Decimal end n (text ++ (e ∷ (sign ++ digits))) rest (rw same front.base)
       (rw same (front.same ∙ on run.1 ∙ extent_of_onto (101 ∷ []) _ ∙ over))
 

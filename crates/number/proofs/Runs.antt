@@ -1,6 +1,7 @@
 -- The ways through the code that reads digits: bases, one digit more, a run of digits, a sign and digits. A `ruleset` for each function or
 -- two, in the source's order. Assumes nothing.
-use Rattle.std.specs.Prelude.{if◌then◌else◌}
+use Rattle.std.specs.Prelude.{if◌then◌else◌, Option, Some, None}
+use Rattle.std.specs.Bool.{then_some}
 use Prim.Native.Nat.{ℕ, suc, ◌+◌, ◌-◌, ◌≤◌, ◌<◌}
 use mathlib.Core.Path.{◌≡◌, refl, sym, ◌∙◌}
 use mathlib.Core.Bool.{Bool, true, false, not, ◌&&◌, ◌||◌}
@@ -15,10 +16,9 @@ use Rattle.byte.proofs.Words.{drop-one}
 use Rattle.number.specs.declared.Base.{Base}
 use Rattle.number.specs.declared.Extent.{Extent}
 use Rattle.number.specs.declared.Literal.{Literal}
-use Rattle.number.specs.declared.Place.{Place}
 use Rattle.number.specs.Numbers.{Digits, Reading, is_one, base_named, base_of, is_sign, before, last, digits_more}
 use Rattle.number.specs.Numbers.{digits, signed, onto, closing, followed}
-use Rattle.number.specs.Code.{place_of, extent_of, closing_extent, digit_width, WidthAt, stopped}
+use Rattle.number.specs.Code.{extent_at, place_of, extent_of, closing_extent, digit_width, WidthAt, stopped}
 use Rattle.number.proofs.Values.{either}
 
 -- a place and the next in the source
@@ -33,11 +33,11 @@ drop_two src at h =
     drop-one src at (omega arith) ∙ rw (drop-one src (at + 1) (omega arith), next)
 
 -- a place is one, and is none where it is undecided
-pub place_same : (m n : ℕ) → Place.At m ≡ Place.At n → m ≡ n
-place_same m n e = let z : Place.At m ≡ Place.At n = e in cc
+pub place_same : (m n : ℕ) → Some m ≡ Some n → m ≡ n
+place_same m n e = let z : Some m ≡ Some n = e in cc
 
-pub place_clash : (n : ℕ) → Place.At n ≡ Place.Undecided → ⊥
-place_clash n e = let z : Place.At n ≡ Place.Undecided = e in let y : ◌≡◌ {A = ℕ} 0 1 = cc in omega arith
+pub place_clash : (n : ℕ) → Some n ≡ None → ⊥
+place_clash n e = let z : Some n ≡ None = e in let y : ◌≡◌ {A = ℕ} 0 1 = cc in omega arith
 
 -- what comes before leaves the place, and the kind with it
 pub place_of_before : (b : ℕ) (d : Digits) → place_of (before b d) ≡ place_of d
@@ -56,14 +56,14 @@ extent_of_closing literal (Digits.Read ds after) = refl
 extent_of_closing literal Digits.Undecided = refl
 
 -- a number that goes on after digits ends where it ends from their place on
-pub followed_place : (d : Digits) (next : ℕ → Reading) (i : ℕ) → place_of d ≡ Place.At i
+pub followed_place : (d : Digits) (next : ℕ → Reading) (i : ℕ) → place_of d ≡ Some i
     → extent_of (followed d next) ≡ extent_of (next i)
 unfolding place_of followed
 followed_place (Digits.Read ds after) next i e = rw (place_same after i e) (extent_of_onto ds (next i))
 followed_place Digits.Undecided next i e = absurd (place_clash i (sym e))
 
-pub followed_undecided : (d : Digits) (next : ℕ → Reading) → place_of d ≡ Place.Undecided
-    → Extent.Undecided ≡ extent_of (followed d next)
+pub followed_undecided : (d : Digits) (next : ℕ → Reading) → place_of d ≡ None
+    → None ≡ extent_of (followed d next)
 unfolding place_of followed extent_of
 followed_undecided (Digits.Read ds after) next e = absurd (place_clash after e)
 followed_undecided Digits.Undecided next e = refl
@@ -112,41 +112,52 @@ module _ (src : List ℕ) (at : ℕ) where
 
 pub ruleset bases = (base_named_binary, base_named_octal, base_named_hex, base_named_none, base_of_short, base_of_other, base_of_zero)
 
-pub last_arm : (at : ℕ) (end arm : Bool) (r : Place) → end ≡ arm → r ≡ place_of (last arm at) → r ≡ place_of (last end at)
-last_arm at end arm r e h = rw e h
+pub last_told : (end : Bool) (at : ℕ) → then_some end at ≡ place_of (last end at)
+unfolding last place_of
+last_told true at = refl
+last_told false at = refl
 
 module _ (src : List ℕ) (at : ℕ) (base : Base) (one : Bool) (h : at < length src) (f : one ≡ is_one base (get_or src at 0)) where
-  digit_width_one : (b : ℕ) (xs : List ℕ) → is_one base b ≡ true → digit_width base (b ∷ xs) ≡ 1
+  digit_width_one : (b : ℕ) (xs : List ℕ) → is_one base b ≡ true → digit_width base (b ∷ xs) ≡ Some 1
   unfolding digit_width
   digit_width_one b [] e = rw e
   digit_width_one b (c ∷ xs) e = rw e
 
-  digit_width_other : (b : ℕ) (xs : List ℕ) → is_one base b ≡ false → eqb b 95 ≡ false → digit_width base (b ∷ xs) ≡ 0
+  digit_width_other : (b : ℕ) (xs : List ℕ) → is_one base b ≡ false → eqb b 95 ≡ false → digit_width base (b ∷ xs) ≡ None
   unfolding digit_width
   digit_width_other b [] e k = rw e
   digit_width_other b (c ∷ xs) e k = rw (e, k)
 
-  pub width_one : one ≡ true → WidthAt base src at 1
-  width_one t = record { told = sym (rw (drop-one src at h) (digit_width_one _ _ (sym f ∙ t))); inside = omega arith }
+  pub width_one : one ≡ true → WidthAt base src at (Some 1)
+  width_one t = record { told = sym (rw (drop-one src at h) (digit_width_one _ _ (sym f ∙ t))); inside = omega arith; some = omega arith }
 
   module _ (t : one ≡ false) where
-    pub width_other : (get_or src at 0 ≡ 95 → ⊥) → WidthAt base src at 0
-    width_other k = record { told = sym (rw (drop-one src at h) (digit_width_other _ _ (sym f ∙ t) (ne_eqb (get_or src at 0) 95 k))); inside = omega arith }
+    pub width_other : (get_or src at 0 ≡ 95 → ⊥) → WidthAt base src at None
+    width_other k = record { told = sym (rw (drop-one src at h) (digit_width_other _ _ (sym f ∙ t) (ne_eqb (get_or src at 0) 95 k))); inside = tt; some = tt }
 
-    pub width_cut : length src - at < 2 → WidthAt base src at 0
+    pub width_cut : length src - at < 2 → WidthAt base src at None
     unfolding digit_width
-    width_cut short = record { told = rw (drop_last src at h short, ← f, t); inside = omega arith }
+    width_cut short = record { told = rw (drop_last src at h short, ← f, t); inside = tt; some = tt }
 
     module _ (pair : 2 ≤ length src - at) (second : Bool) (g : second ≡ is_one base (get_or src (at + 1) 0)) (under : get_or src at 0 ≡ 95) where
-      pub width_joined : second ≡ true → WidthAt base src at 2
+      width_joined : second ≡ true → Some 2 ≡ digit_width base (drop at src)
       unfolding digit_width
-      width_joined k = record { told = rw (drop_two src at pair, ← f, ← g, t, k, eq-eqb (get_or src at 0) 95 under); inside = omega arith }
+      width_joined k = rw (drop_two src at pair, ← f, ← g, t, k, eq-eqb (get_or src at 0) 95 under)
 
-      pub width_lone : second ≡ false → WidthAt base src at 0
+      width_lone : second ≡ false → None ≡ digit_width base (drop at src)
       unfolding digit_width
-      width_lone k = record { told = rw (drop_two src at pair, ← f, ← g, t, k, eq-eqb (get_or src at 0) 95 under); inside = omega arith }
+      width_lone k = rw (drop_two src at pair, ← f, ← g, t, k, eq-eqb (get_or src at 0) 95 under)
 
-pub ruleset widths = (width_one, width_other, width_cut, width_joined, width_lone)
+      pub width_pair : WidthAt base src at (then_some second 2)
+      width_pair = either second
+          (λ k. rw k (record { told = width_joined k; inside = omega arith; some = omega arith }))
+          (λ k. rw k (record { told = width_lone k; inside = tt; some = tt }))
+
+pub width_past : (src : List ℕ) (at : ℕ) (base : Base) → length src ≤ at → WidthAt base src at None
+unfolding digit_width
+width_past src at base h = record { told = rw (drop_of_length-le src h); inside = tt; some = tt }
+
+pub ruleset widths = (width_past, width_one, width_other, width_cut, width_pair)
 
 module _ (src : List ℕ) (at : ℕ) (end : Bool) (h : at < length src) where
   stopped_at : (b : ℕ) (xs : List ℕ) → eqb b 95 ≡ false → stopped end at (b ∷ xs) ≡ Digits.Read [] at
@@ -154,20 +165,25 @@ module _ (src : List ℕ) (at : ℕ) (end : Bool) (h : at < length src) where
   stopped_at b [] e = rw e
   stopped_at b (c ∷ xs) e = refl
 
-  pub stopped_other : (get_or src at 0 ≡ 95 → ⊥) → Place.At at ≡ place_of (stopped end at (drop at src))
+  pub stopped_other : (get_or src at 0 ≡ 95 → ⊥) → Some at ≡ place_of (stopped end at (drop at src))
   unfolding place_of
   stopped_other k = rw (drop-one src at h, stopped_at (get_or src at 0) (drop (at + 1) src) (ne_eqb (get_or src at 0) 95 k))
 
   module _ (under : get_or src at 0 ≡ 95) where
-    pub stopped_cut : (r : Place) → length src - at < 2 → r ≡ place_of (last end at) → r ≡ place_of (stopped end at (drop at src))
+    pub stopped_cut : (r : Option ℕ) → length src - at < 2 → r ≡ place_of (last end at) → r ≡ place_of (stopped end at (drop at src))
     unfolding stopped
     stopped_cut r short e = rw (drop_last src at h short, eq-eqb (get_or src at 0) 95 under) e
 
-    pub stopped_lone : 2 ≤ length src - at → Place.At at ≡ place_of (stopped end at (drop at src))
+    pub stopped_lone : 2 ≤ length src - at → Some at ≡ place_of (stopped end at (drop at src))
     unfolding stopped place_of
     stopped_lone pair = rw (drop_two src at pair)
 
-pub ruleset stops = (stopped_other, stopped_cut, stopped_lone)
+pub stopped_past : (src : List ℕ) (at : ℕ) (end : Bool) (r : Option ℕ) → length src ≤ at → r ≡ place_of (last end at)
+    → r ≡ place_of (stopped end at (drop at src))
+unfolding stopped
+stopped_past src at end r h e = rw (drop_of_length-le src h) e
+
+pub ruleset stops = (stopped_past, stopped_other, stopped_cut, stopped_lone)
 
 -- after a digit: a digit, a `_` or another byte; after the `_` a digit, another byte or none
 abbrev underscored : Base → Bool → ℕ → List ℕ → Digits
@@ -184,9 +200,12 @@ digits_more_byte base end n b [] = refl
 digits_more_byte base end n b (c ∷ xs) = either (eqb b 95) (λ u. rw u refl) (λ u. rw u refl)
 
 -- no digit after a digit, or one more
+abbrev stepped : Base → Bool → ℕ → List ℕ → Option ℕ → Option ℕ
+stepped base end n xs None = place_of (stopped end n xs)
+stepped base end n xs (Some w) = place_of (digits_more base end (n + w) (drop w xs))
+
 digits_more_step : (base : Base) (end : Bool) (n : ℕ) (xs : List ℕ) → place_of (digits_more base end n xs)
-    ≡ (let w = digit_width base xs in
-    if eqb w 0 then place_of (stopped end n xs) else place_of (digits_more base end (n + w) (drop w xs)))
+    ≡ stepped base end n xs (digit_width base xs)
 unfolding digit_width digits_more stopped
 digits_more_step base end n [] = refl
 digits_more_step base end n (b ∷ []) =
@@ -209,49 +228,46 @@ module _ (base : Base) (end : Bool) (src : List ℕ) (at : ℕ) where
   passing_first h = record { inside = h; same = refl }
 
   module _ (i : ℕ) (p : Passing base end src at i) where
-    pub passing_end : (r : Place) → length src ≤ i → r ≡ place_of (last end i) → r ≡ place_of (digits_more base end at (drop at src))
-    unfolding digits_more
-    passing_end r h e = e ∙ sym (p.same ∙ rw (drop_of_length-le src h))
+    pub passing_stop : (r : Option ℕ) → WidthAt base src i None → r ≡ place_of (stopped end i (drop i src))
+        → r ≡ place_of (digits_more base end at (drop at src))
+    passing_stop r step e = e ∙ sym (p.same ∙ digits_more_step base end i (drop i src) ∙ rw (← step.told))
 
-    module _ (w : ℕ) (step : WidthAt base src i w) where
-      pub passing_stop : (r : Place) → w ≡ 0 → r ≡ place_of (stopped end i (drop i src)) → r ≡ place_of (digits_more base end at (drop at src))
-      passing_stop r h e = e ∙ sym (p.same ∙ digits_more_step base end i (drop i src) ∙ rw (← step.told, h))
-
-      pub passing_on : (w ≡ 0 → ⊥) → Passing base end src at (i + w)
-      passing_on h = record {
+    module _ (w : ℕ) (step : WidthAt base src i (Some w)) where
+      pub passing_on : Passing base end src at (i + w)
+      passing_on = record {
         inside = step.inside;
-        same = p.same ∙ digits_more_step base end i (drop i src) ∙ rw (← step.told, ne_eqb w 0 h, drop-drop w i src);
+        same = p.same ∙ digits_more_step base end i (drop i src) ∙ rw (← step.told, drop-drop w i src);
       }
 
-pub ruleset passing = (passing_first, passing_end, passing_stop, passing_on)
+pub ruleset passing = (passing_first, passing_stop, passing_on)
 
 module _ (src : List ℕ) (at : ℕ) (base : Base) (end : Bool) where
-  pub digits_past : (r : Place) → length src ≤ at → r ≡ place_of (last end at) → r ≡ place_of (digits base end at (drop at src))
+  pub digits_past : (r : Option ℕ) → length src ≤ at → r ≡ place_of (last end at) → r ≡ place_of (digits base end at (drop at src))
   unfolding digits
   digits_past r h e = rw (drop_of_length-le src h) e
 
   module _ (flag : Bool) (h : at < length src) (f : flag ≡ is_one base (get_or src at 0)) where
-    pub digits_none : not flag ≡ true → Place.At at ≡ place_of (digits base end at (drop at src))
+    pub digits_none : not flag ≡ true → Some at ≡ place_of (digits base end at (drop at src))
     unfolding digits place_of
     digits_none t = rw (drop-one src at h, ← f, not-true flag t)
 
-    pub digits_some : (r : Place) → not flag ≡ false → r ≡ place_of (digits_more base end (at + 1) (drop (at + 1) src)) → r ≡ place_of (digits base end at (drop at src))
+    pub digits_some : (r : Option ℕ) → not flag ≡ false → r ≡ place_of (digits_more base end (at + 1) (drop (at + 1) src)) → r ≡ place_of (digits base end at (drop at src))
     unfolding digits
     digits_some r t e = rw (drop-one src at h, ← f, not-false flag t, place_of_before, ← add-one at) e
 
 pub ruleset digits_ends = (digits_past, digits_none, digits_some)
 
 module _ (src : List ℕ) (at : ℕ) (end : Bool) where
-  pub signed_past : (r : Place) → length src ≤ at → r ≡ place_of (last end at) → r ≡ place_of (signed end at (drop at src))
+  pub signed_past : (r : Option ℕ) → length src ≤ at → r ≡ place_of (last end at) → r ≡ place_of (signed end at (drop at src))
   unfolding signed
   signed_past r h e = rw (drop_of_length-le src h) e
 
   module _ (flag : Bool) (h : at < length src) (f : flag ≡ is_sign (get_or src at 0)) where
-    pub signed_sign : (r : Place) → flag ≡ true → r ≡ place_of (digits Base.Decimal end (at + 1) (drop (at + 1) src)) → r ≡ place_of (signed end at (drop at src))
+    pub signed_sign : (r : Option ℕ) → flag ≡ true → r ≡ place_of (digits Base.Decimal end (at + 1) (drop (at + 1) src)) → r ≡ place_of (signed end at (drop at src))
     unfolding signed
     signed_sign r t e = rw (drop-one src at h, ← f, t, place_of_before, ← add-one at) e
 
-    pub signed_bare : (r : Place) → flag ≡ false → r ≡ place_of (digits Base.Decimal end at (drop at src)) → r ≡ place_of (signed end at (drop at src))
+    pub signed_bare : (r : Option ℕ) → flag ≡ false → r ≡ place_of (digits Base.Decimal end at (drop at src)) → r ≡ place_of (signed end at (drop at src))
     unfolding signed
     signed_bare r t e = rw (drop-one src at h, ← f, t, ← drop-one src at h) e
 

@@ -1,7 +1,7 @@
 -- With the end announced, what is read of every text, by its kind and its text: `number_text`. Assumes nothing.
 --   read_text     the text that is read: a prefix and its digits; or whole digits, and what is read after them
 --   number_text   it is what is read
-use Rattle.std.specs.Prelude.{if◌then◌else◌}
+use Rattle.std.specs.Prelude.{if◌then◌else◌, Option, Some, None}
 use Prim.Native.Nat.{ℕ, suc, ◌+◌, ◌-◌, ◌≤◌}
 use mathlib.Core.Path.{◌≡◌, refl, ap, ◌∙◌}
 use mathlib.Core.Bool.{true, not, ◌&&◌, false≢true}
@@ -16,11 +16,10 @@ use Rattle.number.specs.declared.Ahead.{Ahead}
 use Rattle.number.specs.declared.Base.{Base}
 use Rattle.number.specs.declared.Extent.{Extent}
 use Rattle.number.specs.declared.Literal.{Literal}
-use Rattle.number.specs.declared.Place.{Place}
 use Rattle.number.specs.Numbers.{Reading, is_one, base_of, is_exponent, is_sign, last, digits, signed, closing}
 use Rattle.number.specs.Numbers.{followed, power, exponent, fraction, digit_ahead, power_ahead, decided, marked}
 use Rattle.number.specs.Numbers.{tail, decimal, prefixed, number_in, number_at}
-use Rattle.number.specs.Code.{place_of, extent_of, closing_extent}
+use Rattle.number.specs.Code.{extent_at, place_of, extent_of, closing_extent}
 use Rattle.number.specs.Manual.{Begins, starts_with, leading, following, has_power, signed_digits, power_text}
 use Rattle.number.specs.Manual.{makes_float, is_named, prefixed_text, kind_of, exponent_text, ReadAs}
 use Rattle.number.proofs.Values.{either, prefix, number_at_extent}
@@ -38,16 +37,16 @@ read_text xs = if is_named (base_of xs) then prefixed_text xs else leading is_di
 
 -- a number of this kind is read of so many bytes from n on
 abbrev Extends : Literal → ℕ → List ℕ → Reading → Type 0
-Extends literal n text r = extent_of r ≡ Extent.Number literal (n + length text)
+Extends literal n text r = extent_of r ≡ extent_at literal (n + length text)
 
-longer : (literal : Literal) (m n : ℕ) → m ≡ n → Extent.Number literal m ≡ Extent.Number literal n
+longer : (literal : Literal) (m n : ℕ) → m ≡ n → extent_at literal m ≡ extent_at literal n
 longer literal m n e = rw e refl
 
-signed_place : (n : ℕ) (xs : List ℕ) → place_of (signed true n xs) ≡ Place.At (n + length (signed_digits xs))
+signed_place : (n : ℕ) (xs : List ℕ) → place_of (signed true n xs) ≡ Some (n + length (signed_digits xs))
 unfolding signed signed_digits is_one last place_of
-signed_place n [] = ap Place.At (omega arith)
+signed_place n [] = ap Some (omega arith)
 signed_place n (b ∷ xs) =
-    either (is_sign b) (λ s. rw (s, place_of_before) (digits_place Base.Decimal (suc n) xs ∙ ap Place.At (omega arith)))
+    either (is_sign b) (λ s. rw (s, place_of_before) (digits_place Base.Decimal (suc n) xs ∙ ap Some (omega arith)))
     (λ s. rw s (digits_place Base.Decimal n (b ∷ xs)))
 
 power_extends : (n : ℕ) (xs : List ℕ) → Extends Literal.Float n (signed_digits xs) (power true n xs)
@@ -111,7 +110,7 @@ module _ (n : ℕ) (xs : List ℕ) where
       ≡ n + length (take 2 xs ++ leading (is_one base) (drop 2 xs)) =
       rw (length-append (take 2 xs) (leading (is_one base) (drop 2 xs))) (omega arith) in
       extent_of_onto (take 2 xs) _ ∙ extent_of_closing Literal.Integer _
-      ∙ ap (closing_extent Literal.Integer) (digits_place base (suc (suc n)) (drop 2 xs) ∙ ap Place.At size)
+      ∙ ap (closing_extent Literal.Integer) (digits_place base (suc (suc n)) (drop 2 xs) ∙ ap Some size)
 
   named_two : (base : Base) → base_of xs ≡ base → is_named base ≡ true → 2 ≤ length xs
   unfolding is_named

@@ -5,6 +5,7 @@
 --   number_at_value, number_at_inside, number_at_shorter, number_at_value_of, number_at_ends   the same, told apart
 --   digit_passes, point_passes                                                                 a number whose value has a byte ends after n: one that starts with a digit or a point
 -- Assumes nothing.
+use Rattle.std.specs.Prelude.{Option, Some, None}
 use Prim.Native.Nat.{ℕ, suc, ◌+◌, ◌-◌, ◌≤◌, ◌<◌}
 use Prim.Native.Char.{code}
 use mathlib.Core.Path.{◌≡◌, refl, sym, ap, subst, ◌∙◌}
@@ -25,7 +26,7 @@ use Rattle.number.specs.Numbers.{Digits, Reading, is_one, base_named, base_of, i
 use Rattle.number.specs.Numbers.{digits, signed, onto, closing, followed, power, exponent, fraction, digit_ahead}
 use Rattle.number.specs.Numbers.{power_ahead, decided, marked, tail, decimal, prefixed, number_in, number_at, lower_exponent}
 use Rattle.number.specs.Numbers.{spelling, spelled, value_of}
-use Rattle.number.specs.Code.{extent_of}
+use Rattle.number.specs.Code.{extent_at, extent_of}
 
 -- by the two answers of a test
 pub either : {P : Type 0} (t : Bool) → (t ≡ true → P) → (t ≡ false → P) → P
@@ -317,20 +318,30 @@ pub number_at_value_of : (end : Bool) (src : List ℕ) (at : ℕ) (literal : Lit
 unfolding value_of
 number_at_value_of end src at literal value after e = number_at_value end at (drop at src) literal value after e
 
+-- the parts of an extent
+abbrev literal_in : Literal → Option Extent → Literal
+literal_in none (Some extent) = extent.literal
+literal_in none None = none
+
+abbrev after_in : Option Extent → ℕ
+after_in (Some extent) = extent.after
+after_in None = 0
+
 -- so kind and place tell the whole number
 pub number_at_extent : (end : Bool) (n : ℕ) (xs : List ℕ) (literal : Literal) (after : ℕ)
-    → extent_of (number_at end n xs) ≡ Extent.Number literal after
+    → extent_of (number_at end n xs) ≡ extent_at literal after
     → number_at end n xs ≡ Reading.Number literal (spelled (base_of xs) (take (after - n) xs)) after
 unfolding extent_of
 number_at_extent end n xs literal after e = go (number_at end n xs) refl e
   where
-    go : (r : Reading) → number_at end n xs ≡ r → extent_of r ≡ Extent.Number literal after
+    go : (r : Reading) → number_at end n xs ≡ r → extent_of r ≡ extent_at literal after
         → number_at end n xs ≡ Reading.Number literal (spelled (base_of xs) (take (after - n) xs)) after
     go (Reading.Number kind value place) q e =
-        let z : Extent.Number kind place ≡ Extent.Number literal after = e in
+        let kinds : kind ≡ literal = ap (literal_in literal) e in
+        let places : place ≡ after = ap after_in e in
         let same : number_at end n xs ≡ Reading.Number literal value after = q ∙ cc in
         rw (← number_at_value end n xs literal value after same) same
-    go Reading.Wait q e = let z : Extent.Undecided ≡ Extent.Number literal after = e in cc
+    go Reading.Wait q e = let z : None ≡ extent_at literal after = e in cc
 
 -- at the announced end no reading waits
 pub number_at_ends : (n : ℕ) (xs : List ℕ) → number_at true n xs ≡ Reading.Wait → ⊥

@@ -8,7 +8,7 @@
 --   number_at_fits                  of every number
 --   number_waits   demand 3
 -- Assumes nothing.
-use Rattle.std.specs.Prelude.{if◌then◌else◌}
+use Rattle.std.specs.Prelude.{if◌then◌else◌, Option, Some, None}
 use Prim.Native.Nat.{ℕ, suc, ◌+◌, ◌-◌, ◌≤◌, ◌<◌}
 use mathlib.Core.Path.{◌≡◌, refl, sym, ap, subst, ◌∙◌}
 use mathlib.Core.Bool.{Bool, true, false, ◌&&◌}
@@ -24,7 +24,6 @@ use Rattle.byte.specs.Demand.{Waits}
 use Rattle.byte.proofs.Demand.{waits}
 use Rattle.number.specs.declared.Base.{Base}
 use Rattle.number.specs.declared.Literal.{Literal}
-use Rattle.number.specs.declared.Place.{Place}
 use Rattle.number.specs.Numbers.{Digits, Reading, is_one, base_named, base_of, is_exponent, is_sign, before, last, digits_more}
 use Rattle.number.specs.Numbers.{digits, signed, onto, closing, followed, power, exponent, fraction, digit_ahead}
 use Rattle.number.specs.Numbers.{power_ahead, decided, marked, tail, decimal, prefixed, number_in, number_at}
@@ -37,20 +36,20 @@ abbrev zero_byte : List ℕ
 zero_byte = 48 ∷ []
 
 -- where a number ends
-abbrev place_in : Reading → Place
-place_in (Reading.Number literal value after) = Place.At after
-place_in Reading.Wait = Place.Undecided
+abbrev place_in : Reading → Option ℕ
+place_in (Reading.Number literal value after) = Some after
+place_in Reading.Wait = None
 
-pub data Fits {A : Type 0} (place : A → Place) (whole : List ℕ → A) (full : ℕ) (a : A) : Type 0 where
-  settled : (after : ℕ) → place a ≡ Place.At after → after + 1 < full → ((rest : List ℕ) → whole rest ≡ a)
+pub data Fits {A : Type 0} (place : A → Option ℕ) (whole : List ℕ → A) (full : ℕ) (a : A) : Type 0 where
+  settled : (after : ℕ) → place a ≡ Some after → after + 1 < full → ((rest : List ℕ) → whole rest ≡ a)
       → Fits place whole full a
-  cut : place a ≡ Place.Undecided → place (whole zero_byte) ≡ Place.At full → Fits place whole full a
+  cut : place a ≡ None → place (whole zero_byte) ≡ Some full → Fits place whole full a
 
 -- the same of a reading at n, between a part and that part with more after it
-abbrev pub Stays : {A : Type 0} (place : A → Place) → (Bool → ℕ → List ℕ → A) → ℕ → ℕ → List ℕ → Type 0
+abbrev pub Stays : {A : Type 0} (place : A → Option ℕ) → (Bool → ℕ → List ℕ → A) → ℕ → ℕ → List ℕ → Type 0
 Stays place look n full xs = Fits place (λ (rest : List ℕ). look true n (xs ++ rest)) full (look false n xs)
 
-module _ {A : Type 0} {place : A → Place} {full : ℕ} where
+module _ {A : Type 0} {place : A → Option ℕ} {full : ℕ} where
   -- a choice by a byte that is there
   fits_if : (t : Bool) {a c : A} {f g : List ℕ → A} → Fits place f full a → Fits place g full c
       → Fits place (λ (rest : List ℕ). if t then f rest else g rest) full (if t then a else c)
@@ -64,13 +63,13 @@ module _ {A : Type 0} {place : A → Place} {full : ℕ} where
   fits_along f g same (cut p q) = cut p (rw (same zero_byte) q)
 
   -- a reading that waits ends after the 0
-  fits_waits : {a : A} {f : List ℕ → A} → Fits place f full a → place a ≡ Place.Undecided
-      → place (f zero_byte) ≡ Place.At full
+  fits_waits : {a : A} {f : List ℕ → A} → Fits place f full a → place a ≡ None
+      → place (f zero_byte) ≡ Some full
   fits_waits (settled after p s h) e = absurd (place_clash after (sym p ∙ e))
   fits_waits (cut p q) e = q
 
   -- what leaves the place of every answer
-  fits_map : {B : Type 0} {there : B → Place} (f : A → B) → ((a : A) → there (f a) ≡ place a)
+  fits_map : {B : Type 0} {there : B → Option ℕ} (f : A → B) → ((a : A) → there (f a) ≡ place a)
       → {a : A} {whole : List ℕ → A} → Fits place whole full a → Fits there (λ (rest : List ℕ). f (whole rest)) full (f a)
   fits_map f same (settled after p s h) = settled after (same _ ∙ p) s (λ rest. ap f (h rest))
   fits_map f same (cut p q) = cut (same _ ∙ p) (same _ ∙ q)
@@ -136,14 +135,14 @@ Fitting next = (n full b : ℕ) (xs : List ℕ) → full ≡ n + length xs + 2 �
 abbrev followed_by : (Bool → ℕ → List ℕ → Reading) → Bool → ℕ → List ℕ → Digits → Reading
 followed_by next end n xs d = followed d (λ (after : ℕ). next end after (drop (after - n) xs))
 
-module _ (next : Bool → ℕ → List ℕ → Reading) (each : Fitting next) (closed : (n : ℕ) → place_in (next true n []) ≡ Place.At n)
+module _ (next : Bool → ℕ → List ℕ → Reading) (each : Fitting next) (closed : (n : ℕ) → place_in (next true n []) ≡ Some n)
     (n full : ℕ) (xs : List ℕ) (e : full ≡ n + length xs + 1) where
   fitting_drop : (m : ℕ) (ys : List ℕ) → m + 1 < full → full ≡ m + length ys + 1 → Stays place_in next m full ys
   fitting_drop m [] h k = absurd (omega arith)
   fitting_drop m (b ∷ ys) h k = each m full b ys (omega arith)
 
-  followed_cut : (d : Digits) → place_of d ≡ Place.At full
-      → place_in (followed_by next true n (xs ++ zero_byte) d) ≡ Place.At full
+  followed_cut : (d : Digits) → place_of d ≡ Some full
+      → place_in (followed_by next true n (xs ++ zero_byte) d) ≡ Some full
   unfolding followed place_of
   followed_cut (Digits.Read ds after) p =
       let size : length (xs ++ zero_byte) ≤ full - n = rw (length-append xs zero_byte) (omega arith) in
@@ -178,11 +177,11 @@ fraction_fits n full xs e =
     (digits_fits Base.Decimal n full xs e)
 
 -- where the look ahead is undecided, so is the exponent
-power_waits : (n : ℕ) → place_in (power false n []) ≡ Place.Undecided
+power_waits : (n : ℕ) → place_in (power false n []) ≡ None
 unfolding power closing onto signed last
 power_waits n = refl
 
-power_sign_waits : (n b : ℕ) → is_sign b ≡ true → place_in (power false n (b ∷ [])) ≡ Place.Undecided
+power_sign_waits : (n b : ℕ) → is_sign b ≡ true → place_in (power false n (b ∷ [])) ≡ None
 unfolding power closing onto signed digits last before
 power_sign_waits n b sign = rw sign refl
 
@@ -248,11 +247,11 @@ number_at_fits n full (b ∷ []) e =
     (λ h. fits_along _ _ (λ rest. number_at_decimal true n b rest h) (decimal_fits n full (b ∷ []) e))
 number_at_fits n full (b ∷ c ∷ xs) e = number_in_fits n full b c xs (omega arith) (base_of (b ∷ c ∷ xs))
 
-place_wait : (r : Reading) → place_in r ≡ Place.Undecided → r ≡ Reading.Wait
+place_wait : (r : Reading) → place_in r ≡ None → r ≡ Reading.Wait
 place_wait (Reading.Number literal value after) e = absurd (place_clash after e)
 place_wait Reading.Wait e = refl
 
-number_inside : (n full : ℕ) (xs : List ℕ) (r : Reading) → NumberTaken (base_of xs) true n xs r → place_in r ≡ Place.At full
+number_inside : (n full : ℕ) (xs : List ℕ) (r : Reading) → NumberTaken (base_of xs) true n xs r → place_in r ≡ Some full
     → full ≤ n + length xs
 number_inside n full xs (Reading.Number literal value after) t h =
     omega (arith, place_same after full h, t.place, t.inside)
@@ -277,7 +276,7 @@ number_waits n part = go (number_at_fits n (n + length part + 1) part refl)
           two_bytes = refl;
           apart = λ same.
               let alike : number_at true n part ≡ number_at true n (part ++ zero_byte) = rw append-nil at same in
-              let here : place_in (number_at true n part) ≡ Place.At (n + length part + 1) = rw alike q in
+              let here : place_in (number_at true n part) ≡ Some (n + length part + 1) = rw alike q in
               let taken = number_at_taken true n part in
               omega (arith, number_inside n (n + length part + 1) part (number_at true n part) taken here);
         })

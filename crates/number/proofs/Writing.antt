@@ -1,10 +1,14 @@
--- The value of a number: the loops over its text that count its bytes and write them, and what a scan tells. Assumes nothing.
+-- The value of a number: how many bytes of its text it has, the loop that writes them, and what a scan tells. Assumes nothing.
+use Rattle.std.specs.Prelude.{Option, Some, None}
 use Prim.Native.Nat.{ℕ, ◌+◌, ◌-◌, ◌≤◌, ◌<◌}
 use mathlib.Core.Path.{◌≡◌, refl, sym, ap, ◌∙◌}
 use mathlib.Core.List.{List, [], ◌∷◌, ◌++◌, append-nil}
-use mathlib.Core.Bool.{Bool}
+use mathlib.Core.Bool.{Bool, not, cond}
 use native.Mathlib.Omega.{arith}
 use native.Mathlib.Numerals.{add-one}
+use lib.Dec.{eqb}
+use Rattle.std.specs.List.{count_by}
+use Rattle.std.proofs.lemmas.List.Recursion.{is_count_by}
 use lib.ListN.{length, get_or, set, take, drop, length-append, length-drop, take-append-drop}
 use lib.Seq.{take-suc, take_all}
 use borrow.Author.Tests.{eq-eqb, ne_eqb}
@@ -15,8 +19,8 @@ use Rattle.number.specs.declared.Extent.{Extent}
 use Rattle.number.specs.declared.Literal.{Literal}
 use Rattle.number.specs.declared.Scanned.{Scanned}
 use Rattle.number.specs.Numbers.{Reading, base_of, number_at, scanned, lower_exponent, spelling, spelled, value_of}
-use Rattle.number.specs.Code.{extent_of}
-use Rattle.number.proofs.Values.{spelled_append, length_spelled, number_at_inside, number_at_extent}
+use Rattle.number.specs.Code.{extent_at, extent_of}
+use Rattle.number.proofs.Values.{either, spelled_append, length_spelled, number_at_inside, number_at_extent}
 
 -- one byte more of the text
 module _ (base : Base) (part : List ℕ) (i : ℕ) (h : i < length part) where
@@ -28,13 +32,27 @@ module _ (base : Base) (part : List ℕ) (i : ℕ) (h : i < length part) where
   unfolding spelled
   spelled_under under = rw (add-one i, take-suc part i 0 h, spelled_append base (take i part) (get_or part i 0 ∷ []), eq-eqb (get_or part i 0) 95 under) (append-nil (spelled base (take i part)))
 
+-- a value is as long as there are bytes but `_`
+pub spelled_count : (part : List ℕ) → count_by (λ (b : ℕ). not (eqb b 95)) part ≡ length (spelled Base.Decimal part)
+unfolding spelled
+spelled_count part = sym (is_count_by size kept refl step part)
+  where
+    size : List ℕ → ℕ
+    size xs = length (spelled Base.Decimal xs)
+
+    kept : ℕ → Bool
+    kept b = not (eqb b 95)
+
+    step : (b : ℕ) (xs : List ℕ) → size (b ∷ xs) ≡ cond (kept b) (1 + size xs) (size xs)
+    step b xs = either (eqb b 95) (λ e. rw e refl) (λ e. rw e (omega arith))
+
 -- what is written so far is no longer than the whole
 spelled_front : (base : Base) (part : List ℕ) (i : ℕ) → length (spelled base (take i part)) ≤ length (spelled base part)
 spelled_front base part i =
     let all : spelled base part ≡ spelled base (take i part) ++ spelled base (drop i part) = ap (spelled base) (sym (take-append-drop i part)) ∙ spelled_append base (take i part) (drop i part) in
     omega (arith, ap length all, length-append (spelled base (take i part)) (spelled base (drop i part)))
 
--- the loop that counts: `len` bytes are kept of the first i
+-- `len` bytes are kept of the first i
 pub record Counting (base : Base) (part : List ℕ) (len i : ℕ) : Type 0 where
   pub inside : i ≤ length part
   pub small : len ≤ i
@@ -46,9 +64,6 @@ module _ (base : Base) (part : List ℕ) where
   counting_first = record { inside = omega arith; small = omega arith; told = refl }
 
   module _ (len i : ℕ) (c : Counting base part len i) where
-    pub counting_end : length part ≤ i → len ≡ length (spelled base part)
-    counting_end h = c.told ∙ rw (take_all i part h)
-
     module _ (more : ℕ) (h : i < length part) where
       pub counting_kept : (get_or part i 0 ≡ 95 → ⊥) → more ≡ len + 1 → Counting base part more (i + 1)
       counting_kept other e =
@@ -65,8 +80,6 @@ module _ (base : Base) (part : List ℕ) where
         small = omega (arith, c.small);
         told = rw (spelled_under base part i h under) (e ∙ c.told);
       }
-
-pub ruleset counting = (counting_first, counting_end, counting_kept, counting_under)
 
 -- the loop that writes: they stand at the start
 pub record Storing (base : Base) (part old now : List ℕ) (i j : ℕ) : Type 0 where
@@ -121,8 +134,18 @@ module _ (base : Base) (part old : List ℕ) where
 
 pub ruleset storing = (storing_first, storing_size, storing_end, storing_under, storing_room, storing_kept)
 
-pub spelling_arm : (base arm : Base) (b r : ℕ) → base ≡ arm → r ≡ spelling arm b → r ≡ spelling base b
-spelling_arm base arm b r e h = rw e h
+pub spelling_hex : (base : Base) (b : ℕ) → base ≡ Base.Hex → b ≡ spelling base b
+unfolding spelling
+spelling_hex base b h = rw h refl
+
+pub spelling_other : (base : Base) (b r : ℕ) → (base ≡ Base.Hex → ⊥) → r ≡ lower_exponent b → r ≡ spelling base b
+unfolding spelling
+spelling_other Base.Binary b r other e = e
+spelling_other Base.Octal b r other e = e
+spelling_other Base.Decimal b r other e = e
+spelling_other Base.Hex b r other e = absurd (other refl)
+
+pub ruleset spellings = (spelling_hex, spelling_other)
 
 pub lower_upper : (b : ℕ) → b ≡ 69 → 101 ≡ lower_exponent b
 unfolding lower_exponent
@@ -152,29 +175,29 @@ module _ (src : List ℕ) (at after : ℕ) where
 pub ruleset values = (value_of_room, value_of_written)
 
 -- what a scan tells
-module _ (src : List ℕ) (at : ℕ) (end : Bool) (extent : Extent) (e : extent ≡ extent_of (number_at end at (drop at src))) where
-  pub scan_wait : extent ≡ Extent.Undecided → Scanned.Wait ≡ scanned (number_at end at (drop at src))
+module _ (src : List ℕ) (at : ℕ) (end : Bool) (extent : Option Extent) (e : extent ≡ extent_of (number_at end at (drop at src))) where
+  pub scan_wait : extent ≡ None → None ≡ scanned (number_at end at (drop at src))
   unfolding extent_of scanned
   scan_wait f = go (number_at end at (drop at src)) (sym f ∙ e)
     where
-      go : (r : Reading) → Extent.Undecided ≡ extent_of r → Scanned.Wait ≡ scanned r
-      go (Reading.Number literal value after) e = let z : Extent.Undecided ≡ Extent.Number literal after = e in cc
+      go : (r : Reading) → None ≡ extent_of r → None ≡ scanned r
+      go (Reading.Number literal value after) e = let z : None ≡ extent_at literal after = e in cc
       go Reading.Wait e = refl
 
-  module _ (literal : Literal) (after : ℕ) (f : extent ≡ Extent.Number literal after) where
-    found : number_at end at (drop at src) ≡ Reading.Number literal (value_of src at after) after
+  module _ (found : Extent) (f : extent ≡ Some found) where
+    told : number_at end at (drop at src) ≡ Reading.Number found.literal (value_of src at found.after) found.after
     unfolding value_of
-    found = number_at_extent end at (drop at src) literal after (sym e ∙ f)
+    told = number_at_extent end at (drop at src) found.literal found.after (sym e ∙ f)
 
-    pub scan_low : at ≤ after
-    scan_low = (number_at_inside end at (drop at src) literal _ after found).0
+    pub scan_low : at ≤ found.after
+    scan_low = (number_at_inside end at (drop at src) found.literal _ found.after told).0
 
-    pub scan_high : at ≤ length src → after ≤ length src
-    scan_high h = omega (arith, (number_at_inside end at (drop at src) literal _ after found).1, length-drop at src)
+    pub scan_high : at ≤ length src → found.after ≤ length src
+    scan_high h = omega (arith, (number_at_inside end at (drop at src) found.literal _ found.after told).1, length-drop at src)
 
-    pub scan_number : (len : ℕ) → len ≡ length (value_of src at after)
-        → Scanned.Number literal after len ≡ scanned (number_at end at (drop at src))
+    pub scan_number : (len : ℕ) → len ≡ length (value_of src at found.after)
+        → Some (record { literal = found.literal; after = found.after; len = len }) ≡ scanned (number_at end at (drop at src))
     unfolding scanned
-    scan_number len g = rw (found, g)
+    scan_number len g = rw (told, g)
 
 pub ruleset scans = (scan_wait, scan_low, scan_high, scan_number)

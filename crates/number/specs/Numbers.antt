@@ -8,7 +8,7 @@
 --   spelled, value_of            a literal's text as a value has it: no `_`, and `e` for `E` (proofs/Values.antt: it is
 --                                the value)
 -- n is the position of the text's head. `end`: the end is announced; with more to come, what is not yet known is a wait.
-use Rattle.std.specs.Prelude.{ℕ, suc, ◌-◌, Bool, true, false, ◌&&◌, ◌||◌, List, [], ◌∷◌, ◌++◌, ◌≡◌, refl, length, take, drop, if◌then◌else◌}
+use Rattle.std.specs.Prelude.{ℕ, suc, ◌-◌, Bool, true, false, ◌&&◌, ◌||◌, List, [], ◌∷◌, ◌++◌, ◌≡◌, refl, length, take, drop, if◌then◌else◌, Option, Some, None}
 use Prim.Native.Char.{code}
 use Prim.Native.String.{String}
 use Rattle.byte.specs.Words.{◌is◌, ◌from◌to◌, bytes}
@@ -156,9 +156,9 @@ number_in Base.Hex end n xs = prefixed Base.Hex end n xs
 unfoldable pub number_at : Bool → ℕ → List ℕ → Reading
 number_at end n xs = number_in (base_of xs) end n xs
 
-unfoldable pub scanned : Reading → Scanned
-scanned (Reading.Number literal value after) = Scanned.Number literal after (length value)
-scanned Reading.Wait = Scanned.Wait
+unfoldable pub scanned : Reading → Option Scanned
+scanned (Reading.Number literal value after) = Some (record { literal = literal; after = after; len = length value })
+scanned Reading.Wait = None
 
 unfoldable pub lower_exponent : ℕ → ℕ
 lower_exponent b = if b is "E" then code "e" else b

@@ -18,17 +18,12 @@ pub enum Literal {
     Float,
 }
 
-// What a scan found.
+// What a scan found: the literal, the place after it, and how many bytes its value has.
 #[derive(Clone, Copy)]
-pub enum Scanned {
-    // The literal, the place after it, and how many bytes its value has.
-    Number {
-        literal: Literal,
-        after: usize,
-        len: usize,
-    },
-    // More must come before this can be told.
-    Wait,
+pub struct Scanned {
+    pub literal: Literal,
+    pub after: usize,
+    pub len: usize,
 }
 
 // What a literal's digits are of.
@@ -40,7 +35,7 @@ pub enum Base {
     Hex,
 }
 
-// A look ahead at what follows.
+// A look ahead at what follows: three answers with names of their own, which an Option<bool> would not say.
 #[derive(Clone, Copy)]
 enum Ahead {
     Yes,
@@ -49,21 +44,15 @@ enum Ahead {
     Undecided,
 }
 
-// Where digits end.
-#[derive(Clone, Copy)]
-enum Place {
-    At(usize),
-    Undecided,
-}
-
 // Where a literal ends, and its kind.
 #[derive(Clone, Copy)]
-enum Extent {
-    Number { literal: Literal, after: usize },
-    Undecided,
+struct Extent {
+    literal: Literal,
+    after: usize,
 }
 
 // A digit of a base.
+#[tactic(auto, using(crate::proofs::Runs::is_one_arm), unfolding(crate::specs::Numbers::is_one))]
 fn is_one(base: Base, b: u8) -> bool
     ensures { result ≡ is_one base b }
 {
@@ -76,6 +65,7 @@ fn is_one(base: Base, b: u8) -> bool
 }
 
 // The base that the letter after a 0 names.
+#[tactic(auto, using(crate::proofs::Runs::bases))]
 fn base_named(b: u8) -> Base
     ensures { result ≡ base_named b }
 {
@@ -92,6 +82,7 @@ fn base_named(b: u8) -> Base
 }
 
 // The base that the first two bytes at a place name.
+#[tactic(auto, using(crate::proofs::Runs::bases))]
 fn base_at(src: &[u8], at: usize) -> Base
     requires { at ≤ length src.now }
     ensures { result ≡ base_of (drop at src.now) }
@@ -106,80 +97,83 @@ fn base_at(src: &[u8], at: usize) -> Base
 }
 
 // The letter before an exponent.
+#[tactic(auto, unfolding(crate::specs::Numbers::is_exponent))]
 fn is_exponent(b: u8) -> bool
     ensures { result ≡ is_exponent b }
 {
     (b == b'e') | (b == b'E')
 }
 
+#[tactic(auto, unfolding(crate::specs::Numbers::is_sign))]
 fn is_sign(b: u8) -> bool
     ensures { result ≡ is_sign b }
 {
     (b == b'+') | (b == b'-')
 }
 
-// Where digits end if the part ends here.
-fn last_place(at: usize, end: bool) -> Place
+// Where digits end if the part ends here; None, as of each place and extent below: more must come.
+#[tactic(auto, using(crate::proofs::Runs::last_told))]
+fn last_place(at: usize, end: bool) -> Option<usize>
     ensures { result ≡ place_of (last end at) }
 {
-    if end {
-        return Place::At(at);
-    }
-    Place::Undecided
+    end.then_some(at)
 }
 
-// How many bytes the next digit takes, after another: 2 with a `_` before it, 0 where none stands.
-fn digit_width(src: &[u8], at: usize, base: Base) -> usize
-    requires { at < length src.now }
+// How many bytes the next digit takes, after another: 2 with a `_` before it.
+#[tactic(auto, using(crate::proofs::Runs::widths))]
+fn digit_width(src: &[u8], at: usize, base: Base) -> Option<usize>
+    requires { at ≤ length src.now }
     ensures { WidthAt base src.now at result }
 {
+    if src.len() <= at {
+        return None;
+    }
     if is_one(base, src[at]) {
-        return 1;
+        return Some(1);
     }
     if src[at] != b'_' {
-        return 0;
+        return None;
     }
     if src.len() - at < 2 {
-        return 0;
+        return None;
     }
-    if is_one(base, src[at + 1]) {
-        return 2;
-    }
-    0
+    is_one(base, src[at + 1]).then_some(2)
 }
 
-// Where digits end at a byte that is none: a `_` that the part ends with may still stand between two.
-fn digits_stop(src: &[u8], at: usize, end: bool) -> Place
-    requires { at < length src.now }
+// Where digits end with no digit ahead: a `_` that the part ends with may still stand between two.
+#[tactic(auto, using(crate::proofs::Runs::stops))]
+fn digits_stop(src: &[u8], at: usize, end: bool) -> Option<usize>
+    requires { at ≤ length src.now }
     ensures { result ≡ place_of (stopped end at (drop at src.now)) }
 {
+    if src.len() <= at {
+        return last_place(at, end);
+    }
     if src[at] != b'_' {
-        return Place::At(at);
+        return Some(at);
     }
     if src.len() - at < 2 {
         return last_place(at, end);
     }
-    Place::At(at)
+    Some(at)
 }
 
 // Where the digits after a digit end.
-fn digits_more_end(src: &[u8], at: usize, end: bool, base: Base) -> Place
+#[tactic(auto, using(crate::proofs::Runs::passing))]
+fn digits_more_end(src: &[u8], at: usize, end: bool, base: Base) -> Option<usize>
     requires { at ≤ length src.now }
     ensures { result ≡ place_of (digits_more base end at (drop at src.now)) }
 {
     let mut i = at;
-    while i < src.len() {
-        let width = digit_width(src, i, base);
-        if width == 0 {
-            return digits_stop(src, i, end);
-        }
+    while let Some(width) = digit_width(src, i, base) {
         i += width;
     }
-    last_place(i, end)
+    digits_stop(src, i, end)
 }
 
 // Where digits end: at the place itself where there are none.
-fn digits_end(src: &[u8], at: usize, end: bool, base: Base) -> Place
+#[tactic(auto, using(crate::proofs::Runs::digits_ends))]
+fn digits_end(src: &[u8], at: usize, end: bool, base: Base) -> Option<usize>
     requires { at ≤ length src.now }
     ensures { result ≡ place_of (digits base end at (drop at src.now)) }
 {
@@ -187,13 +181,14 @@ fn digits_end(src: &[u8], at: usize, end: bool, base: Base) -> Place
         return last_place(at, end);
     }
     if !is_one(base, src[at]) {
-        return Place::At(at);
+        return Some(at);
     }
     digits_more_end(src, at + 1, end, base)
 }
 
 // Where the exponent ends whose letter stands before the place.
-fn signed_end(src: &[u8], at: usize, end: bool) -> Place
+#[tactic(auto, using(crate::proofs::Runs::signed_ends))]
+fn signed_end(src: &[u8], at: usize, end: bool) -> Option<usize>
     requires { at ≤ length src.now }
     ensures { result ≡ place_of (signed end at (drop at src.now)) }
 {
@@ -207,17 +202,17 @@ fn signed_end(src: &[u8], at: usize, end: bool) -> Place
 }
 
 // Digits are all that is left of a number.
-fn closing_extent(literal: Literal, p: Place) -> Extent
-    ensures { result ≡ closing_extent literal p }
+#[tactic(auto, unfolding(crate::specs::Code::closing_extent))]
+fn closing_extent(literal: Literal, place: Option<usize>) -> Option<Extent>
+    ensures { result ≡ closing_extent literal place }
 {
-    match p {
-        Place::At(after) => Extent::Number { literal, after },
-        Place::Undecided => Extent::Undecided,
-    }
+    let after = place?;
+    Some(Extent { literal, after })
 }
 
 // A float whose exponent's letter stands before the place.
-fn power_extent(src: &[u8], at: usize, end: bool) -> Extent
+#[tactic(auto, using(crate::proofs::Extents::power_told))]
+fn power_extent(src: &[u8], at: usize, end: bool) -> Option<Extent>
     requires { at ≤ length src.now }
     ensures { result ≡ extent_of (power end at (drop at src.now)) }
 {
@@ -225,7 +220,8 @@ fn power_extent(src: &[u8], at: usize, end: bool) -> Extent
 }
 
 // A float after its point's digits: an exponent is taken, bare or not.
-fn exponent_extent(src: &[u8], at: usize, end: bool) -> Extent
+#[tactic(auto, using(crate::proofs::Extents::exponents))]
+fn exponent_extent(src: &[u8], at: usize, end: bool) -> Option<Extent>
     requires { at ≤ length src.now }
     ensures { result ≡ extent_of (exponent end at (drop at src.now)) }
 {
@@ -235,22 +231,21 @@ fn exponent_extent(src: &[u8], at: usize, end: bool) -> Extent
     if is_exponent(src[at]) {
         return power_extent(src, at + 1, end);
     }
-    closing_extent(Literal::Float, Place::At(at))
+    closing_extent(Literal::Float, Some(at))
 }
 
 // A float after its point.
-fn fraction_extent(src: &[u8], at: usize, end: bool) -> Extent
+#[tactic(auto, using(crate::proofs::Extents::fractions))]
+fn fraction_extent(src: &[u8], at: usize, end: bool) -> Option<Extent>
     requires { at ≤ length src.now }
     ensures { result ≡ extent_of (fraction end at (drop at src.now)) }
 {
-    let p = digits_end(src, at, end, Base::Decimal);
-    match p {
-        Place::At(i) => exponent_extent(src, i, end),
-        Place::Undecided => Extent::Undecided,
-    }
+    let after = digits_end(src, at, end, Base::Decimal)?;
+    exponent_extent(src, after, end)
 }
 
 // Whether a digit follows.
+#[tactic(auto, using(crate::proofs::Extents::aheads), unfolding(crate::specs::Numbers::digit_ahead))]
 fn digit_ahead(src: &[u8], at: usize, end: bool) -> Ahead
     requires { at ≤ length src.now }
     ensures { result ≡ digit_ahead end (drop at src.now) }
@@ -268,6 +263,7 @@ fn digit_ahead(src: &[u8], at: usize, end: bool) -> Ahead
 }
 
 // Whether a digit follows, or a sign and a digit.
+#[tactic(auto, using(crate::proofs::Extents::aheads))]
 fn power_ahead(src: &[u8], at: usize, end: bool) -> Ahead
     requires { at ≤ length src.now }
     ensures { result ≡ power_ahead end (drop at src.now) }
@@ -282,23 +278,21 @@ fn power_ahead(src: &[u8], at: usize, end: bool) -> Ahead
 }
 
 // An `e` after whole digits: it makes a float only where digits follow.
-fn marked_extent(src: &[u8], at: usize, end: bool) -> Extent
+#[tactic(auto, using(crate::proofs::Extents::marks))]
+fn marked_extent(src: &[u8], at: usize, end: bool) -> Option<Extent>
     requires { at < length src.now }
     ensures { result ≡ extent_of (marked end at (drop (at + 1) src.now)) }
 {
-    let ahead = power_ahead(src, at + 1, end);
-    match ahead {
+    match power_ahead(src, at + 1, end) {
         Ahead::Yes => power_extent(src, at + 1, end),
-        Ahead::No => Extent::Number {
-            literal: Literal::Integer,
-            after: at,
-        },
-        Ahead::Undecided => Extent::Undecided,
+        Ahead::No => closing_extent(Literal::Integer, Some(at)),
+        Ahead::Undecided => None,
     }
 }
 
 // A number after its whole digits.
-fn tail_extent(src: &[u8], at: usize, end: bool) -> Extent
+#[tactic(auto, using(crate::proofs::Extents::tails))]
+fn tail_extent(src: &[u8], at: usize, end: bool) -> Option<Extent>
     requires { at ≤ length src.now }
     ensures { result ≡ extent_of (tail end at (drop at src.now)) }
 {
@@ -311,23 +305,22 @@ fn tail_extent(src: &[u8], at: usize, end: bool) -> Extent
     if is_exponent(src[at]) {
         return marked_extent(src, at, end);
     }
-    closing_extent(Literal::Integer, Place::At(at))
+    closing_extent(Literal::Integer, Some(at))
 }
 
 // A decimal number.
-fn decimal_extent(src: &[u8], at: usize, end: bool) -> Extent
+#[tactic(auto, using(crate::proofs::Extents::decimals))]
+fn decimal_extent(src: &[u8], at: usize, end: bool) -> Option<Extent>
     requires { at ≤ length src.now }
     ensures { result ≡ extent_of (decimal end at (drop at src.now)) }
 {
-    let p = digits_end(src, at, end, Base::Decimal);
-    match p {
-        Place::At(i) => tail_extent(src, i, end),
-        Place::Undecided => Extent::Undecided,
-    }
+    let after = digits_end(src, at, end, Base::Decimal)?;
+    tail_extent(src, after, end)
 }
 
 // A number whose base its first two bytes name.
-fn prefixed_extent(src: &[u8], at: usize, end: bool, base: Base) -> Extent
+#[tactic(auto, using(crate::proofs::Extents::prefixed_told))]
+fn prefixed_extent(src: &[u8], at: usize, end: bool, base: Base) -> Option<Extent>
     requires { at + 2 ≤ length src.now }
     ensures { result ≡ extent_of (prefixed base end at (drop at src.now)) }
 {
@@ -335,20 +328,19 @@ fn prefixed_extent(src: &[u8], at: usize, end: bool, base: Base) -> Extent
 }
 
 // Where the number at a place ends, and its kind.
-fn number_extent(src: &[u8], at: usize, end: bool) -> Extent
+#[tactic(auto, using(crate::proofs::Extents::numbers))]
+fn number_extent(src: &[u8], at: usize, end: bool) -> Option<Extent>
     requires { at ≤ length src.now }
     ensures { result ≡ extent_of (number_at end at (drop at src.now)) }
 {
-    let base = base_at(src, at);
-    match base {
-        Base::Binary => prefixed_extent(src, at, end, Base::Binary),
-        Base::Octal => prefixed_extent(src, at, end, Base::Octal),
+    match base_at(src, at) {
         Base::Decimal => decimal_extent(src, at, end),
-        Base::Hex => prefixed_extent(src, at, end, Base::Hex),
+        base => prefixed_extent(src, at, end, base),
     }
 }
 
 // How many bytes the value of the number from `at` up to `after` has.
+#[tactic(auto, using(crate::proofs::Writing::value_of_length))]
 fn value_length(src: &[u8], at: usize, after: usize) -> usize
     requires at_le_after { at ≤ after }
     requires after_in_bounds { after ≤ length src.now }
@@ -357,23 +349,23 @@ fn value_length(src: &[u8], at: usize, after: usize) -> usize
     value::spelled_length(&src[at..after])
 }
 
-// The number at a place: its kind, the place after it, and the length of its value; or that more must come.
-pub fn scan_number(src: &[u8], at: usize, end: bool) -> Scanned
+// The number at a place: its kind, the place after it, and the length of its value; None: more must come.
+#[tactic(auto, using(crate::proofs::Writing::scans))]
+pub fn scan_number(src: &[u8], at: usize, end: bool) -> Option<Scanned>
     requires { at ≤ length src.now }
     ensures { result ≡ scanned (number_at end at (drop at src.now)) }
 {
-    let extent = number_extent(src, at, end);
-    match extent {
-        Extent::Number { literal, after } => Scanned::Number {
-            literal,
-            after,
-            len: value_length(src, at, after),
-        },
-        Extent::Undecided => Scanned::Wait,
-    }
+    let Extent { literal, after } = number_extent(src, at, end)?;
+    let len = value_length(src, at, after);
+    Some(Scanned {
+        literal,
+        after,
+        len,
+    })
 }
 
 // The value of the number from `at` up to `after`, written to the start of a part; no other place of it changes.
+#[tactic(auto, using(crate::proofs::Writing::values))]
 pub fn write_number(src: &[u8], at: usize, after: usize, dst: &mut [u8])
     requires at_le_after { at ≤ after }
     requires after_in_bounds { after ≤ length src.now }

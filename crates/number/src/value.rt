@@ -10,52 +10,39 @@ use crate::Base;
 pub fn spelled_length(part: &[u8]) -> usize
     ensures { result ≡ length (spelled Base.Decimal part.now) }
 {
-    let mut len: usize = 0;
-    let mut i = 0;
-    while i < part.len() {
-        if part[i] != b'_' {
-            len += 1;
-        }
-        i += 1;
-    }
-    len
+    part.iter().filter(|b| **b != b'_').count()
 }
 
 // `E` is stored as `e`.
+#[tactic(auto, using(crate::proofs::Writing::lowering))]
 fn lower_exponent(b: u8) -> u8
     ensures { result ≡ lower_exponent b }
 {
-    if b == b'E' {
-        return b'e';
-    }
-    b
+    if b == b'E' { b'e' } else { b }
 }
 
 // A byte of a literal as its value has it.
+#[tactic(auto, using(crate::proofs::Writing::spellings))]
 fn spelling(base: Base, b: u8) -> u8
     ensures { result ≡ spelling base b }
 {
     match base {
-        Base::Binary => lower_exponent(b),
-        Base::Octal => lower_exponent(b),
-        Base::Decimal => lower_exponent(b),
         Base::Hex => b,
+        _ => lower_exponent(b),
     }
 }
 
 // The value of a literal's text, written to the start of a part.
+#[tactic(auto, using(crate::proofs::Writing::storing))]
 pub fn write_spelled(part: &[u8], base: Base, dst: &mut [u8])
     requires { length (spelled base part.now) ≤ length dst.old }
     ensures { dst.new ≡ laid dst.old 0 (spelled base part.now) }
 {
-    let mut i = 0;
-    let mut j = 0;
-    while i < part.len() {
-        let b = part[i];
-        if b != b'_' {
-            dst[j] = spelling(base, b);
-            j += 1;
+    let mut len = 0;
+    for b in part {
+        if *b != b'_' {
+            dst[len] = spelling(base, *b);
+            len += 1;
         }
-        i += 1;
     }
 }

@@ -1,6 +1,7 @@
 -- A number asked for by numbers, on each way through the code. Assumes nothing.
 use Prim.Native.Nat.{ℕ, ◌≤◌, ◌<◌}
-use mathlib.Core.Path.{◌≡◌, refl, sym, ◌∙◌}
+use Rattle.std.specs.Prelude.{Option, Some, None}
+use mathlib.Core.Path.{◌≡◌, refl, sym, ap, ◌∙◌}
 use mathlib.Core.List.{List}
 use native.Mathlib.Omega.{arith}
 use lib.ListN.{length, drop, length-drop}
@@ -18,12 +19,13 @@ use Rattle.probe.specs.Literals.{literal_number, counted, asked_number, read_ref
 pub literal_arm : (literal arm : Literal) (r : ℕ) → literal ≡ arm → r ≡ literal_number arm → r ≡ literal_number literal
 literal_arm literal arm r e h = rw e h
 
-module _ (s : Scanned) where
-  pub counted_number : (literal : Literal) (after len kind : ℕ) → s ≡ Scanned.Number literal after len → kind ≡ literal_number literal → record { number = 0; stop = kind; place = 0; detail = 0; from = after; after = after; len = len } ≡ counted s
+module _ (s : Option Scanned) where
+  pub counted_number : (n : Scanned) (kind : ℕ) → s ≡ Some n → kind ≡ literal_number n.literal
+      → record { number = 0; stop = kind; place = 0; detail = 0; from = n.after; after = n.after; len = n.len } ≡ counted s
   unfolding counted
-  counted_number literal after len kind e f = rw (e, f)
+  counted_number n kind e f = rw (e, f)
 
-  pub counted_wait : (r : Probed) → s ≡ Scanned.Wait → r ≡ refusal 6 0 → r ≡ counted s
+  pub counted_wait : (r : Probed) → s ≡ None → r ≡ refusal 6 0 → r ≡ counted s
   unfolding counted
   counted_wait r e f = f ∙ rw e
 
@@ -39,7 +41,7 @@ module _ (src : List ℕ) (at end : ℕ) (r : Probed) where
     unfolding asked_number
     number_past h e = e ∙ rw (le-leb (length src) 65536 short, lt-leb at (length src) h)
 
-    pub number_done : (s : Scanned) → at ≤ length src → s ≡ scanned (number_at (announced end) at (drop at src)) → r ≡ counted s → r ≡ asked_number src at end
+    pub number_done : (s : Option Scanned) → at ≤ length src → s ≡ scanned (number_at (announced end) at (drop at src)) → r ≡ counted s → r ≡ asked_number src at end
     unfolding asked_number
     number_done s h f e = e ∙ rw (f, le-leb (length src) 65536 short, le-leb at (length src) h)
 
@@ -51,18 +53,26 @@ record Found (reading : Reading) (literal : Literal) (after len : ℕ) : Type 0 
   is : reading ≡ Reading.Number literal value after
   size : len ≡ length value
 
-found : (reading : Reading) (s : Scanned) (literal : Literal) (after len : ℕ) → s ≡ scanned reading → s ≡ Scanned.Number literal after len → Found reading literal after len
+abbrev some_or : Scanned → Option Scanned → Scanned
+some_or none (Some n) = n
+some_or none None = none
+
+found : (reading : Reading) (s : Option Scanned) (n : Scanned) → s ≡ scanned reading → s ≡ Some n
+    → Found reading n.literal n.after n.len
 unfolding scanned
-found (Reading.Number other value place) s literal after len e f = record { value = value; is = cc; size = cc }
-found Reading.Wait s literal after len e f =
-    let z : Scanned.Wait ≡ Scanned.Number literal after len = sym e ∙ f in
+found (Reading.Number literal value place) s n e f =
+    let same : record { literal = literal; after = place; len = length value } ≡ n = ap (some_or n) (sym e ∙ f) in
+    rw (← same) (record { value = value; is = refl; size = refl })
+found Reading.Wait s n e f =
+    let z : None ≡ Some n = sym e ∙ f in
     let y : ◌≡◌ {A = ℕ} 0 1 = cc in
     absurd (omega arith)
 
-waits : (reading : Reading) (s : Scanned) → s ≡ scanned reading → s ≡ Scanned.Wait → reading ≡ Reading.Wait
+waits : (reading : Reading) (s : Option Scanned) → s ≡ scanned reading → s ≡ None → reading ≡ Reading.Wait
 unfolding scanned
 waits (Reading.Number literal value after) s e f =
-    let z : Scanned.Number literal after (length value) ≡ Scanned.Wait = sym e ∙ f in
+    let told : Scanned = record { literal = literal; after = after; len = length value } in
+    let z : Some told ≡ None = sym e ∙ f in
     let y : ◌≡◌ {A = ℕ} 0 1 = cc in
     absurd (omega arith)
 waits Reading.Wait s e f = refl
@@ -78,27 +88,27 @@ module _ (src : List ℕ) (at end : ℕ) (part : List ℕ) where
     value_past h =
         record { answer = rw (le-leb (length src) 65536 short, lt-leb at (length src) h); holds = rw (le-leb (length src) 65536 short, lt-leb at (length src) h) }
 
-    module _ (start : at ≤ length src) (s : Scanned) (e : s ≡ scanned (number_at (announced end) at (drop at src))) where
-      pub value_wait : s ≡ Scanned.Wait → NumberValued src at end part 6 part
+    module _ (start : at ≤ length src) (s : Option Scanned) (e : s ≡ scanned (number_at (announced end) at (drop at src))) where
+      pub value_wait : s ≡ None → NumberValued src at end part 6 part
       unfolding number_refusal number_written read_refusal read_written
       value_wait f =
           let w = waits (number_at (announced end) at (drop at src)) s e f in
           record { answer = rw (le-leb (length src) 65536 short, le-leb at (length src) start, w); holds = rw (le-leb (length src) 65536 short, le-leb at (length src) start, w) }
 
-      module _ (literal : Literal) (after len : ℕ) (f : s ≡ Scanned.Number literal after len) where
-        number : Found (number_at (announced end) at (drop at src)) literal after len
-        number = found (number_at (announced end) at (drop at src)) s literal after len e f
+      module _ (n : Scanned) (f : s ≡ Some n) where
+        number : Found (number_at (announced end) at (drop at src)) n.literal n.after n.len
+        number = found (number_at (announced end) at (drop at src)) s n e f
 
-        same : number.value ≡ value_of src at after
-        same = number_at_value_of (announced end) src at literal number.value after number.is
+        same : number.value ≡ value_of src at n.after
+        same = number_at_value_of (announced end) src at n.literal number.value n.after number.is
 
-        pub value_low : at ≤ after
-        value_low = (number_at_inside (announced end) at (drop at src) literal number.value after number.is).0
+        pub value_low : at ≤ n.after
+        value_low = (number_at_inside (announced end) at (drop at src) n.literal number.value n.after number.is).0
 
-        pub value_high : after ≤ length src
-        value_high = omega (arith, length-drop at src, (number_at_inside (announced end) at (drop at src) literal number.value after number.is).1)
+        pub value_high : n.after ≤ length src
+        value_high = omega (arith, length-drop at src, (number_at_inside (announced end) at (drop at src) n.literal number.value n.after number.is).1)
 
-        pub value_full : length part < len → NumberValued src at end part 8 part
+        pub value_full : length part < n.len → NumberValued src at end part 8 part
         unfolding number_refusal number_written read_refusal read_written
         value_full h =
             let no = lt-leb (length number.value) (length part) (rw number.size at h) in
@@ -107,11 +117,11 @@ module _ (src : List ℕ) (at end : ℕ) (part : List ℕ) where
               holds = rw (le-leb (length src) 65536 short, le-leb at (length src) start, number.is, no);
             }
 
-        module _ (fits : len ≤ length part) where
-          pub value_room : length (value_of src at after) ≤ length part
+        module _ (fits : n.len ≤ length part) where
+          pub value_room : length (value_of src at n.after) ≤ length part
           value_room = rw (← same, ← number.size) fits
 
-          pub value_done : (out : List ℕ) → out ≡ laid part 0 (value_of src at after) → NumberValued src at end part 0 out
+          pub value_done : (out : List ℕ) → out ≡ laid part 0 (value_of src at n.after) → NumberValued src at end part 0 out
           unfolding number_refusal number_written read_refusal read_written
           value_done out w =
               let yes = le-leb (length number.value) (length part) (rw number.size at fits) in

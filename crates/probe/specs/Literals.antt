@@ -4,7 +4,7 @@
 --                                                  position past the end
 --   number_refusal, number_written, NumberValued   its value for a part: why it is not written, and what the part holds
 --                                                  then
-use Rattle.std.specs.Prelude.{ℕ, List, ◌≡◌, leb, length, drop, if◌then◌else◌}
+use Rattle.std.specs.Prelude.{ℕ, Option, Some, None, List, ◌≡◌, leb, length, drop, if◌then◌else◌}
 use Rattle.byte.specs.Words.{announced}
 use Rattle.byte.specs.Laid.{laid}
 use Rattle.byte.specs.Refusals.{wait, pool_full, out_of_place, too_large}
@@ -18,10 +18,18 @@ unfoldable pub literal_number : Literal → ℕ
 literal_number Literal.Integer = 0
 literal_number Literal.Float = 1
 
-unfoldable pub counted : Scanned → Probed
-counted (Scanned.Number literal after len) =
-    record { number = 0; stop = literal_number literal; place = 0; detail = 0; from = after; after = after; len = len }
-counted Scanned.Wait = refusal wait 0
+unfoldable pub counted : Option Scanned → Probed
+counted (Some s) =
+    record {
+      number = 0;
+      stop = literal_number s.literal;
+      place = 0;
+      detail = 0;
+      from = s.after;
+      after = s.after;
+      len = s.len;
+    }
+counted None = refusal wait 0
 
 unfoldable pub asked_number : List ℕ → ℕ → ℕ → Probed
 asked_number src at end =

@@ -218,28 +218,26 @@ fn literal_number(literal: Literal) -> u32
 }
 
 // A number without its bytes: its kind stands as `stop`.
-fn counted(s: number::Scanned) -> Probed
-    ensures { result ≡ counted s }
+#[tactic(auto, using(crate::proofs::Literals::countings))]
+fn counted(scan: Option<number::Scanned>) -> Probed
+    ensures { result ≡ counted scan }
 {
-    match s {
-        number::Scanned::Number {
-            literal,
-            after,
-            len,
-        } => Probed {
-            number: 0,
-            stop: literal_number(literal),
-            place: 0,
-            detail: 0,
-            from: after,
-            after,
-            len,
-        },
-        number::Scanned::Wait => refusal(byte::WAIT, 0),
+    let Some(found) = scan else {
+        return refusal(byte::WAIT, 0);
+    };
+    Probed {
+        number: 0,
+        stop: literal_number(found.literal),
+        place: 0,
+        detail: 0,
+        from: found.after,
+        after: found.after,
+        len: found.len,
     }
 }
 
 // A number from `at` on: its kind, the place after it and how long its value is.
+#[tactic(auto, using(crate::proofs::Literals::numbers_asked))]
 #[unsafe(no_mangle)]
 pub extern "C" fn puretakoi_probe_number(src: &[u8], at: usize, end: u32) -> Probed
     ensures { result ≡ asked_number src.now at end }
@@ -254,6 +252,7 @@ pub extern "C" fn puretakoi_probe_number(src: &[u8], at: usize, end: u32) -> Pro
 }
 
 // The value of the same number, at the start of a part. The answer is 0, or a refusal and nothing is written.
+#[tactic(auto, using(crate::proofs::Literals::number_values))]
 #[unsafe(no_mangle)]
 pub extern "C" fn puretakoi_probe_number_value(
     src: &[u8],
@@ -269,18 +268,12 @@ pub extern "C" fn puretakoi_probe_number_value(
     if src.len() < at {
         return byte::OUT_OF_PLACE;
     }
-    match number::scan_number(src, at, end != 0) {
-        number::Scanned::Number {
-            literal: _,
-            after,
-            len,
-        } => {
-            if len > value.len() {
-                return byte::POOL_FULL;
-            }
-            number::write_number(src, at, after, value);
-            0
-        }
-        number::Scanned::Wait => byte::WAIT,
+    let Some(found) = number::scan_number(src, at, end != 0) else {
+        return byte::WAIT;
+    };
+    if found.len > value.len() {
+        return byte::POOL_FULL;
     }
+    number::write_number(src, at, found.after, value);
+    0
 }

@@ -1,14 +1,12 @@
--- `number::value::spelled_length` meets its contract: the loop keeps `Counting`. Assumes nothing.
-use Prim.Native.Nat.{◌-◌}
-use Rattle.number.proofs.Writing.{counting}
+-- `number::value::spelled_length` meets its contract: what is kept is counted. Assumes nothing.
+use Rattle.std.proofs.Common.{rules, ◌≡◌, ℕ, not}
+use Rattle.std.specs.List.{count_by}
+use lib.Dec.{eqb}
+use mathlib.Core.Path.{◌∙◌}
+use Rattle.number.proofs.Writing.{spelled_count}
 use Rattle.number.proofs.value.spelled_length.Goals as goal
-use Rattle.number.proofs.value.spelled_length.Goals.{then-part-i-ne95, else-part-i-ne95}
-
-pub loop-i-init : goal.loop-i-init
-loop-i-init c = search counting
-
-pub loop-i-preserved : goal.loop-i-preserved
-loop-i-preserved c = elim c.if-part-i-ne95.branch [ then-part-i-ne95 w ↦ search counting | else-part-i-ne95 w ↦ search counting ]
 
 pub returns : goal.returns
-returns c = search counting
+returns c =
+    let counted : c.count.result ≡ count_by (λ (b : ℕ). not (eqb b 95)) c.args.part.now = search rules in
+    counted ∙ spelled_count c.args.part.now
