@@ -1,123 +1,117 @@
--- The closer of a text block on each way through the code: the label, the indentation, the line. Assumes nothing.
-use Prim.Native.Nat.{ℕ, suc, ◌+◌, ◌<◌, ◌≤◌}
-use mathlib.Core.Path.{◌≡◌, refl, sym, ◌∙◌}
-use mathlib.Core.Bool.{Bool, true, false, not}
-use mathlib.Core.List.{List, [], ◌∷◌}
-use native.Mathlib.Omega.{arith}
-use native.Mathlib.Numerals.{add-one}
-use native.Mathlib.Nat.{add-zero}
-use lib.ListN.{length, get_or, drop, drop_of_length-le}
+-- The closer of a text block: where the label stands, where the blanks before it end, and what a line is by the two.
+-- Assumes nothing.
+use Rattle.std.proofs.Common.{◌≡◌, ℕ, suc, ◌+◌, ◌-◌, Bool, true, false, ◌&&◌, List, [], ◌∷◌, length, take, drop, refl, sym, ◌∙◌, eqb, if◌then◌else◌, arith}
+use Rattle.std.proofs.Common.{add-zero}
+use Rattle.std.specs.List.{fold, prefix_len, starts_with}
+use Rattle.std.proofs.lemmas.List.{take_all, length-drop}
+use borrow.Author.Tests.{eqb-true, eq-eqb}
 use lib.Seq.{drop-drop}
-use borrow.Author.Tests.{eq-eqb, ne_eqb, not-true, not-false}
 use Rattle.byte.specs.Bytes.{is_blank}
 use Rattle.byte.specs.Words.{run}
 use Rattle.source.specs.Code.{RunEnd}
-use Rattle.byte.proofs.Tests.{choice, arms}
-use Rattle.byte.proofs.Words.{drop-one}
 use Rattle.unit.specs.declared.Indentation.{Indentation}
 use Rattle.unit.specs.declared.Match.{Match}
 use Rattle.unit.specs.declared.TextUnit.{TextUnit}
 use Rattle.unit.specs.Closers.{matched, indented, closer, judged, line}
 
--- k bytes of the label are there: the others decide
-pub record Matching (label src : List ℕ) (at k : ℕ) : Type 0 where
-  pub inside : k ≤ length label
-  pub same : matched label (drop at src) ≡ matched (drop k label) (drop (at + k) src)
+-- what is left from n on, as the code cuts it
+pub rest_from : (n : ℕ) (xs : List ℕ) → take (length xs - n) (drop n xs) ≡ drop n xs
+rest_from n xs = take_all _ _ (omega (arith, length-drop n xs))
 
-module _ (label src : List ℕ) (at : ℕ) where
-  pub matching_first : Matching label src at 0
-  matching_first = record { inside = omega arith; same = rw (add-zero at) }
+-- ---- the label
 
-  module _ (k : ℕ) (m : Matching label src at k) where
-    pub matching_whole : length label ≤ k → Match.Whole ≡ matched label (drop at src)
-    unfolding matched
-    matching_whole h = sym (m.same ∙ rw (drop_of_length-le label h))
+pub matched_whole : (label xs : List ℕ) → true ≡ starts_with eqb xs label → Match.Whole ≡ matched label xs
+unfolding matched
+matched_whole [] xs e = refl
+matched_whole (a ∷ label) [] e = cc
+matched_whole (a ∷ label) (b ∷ xs) e = go (eqb a b) (matched_whole label xs) e
+  where
+    go : (t : Bool) → (true ≡ starts_with eqb xs label → Match.Whole ≡ matched label xs)
+        → true ≡ (t && starts_with eqb xs label)
+        → Match.Whole ≡ (if t then matched label xs else Match.Other)
+    go true f h = f h
+    go false f h = cc
 
-    module _ (h : k < length label) where
-      pub matching_past : length src ≤ at + k → Match.Undecided ≡ matched label (drop at src)
-      unfolding matched
-      matching_past past = sym (m.same ∙ rw (drop-one label k h, drop_of_length-le src past))
+pub matched_cut : (label xs : List ℕ) → false ≡ starts_with eqb xs label → true ≡ starts_with eqb label xs
+    → Match.Undecided ≡ matched label xs
+unfolding matched
+matched_cut [] xs e f = cc
+matched_cut (a ∷ label) [] e f = refl
+matched_cut (a ∷ label) (b ∷ xs) e f = go (eqb b a) refl (matched_cut label xs) f
+  where
+    go : (t : Bool) → eqb b a ≡ t
+        → (false ≡ starts_with eqb xs label → true ≡ starts_with eqb label xs → Match.Undecided ≡ matched label xs)
+        → true ≡ (t && starts_with eqb label xs)
+        → Match.Undecided ≡ (if eqb a b then matched label xs else Match.Other)
+    go true k g h =
+        let same : eqb a b ≡ true = eq-eqb a b (sym (eqb-true b a k)) in
+        rw same (g (rw same at e) h)
+    go false k g h = cc
 
-      module _ (i : at + k < length src) where
-        pub matching_other : (get_or label k 0 ≡ get_or src (at + k) 0 → ⊥) → Match.Other ≡ matched label (drop at src)
-        unfolding matched
-        matching_other n = sym (m.same ∙ rw (drop-one label k h, drop-one src (at + k) i, ne_eqb (get_or label k 0) (get_or src (at + k) 0) n))
+pub matched_other : (label xs : List ℕ) → false ≡ starts_with eqb xs label → false ≡ starts_with eqb label xs
+    → Match.Other ≡ matched label xs
+unfolding matched
+matched_other [] xs e f = cc
+matched_other (a ∷ label) [] e f = cc
+matched_other (a ∷ label) (b ∷ xs) e f = go (eqb a b) refl (matched_other label xs) e
+  where
+    go : (t : Bool) → eqb a b ≡ t
+        → (false ≡ starts_with eqb xs label → false ≡ starts_with eqb label xs → Match.Other ≡ matched label xs)
+        → false ≡ (t && starts_with eqb xs label)
+        → Match.Other ≡ (if t then matched label xs else Match.Other)
+    go true k g h =
+        let same : eqb b a ≡ true = eq-eqb b a (sym (eqb-true a b k)) in
+        g h (rw same at f)
+    go false k g h = refl
 
-        pub matching_on : get_or label k 0 ≡ get_or src (at + k) 0 → Matching label src at (k + 1)
-        unfolding matched
-        matching_on e =
-            let place : at + k + 1 ≡ at + (k + 1) = omega arith in
-            record { inside = omega arith; same = m.same ∙ rw (drop-one label k h, drop-one src (at + k) i, eq-eqb (get_or label k 0) (get_or src (at + k) 0) e, place) }
+-- ---- the blanks, and the line
 
-pub ruleset matching = (matching_first, matching_whole, matching_past, matching_other, matching_on)
+pub run_prefix : (test : ℕ → Bool) (xs : List ℕ) → run test xs ≡ prefix_len test xs
+unfolding run
+run_prefix test [] = refl
+run_prefix test (b ∷ rest) = go (test b) (run_prefix test rest)
+  where
+    go : (t : Bool) → run test rest ≡ prefix_len test rest
+        → (if t then suc (run test rest) else 0) ≡ (if t then 1 + prefix_len test rest else 0)
+    go true e = omega arith
+    go false e = refl
 
--- an arm of a match on an indentation
-module _ (ind arm : Indentation) (e : ind ≡ arm) where
-  pub indented_arm : (b : ℕ) (r : Indentation) → r ≡ indented arm b → r ≡ indented ind b
-  indented_arm b r h = rw e h
+-- so many blanks are passed, and the label decides
+line_run : (label : List ℕ) (end : Bool) (n : ℕ) (ind : Indentation) (amount : ℕ) (xs : List ℕ)
+    → line label end n ind amount xs
+    ≡ judged (matched label (drop (run is_blank xs) xs)) end n
+    (closer (length label) (fold indented ind (take (run is_blank xs) xs)) (amount + run is_blank xs)
+    (suc n + (amount + run is_blank xs)))
+unfolding line run
+line_run label end n ind amount [] = rw (add-zero amount)
+line_run label end n ind amount (b ∷ rest) = go (is_blank b) (line_run label end n (indented ind b) (suc amount) rest)
+  where
+    go : (t : Bool)
+        → line label end n (indented ind b) (suc amount) rest
+        ≡ judged (matched label (drop (run is_blank rest) rest)) end n
+        (closer (length label) (fold indented (indented ind b) (take (run is_blank rest) rest))
+        (suc amount + run is_blank rest) (suc n + (suc amount + run is_blank rest)))
+        → (if t then line label end n (indented ind b) (suc amount) rest
+        else judged (matched label (b ∷ rest)) end n (closer (length label) ind amount (suc n + amount)))
+        ≡ judged (matched label (drop (if t then suc (run is_blank rest) else 0) (b ∷ rest))) end n
+        (closer (length label) (fold indented ind (take (if t then suc (run is_blank rest) else 0) (b ∷ rest)))
+        (amount + (if t then suc (run is_blank rest) else 0)) (suc n + (amount + (if t then suc (run is_blank rest) else 0))))
+    go true e =
+        let m : amount + suc (run is_blank rest) ≡ suc amount + run is_blank rest = omega arith in
+        rw m e
+    go false e = rw (add-zero amount)
 
-  pub closer_arm : (size amount n : ℕ) (r : TextUnit) → r ≡ closer size arm amount n → r ≡ closer size ind amount n
-  closer_arm size amount n r h = rw e h
-
--- and of one on how the label stands there
-pub judged_arm : (m arm : Match) (end : Bool) (n : ℕ) (u r : TextUnit) → m ≡ arm → r ≡ judged arm end n u
-    → r ≡ judged m end n u
-judged_arm m arm end n u r e h = rw e h
-
-pub ruleset indentations = (indented_arm, arms)
-
-pub ruleset judgements = (judged_arm, arms)
-
-pub label_judged : (m m' : Match) (u u' r : TextUnit) (end : Bool) (n : ℕ) → m ≡ m' → u ≡ u' → r ≡ judged m end n u → r ≡ judged m' end n u'
-label_judged m m' u u' r end n e f g = g ∙ rw (e, f)
-
--- so many blanks are passed: what is left decides
-pub record Indenting (label src : List ℕ) (end : Bool) (n : ℕ) (ind : Indentation) (amount i : ℕ) : Type 0 where
-  pub inside : i ≤ length src
-  pub place : i ≡ n + 1 + amount
-  pub same : line label end n Indentation.None 0 (drop (n + 1) src) ≡ line label end n ind amount (drop i src)
-
-module _ (label src : List ℕ) (end : Bool) (n : ℕ) where
-  pub indenting_first : n < length src → Indenting label src end n Indentation.None 0 (n + 1)
-  indenting_first h = record { inside = omega arith; place = omega arith; same = refl }
-
-  module _ (ind : Indentation) (amount i : ℕ) (l : Indenting label src end n ind amount i) where
-    pub indenting_start : n ≤ i
-    indenting_start = omega (arith, l.place)
-
-    closed : line label end n ind amount (drop i src) ≡ judged (matched label (drop i src)) end n (closer (length label) ind amount (suc n + amount)) → (r : TextUnit) → r ≡ judged (matched label (drop i src)) end n (closer (length label) ind amount i) → r ≡ line label end n Indentation.None 0 (drop (n + 1) src)
-    closed e r f =
-        let p : suc n + amount ≡ i = omega (arith, l.place) in
-        f ∙ sym (l.same ∙ e ∙ rw p)
-
-    pub indenting_end : (r : TextUnit) → length src ≤ i → r ≡ judged (matched label (drop i src)) end n (closer (length label) ind amount i) → r ≡ line label end n Indentation.None 0 (drop (n + 1) src)
-    unfolding line
-    indenting_end r h f = closed (rw (drop_of_length-le src h)) r f
-
-    module _ (h : i < length src) (flag : Bool) (b : flag ≡ is_blank (get_or src i 0)) where
-      pub indenting_label : (r : TextUnit) → not flag ≡ true → r ≡ judged (matched label (drop i src)) end n (closer (length label) ind amount i) → r ≡ line label end n Indentation.None 0 (drop (n + 1) src)
-      unfolding line
-      indenting_label r t f = closed (rw (drop-one src i h, ← b, not-true flag t)) r f
-
-      pub indenting_on : (more : Indentation) → not flag ≡ false → more ≡ indented ind (get_or src i 0) → Indenting label src end n more (amount + 1) (i + 1)
-      unfolding line
-      indenting_on more t e =
-          record { inside = omega arith; place = omega (arith, l.place); same = l.same ∙ rw (drop-one src i h, ← b, not-false flag t, e, add-one amount) }
-
-pub ruleset indenting = (indenting_first, indenting_start, indenting_end, indenting_label, indenting_on)
-
--- where the label does not stand after the blanks, the LF is of the text, whatever the blanks are
-line_other : (label : List ℕ) (end : Bool) (n : ℕ) (ind : Indentation) (amount : ℕ) (xs : List ℕ) → matched label (drop (run is_blank xs) xs) ≡ Match.Other → line label end n ind amount xs ≡ TextUnit.Byte 10 (n + 1)
-unfolding line run judged
-line_other label end n ind amount [] e = rw (e, add-one n)
-line_other label end n ind amount (b ∷ rest) e =
-    choice (λ (u : TextUnit). u ≡ TextUnit.Byte 10 (n + 1)) (is_blank b) (line label end n (indented ind b) (suc amount) rest) (judged (matched label (b ∷ rest)) end n (closer (length label) ind amount (suc n + amount)))
-    (λ t. line_other label end n (indented ind b) (suc amount) rest (rw t at e))
-    (λ t. let other : matched label (b ∷ rest) ≡ Match.Other = rw t at e in rw (other, add-one n))
-
--- the arms of `line_at`
-module _ (label src : List ℕ) (end : Bool) (n i : ℕ) where
-  pub line_text : (m : Match) → RunEnd is_blank src (n + 1) i → m ≡ matched label (drop i src) → m ≡ Match.Other → TextUnit.Byte 10 (n + 1) ≡ line label end n Indentation.None 0 (drop (n + 1) src)
-  line_text m r f e =
-      let place : drop (run is_blank (drop (n + 1) src)) (drop (n + 1) src) ≡ drop i src = drop-drop (run is_blank (drop (n + 1) src)) (n + 1) src ∙ rw r.place in
-      sym (line_other label end n Indentation.None 0 (drop (n + 1) src) (rw place (sym f ∙ e)))
+-- what a line is, by how the label stands at i, after the blanks
+pub line_told : (label src : List ℕ) (end : Bool) (n i : ℕ) (m : Match) (r : TextUnit)
+    → RunEnd is_blank src (n + 1) i
+    → m ≡ matched label (drop i src)
+    → r ≡ judged m end n
+    (closer (length label) (fold indented Indentation.None (take (i - (n + 1)) (drop (n + 1) src))) (i - (n + 1)) i)
+    → r ≡ line label end n Indentation.None 0 (drop (n + 1) src)
+line_told label src end n i m r e f g =
+    let k = run is_blank (drop (n + 1) src) in
+    let amount : i - (n + 1) ≡ k = omega (arith, e.place) in
+    let place : drop k (drop (n + 1) src) ≡ drop i src = drop-drop k (n + 1) src ∙ rw e.place in
+    let stop : suc n + (0 + k) ≡ i = omega (arith, e.place) in
+    let none : 0 + k ≡ k = omega arith in
+    g ∙ sym (line_run label end n Indentation.None 0 (drop (n + 1) src) ∙ rw (place, stop, none, amount, f))

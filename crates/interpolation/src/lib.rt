@@ -1,91 +1,77 @@
 // Interpolations in a text: `${`, `{` before a `$`, and variables with what follows their name.
 // Of the Rust: the arms of double_quote, shell_exec and heredoc that begin with `$` or `{`, and of the double-quoted literal.
-// A look never goes further than the one byte that decides; where that byte lies past the part, it is undecided.
+// A look never goes further than the one byte that decides; where that byte lies past the part, it is undecided: None.
 #![tactic(auto)]
 
-ghost use Rattle.std.specs.Prelude.{◌≡◌, ◌+◌, ◌≤◌, ◌<◌, length, drop};
+ghost use Rattle.std.specs.Prelude.{◌≡◌, ◌+◌, ◌≤◌, ◌<◌, ℕ, Option, length, drop, slice_index, unwrap_or};
 ghost use Rattle.unit.specs.declared.TextUnit.{TextUnit};
 ghost use Rattle.unit.specs.Escapes.{last};
-ghost use Rattle.unit.specs.Interpolations.{last_look, property, arrow, question_arrow, follow, variable, name, dollar, brace, found, find_dollar, find_brace};
+ghost use Rattle.unit.specs.Interpolations.{plain, property, arrow, question_arrow, follow, variable, name, dollar, brace, found, find_dollar, find_brace};
 
-use unit::{Follow, Look, Stop, TextUnit};
-
-// Nothing is left after a name.
-fn last_look(end: bool) -> Look
-    ensures { result ≡ last_look end }
-{
-    if end {
-        return Look::Settled(Follow::Other);
-    }
-    Look::Undecided
-}
+use unit::{Follow, Stop, TextUnit};
 
 // After an arrow: a property begins with a start byte.
-fn property_at(src: &[u8], n: usize, end: bool) -> Look
-    ensures { result ≡ property end (drop n src.now) }
+#[tactic(auto, unfolding(unit::specs::Interpolations::property))]
+fn property(rest: &[u8], end: bool) -> Option<Follow>
+    ensures { result ≡ property end rest.now }
 {
-    if src.len() <= n {
-        return last_look(end);
+    match rest {
+        [] => end.then_some(Follow::Other),
+        [b, ..] if byte::is_start(*b) => Some(Follow::Property),
+        [_, ..] => Some(Follow::Other),
     }
-    if byte::is_start(src[n]) {
-        return Look::Settled(Follow::Property);
-    }
-    Look::Settled(Follow::Other)
 }
 
 // After `-`.
-fn arrow_at(src: &[u8], n: usize, end: bool) -> Look
-    ensures { result ≡ arrow end (drop n src.now) }
+#[tactic(auto, unfolding(unit::specs::Interpolations::arrow))]
+fn arrow(rest: &[u8], end: bool) -> Option<Follow>
+    ensures { result ≡ arrow end rest.now }
 {
-    if src.len() <= n {
-        return last_look(end);
+    match rest {
+        [] => end.then_some(Follow::Other),
+        [b'>', after @ ..] => property(after, end),
+        [_, ..] => Some(Follow::Other),
     }
-    if src[n] == b'>' {
-        return property_at(src, n + 1, end);
-    }
-    Look::Settled(Follow::Other)
 }
 
 // After `?`.
-fn question_arrow_at(src: &[u8], n: usize, end: bool) -> Look
-    ensures { result ≡ question_arrow end (drop n src.now) }
+#[tactic(auto, unfolding(unit::specs::Interpolations::question_arrow))]
+fn question_arrow(rest: &[u8], end: bool) -> Option<Follow>
+    ensures { result ≡ question_arrow end rest.now }
 {
-    if src.len() <= n {
-        return last_look(end);
+    match rest {
+        [] => end.then_some(Follow::Other),
+        [b'-', after @ ..] => arrow(after, end),
+        [_, ..] => Some(Follow::Other),
     }
-    if src[n] == b'-' {
-        return arrow_at(src, n + 1, end);
-    }
-    Look::Settled(Follow::Other)
 }
 
-// What follows a variable's name that ends at n.
-fn follow_at(src: &[u8], n: usize, end: bool) -> Look
-    ensures { result ≡ follow end (drop n src.now) }
+// What follows a variable's name.
+#[tactic(auto, unfolding(unit::specs::Interpolations::follow))]
+fn follow(rest: &[u8], end: bool) -> Option<Follow>
+    ensures { result ≡ follow end rest.now }
 {
-    if src.len() <= n {
-        return last_look(end);
-    }
-    let b = src[n];
-    match b {
-        b'[' => Look::Settled(Follow::Offset),
-        b'-' => arrow_at(src, n + 1, end),
-        b'?' => question_arrow_at(src, n + 1, end),
-        _ => Look::Settled(Follow::Other),
+    match rest {
+        [] => end.then_some(Follow::Other),
+        [b'[', ..] => Some(Follow::Offset),
+        [b'-', after @ ..] => arrow(after, end),
+        [b'?', after @ ..] => question_arrow(after, end),
+        [_, ..] => Some(Follow::Other),
     }
 }
 
 // A variable from its `$` to n.
-fn variable_of(from: usize, n: usize, look: Look) -> TextUnit
+#[tactic(auto, unfolding(unit::specs::Interpolations::variable))]
+fn variable_of(from: usize, n: usize, look: Option<Follow>) -> TextUnit
     ensures { result ≡ variable from n look }
 {
     match look {
-        Look::Settled(f) => TextUnit::Ends {
+        Some(f) => TextUnit::Ends {
             stop: Stop::Variable(f),
             from,
             after: n,
         },
-        Look::Undecided => TextUnit::Undecided,
+        None => TextUnit::Undecided,
     }
 }
 
@@ -95,18 +81,30 @@ fn name_at(src: &[u8], from: usize, at: usize, end: bool) -> TextUnit
     ensures { result ≡ name end from at (drop at src.now) }
 {
     let n = source::run_end(src, at);
-    let look = follow_at(src, n, end);
+    let look = follow(&src[n..], end);
     variable_of(from, n, look)
 }
 
-// A sign that stands for itself where nothing is left.
-fn last_sign(end: bool, value: u8, after: usize) -> TextUnit
-    ensures { result ≡ last end (TextUnit.Byte value after) }
+// The sign at n, by the byte after it: what the two begin, or the sign itself.
+fn sign_at<F: FnOnce(u8) -> Option<TextUnit>>(
+    src: &[u8],
+    n: usize,
+    sign: u8,
+    end: bool,
+    begun: F,
+) -> TextUnit
+    requires here { n < length src.now }
+    requires callable { n + 1 < length src.now → F.pre begun (slice_index src.now (n + 1)) }
+    ensures last { length src.now ≤ n + 1 → result ≡ last end (plain sign n) }
+    ensures next { n + 1 < length src.now → (r : Option TextUnit) × F.post begun (slice_index src.now (n + 1)) r × (result ≡ unwrap_or r (plain sign n)) }
 {
-    if end {
-        return TextUnit::Byte { value, after };
+    let after = n + 1;
+    let itself = TextUnit::Byte { value: sign, after };
+    match src.get(after) {
+        Some(b) => begun(*b).unwrap_or(itself),
+        None if end => itself,
+        None => TextUnit::Undecided,
     }
-    TextUnit::Undecided
 }
 
 // The `$` at n: `${`, a variable, or the sign itself.
@@ -114,25 +112,16 @@ pub fn dollar_at(src: &[u8], n: usize, end: bool) -> TextUnit
     requires { n < length src.now }
     ensures { result ≡ dollar end n (drop (n + 1) src.now) }
 {
-    let i = n + 1;
-    if src.len() <= i {
-        return last_sign(end, b'$', i);
-    }
-    let b = src[i];
-    if b == b'{' {
-        return TextUnit::Ends {
+    let after = n + 2;
+    sign_at(src, n, b'$', end, |b| match b {
+        b'{' => Some(TextUnit::Ends {
             stop: Stop::DollarLeftBrace,
             from: n,
-            after: i + 1,
-        };
-    }
-    if byte::is_start(b) {
-        return name_at(src, n, i + 1, end);
-    }
-    TextUnit::Byte {
-        value: b'$',
-        after: i,
-    }
+            after,
+        }),
+        _ if byte::is_start(b) => Some(name_at(src, n, after, end)),
+        _ => None,
+    })
 }
 
 // The `{` at n: before a `$`, or the sign itself.
@@ -140,21 +129,12 @@ pub fn brace_at(src: &[u8], n: usize, end: bool) -> TextUnit
     requires { n < length src.now }
     ensures { result ≡ brace end n (drop (n + 1) src.now) }
 {
-    let i = n + 1;
-    if src.len() <= i {
-        return last_sign(end, b'{', i);
-    }
-    if src[i] == b'$' {
-        return TextUnit::Ends {
-            stop: Stop::LeftBrace,
-            from: n,
-            after: i,
-        };
-    }
-    TextUnit::Byte {
-        value: b'{',
-        after: i,
-    }
+    let taken = TextUnit::Ends {
+        stop: Stop::LeftBrace,
+        from: n,
+        after: n + 1,
+    };
+    sign_at(src, n, b'{', end, |b| (b == b'$').then_some(taken))
 }
 
 // An interpolation that a literal leaves to `double_quote`.
@@ -173,21 +153,8 @@ pub fn find_dollar(src: &[u8], n: usize, end: bool) -> TextUnit
     requires { n < length src.now }
     ensures { result ≡ find_dollar end n (drop (n + 1) src.now) }
 {
-    let i = n + 1;
-    if src.len() <= i {
-        return last_sign(end, b'$', i);
-    }
-    let next = src[i];
-    if next == b'{' {
-        return found_at(n);
-    }
-    if byte::is_start(next) {
-        return found_at(n);
-    }
-    TextUnit::Byte {
-        value: b'$',
-        after: i,
-    }
+    let begun = |b: u8| (b == b'{' || byte::is_start(b)).then_some(found_at(n));
+    sign_at(src, n, b'$', end, begun)
 }
 
 // The `{` at n of a literal.
@@ -195,16 +162,6 @@ pub fn find_brace(src: &[u8], n: usize, end: bool) -> TextUnit
     requires { n < length src.now }
     ensures { result ≡ find_brace end n (drop (n + 1) src.now) }
 {
-    let i = n + 1;
-    if src.len() <= i {
-        return last_sign(end, b'{', i);
-    }
-    let next = src[i];
-    if next == b'$' {
-        return found_at(n);
-    }
-    TextUnit::Byte {
-        value: b'{',
-        after: i,
-    }
+    let begun = |b: u8| (b == b'$').then_some(found_at(n));
+    sign_at(src, n, b'{', end, begun)
 }

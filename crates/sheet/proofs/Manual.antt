@@ -25,7 +25,7 @@ use Rattle.sheet.proofs.Lines.{total, total_lines}
 use Rattle.sheet.proofs.Inside.{stripped_indent}
 use Rattle.sheet.proofs.ManualLines.{whole, SameLines, same_lines}
 use Rattle.sheet.proofs.ManualLines.{kind_of_line, closes_last, closes_broken, run_passes, pure_kind, pure_blanks}
-use Rattle.sheet.proofs.ManualBodies.{SameBody, none, broken, body_snoc, SameText, same_text}
+use Rattle.sheet.proofs.ManualBodies.{SameBody, none, body_snoc, SameText, same_text}
 
 -- ---- the block
 

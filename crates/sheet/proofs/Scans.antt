@@ -13,10 +13,11 @@ use Rattle.unit.specs.declared.Stop.{Stop}
 use Rattle.text.specs.declared.Scanned.{Scanned}
 use Rattle.text.specs.Code.{measured}
 use Rattle.sheet.specs.declared.Found.{Found}
-use Rattle.sheet.specs.declared.Size.{Size}
+use Rattle.std.specs.Prelude.{Some, None, Result, Ok, Err}
 use Rattle.sheet.specs.Bodies.{Text, Kept, Stray, lines, body_text, unbroken}
 use Rattle.sheet.specs.Sheets.{Block, Closed, Missing, Open, block, filled, stripped, answered, sheet_at}
-use Rattle.sheet.specs.Code.{found, size_of, break_of, Body, blank_of, indent_of, Closing}
+use Rattle.sheet.specs.Code.{found, size_of, break_of, Body, one_blank, blank_of, indent_of, Closing}
+use Rattle.closer.proofs.Lines.{rest_from}
 use Rattle.unit.proofs.Stays.{clash}
 use Rattle.sheet.proofs.Lines.{total, total_lines, lines_lined, flat, flat_lines}
 use Rattle.sheet.proofs.Inside.{ClosedStands, BlockStands, block_stands, stripped_mixed, stripped_indent, lines_before}
@@ -25,14 +26,26 @@ use Rattle.sheet.proofs.Parts.{drop-take}
 
 -- ---- the closing line's indentation
 
-pub blank_of_arm : (stop arm : Stop) (r : ℕ) → stop ≡ arm → r ≡ blank_of arm → r ≡ blank_of stop
-blank_of_arm stop arm r e h = rw e h
+blank_none : (ind : Indentation) (amount : ℕ) → None ≡ one_blank ind → blank_of (Stop.Label ind amount) ≡ 0
+unfolding one_blank blank_of
+blank_none Indentation.None amount e = cc
+blank_none Indentation.Space amount e = cc
+blank_none Indentation.Tab amount e = cc
+blank_none Indentation.Mixed amount e = refl
 
-pub blank_of_label : (stop : Stop) (ind arm : Indentation) (amount r : ℕ) → stop ≡ Stop.Label ind amount → ind ≡ arm
-    → r ≡ blank_of (Stop.Label arm amount) → r ≡ blank_of stop
-blank_of_label stop ind arm amount r e f h = rw (e, f) h
+blank_some : (ind : Indentation) (amount blank : ℕ) → Some blank ≡ one_blank ind → blank ≡ blank_of (Stop.Label ind amount)
+unfolding one_blank blank_of
+blank_some Indentation.None amount blank e = cc
+blank_some Indentation.Space amount blank e = cc
+blank_some Indentation.Tab amount blank e = cc
+blank_some Indentation.Mixed amount blank e = cc
 
-pub ruleset blanks = (blank_of_arm, blank_of_label)
+blank_other : (ind : Indentation) (blank : ℕ) → Some blank ≡ one_blank ind → blank ≡ 0 → ⊥
+unfolding one_blank
+blank_other Indentation.None blank e z = let y : blank ≡ 32 = cc in omega arith
+blank_other Indentation.Space blank e z = let y : blank ≡ 32 = cc in omega arith
+blank_other Indentation.Tab blank e z = let y : blank ≡ 9 = cc in omega arith
+blank_other Indentation.Mixed blank e z = cc
 
 blank_of_blank : (ind : Indentation) (amount : ℕ) → (blank_of (Stop.Label ind amount) ≡ 0 → ⊥)
     → is_blank (blank_of (Stop.Label ind amount)) ≡ true
@@ -50,58 +63,64 @@ record OfSize (t : Text) (len : ℕ) : Type 0 where
   same : t ≡ Kept text
   size : length text ≡ len
 
-of_size : (t : Text) (len : ℕ) → Size.Kept len ≡ size_of t → OfSize t len
+of_size : (t : Text) (len : ℕ) → Ok len ≡ size_of t → OfSize t len
 unfolding size_of
 of_size (Kept text) len e = record { text = text; same = refl; size = let z : length text ≡ len = cc in z }
 of_size (Stray p) len e = let z : ◌≡◌ {A = ℕ} 0 1 = cc in clash z
 
-of_stray : (t : Text) (p : ℕ) → Size.Stray p ≡ size_of t → t ≡ Stray p
+of_stray : (t : Text) (p : ℕ) → Err p ≡ size_of t → t ≡ Stray p
 unfolding size_of
 of_stray (Kept text) p e = let z : ◌≡◌ {A = ℕ} 0 1 = cc in clash z
 of_stray (Stray q) p e = let z : q ≡ p = cc in ap Stray z
 
 module _ (body : List ℕ) (at : ℕ) (ind : Indentation) (amount size : ℕ) (b : Body body at) (c : Closing body ind amount size)
-    (blank : ℕ) (k : blank ≡ blank_of (Stop.Label ind amount)) where
-  pub sheet_mixed : blank ≡ 0
-      → Scanned.Refused 4 (length body + amount) ≡ measured (stripped size at (lines (drop at body)) ind amount (length body + amount))
-  unfolding measured
-  sheet_mixed t = rw (stripped_mixed size at (lines (drop at body)) amount (length body + amount) ind (sym k ∙ t))
+  where
+    pub sheet_mixed : None ≡ one_blank ind
+        → Scanned.Refused 4 (length body + amount) ≡ measured (stripped size at (lines (drop at body)) ind amount (length body + amount))
+    unfolding measured
+    sheet_mixed t = rw (stripped_mixed size at (lines (drop at body)) amount (length body + amount) ind (blank_none ind amount t))
 
-  module _ (t : blank ≡ 0 → ⊥) (s : Size)
-      (e : s ≡ size_of (body_text (record { blank = blank; width = amount }) at (lines (drop at body)))) where
-    strip : stripped size at (lines (drop at body)) ind amount (length body + amount)
-        ≡ filled (body_text (indent_of ind amount) at (lines (drop at body))) ind amount (length body + amount)
-        (length body + amount + size)
-    strip = stripped_indent size at (lines (drop at body)) amount (length body + amount) ind c.bare (λ z. t (k ∙ z))
+    module _ (blank : ℕ) (q : Some blank ≡ one_blank ind) (s : Result ℕ ℕ)
+        (e : s ≡ size_of (body_text (record { blank = blank; width = amount }) at (lines (drop at body)))) where
+      k : blank ≡ blank_of (Stop.Label ind amount)
+      k = blank_some ind amount blank q
 
-    measure : s ≡ size_of (body_text (indent_of ind amount) at (lines (drop at body)))
-    measure = e ∙ rw k
+      t : blank ≡ 0 → ⊥
+      t = blank_other ind blank q
 
-    pub sheet_stray : (place : ℕ) → s ≡ Size.Stray place
-        → Scanned.Refused 13 place ≡ measured (stripped size at (lines (drop at body)) ind amount (length body + amount))
-    unfolding filled measured
-    sheet_stray place z = rw (strip, of_stray (body_text (indent_of ind amount) at (lines (drop at body))) place (sym z ∙ measure))
+      strip : stripped size at (lines (drop at body)) ind amount (length body + amount)
+          ≡ filled (body_text (indent_of ind amount) at (lines (drop at body))) ind amount (length body + amount)
+          (length body + amount + size)
+      strip = stripped_indent size at (lines (drop at body)) amount (length body + amount) ind c.bare (λ z. t (k ∙ z))
 
-    module _ (len cut : ℕ) (z : s ≡ Size.Kept len) (d : cut ≡ break_of false (drop at body)) where
-      left : OfSize (body_text (indent_of ind amount) at (lines (drop at body))) len
-      left = of_size _ len (sym z ∙ measure)
+      measure : s ≡ size_of (body_text (indent_of ind amount) at (lines (drop at body)))
+      measure = e ∙ rw k
 
-      value : length (unbroken left.text) + cut ≡ len
-      value =
-          let same : break_of false left.text ≡ break_of false (flat (lines (drop at body))) =
-          body_break (indent_of ind amount) (blank_of_blank ind amount (λ z. t (k ∙ z))) at (lines (drop at body)) left.text b.whole left.same in
-          let n : cut ≡ break_of false left.text = d ∙ sym (same ∙ rw (flat_lines (drop at body))) in
-          omega (arith, n, unbroken_break left.text, left.size)
-
-      pub sheet_room : cut ≤ len
-      sheet_room = omega (arith, value)
-
-      pub sheet_kept : Scanned.Text (len - cut) (Stop.Label ind amount) (length body + amount) (length body + amount + size)
-          ≡ measured (stripped size at (lines (drop at body)) ind amount (length body + amount))
+      pub sheet_stray : (place : ℕ) → s ≡ Err place
+          → Scanned.Refused 13 place ≡ measured (stripped size at (lines (drop at body)) ind amount (length body + amount))
       unfolding filled measured
-      sheet_kept =
-          let n : len - cut ≡ length (unbroken left.text) = omega (arith, value) in
-          rw (strip, left.same, n)
+      sheet_stray place z = rw (strip, of_stray (body_text (indent_of ind amount) at (lines (drop at body))) place (sym z ∙ measure))
+
+      module _ (len cut : ℕ) (z : s ≡ Ok len) (d : cut ≡ break_of false (take (length body - at) (drop at body))) where
+        left : OfSize (body_text (indent_of ind amount) at (lines (drop at body))) len
+        left = of_size _ len (sym z ∙ measure)
+
+        value : length (unbroken left.text) + cut ≡ len
+        value =
+            let same : break_of false left.text ≡ break_of false (flat (lines (drop at body))) =
+            body_break (indent_of ind amount) (blank_of_blank ind amount (λ z. t (k ∙ z))) at (lines (drop at body)) left.text b.whole left.same in
+            let n : cut ≡ break_of false left.text = rw (rest_from at body) at d ∙ sym (same ∙ rw (flat_lines (drop at body))) in
+            omega (arith, n, unbroken_break left.text, left.size)
+
+        pub sheet_room : cut ≤ len
+        sheet_room = omega (arith, value)
+
+        pub sheet_kept : Scanned.Text (len - cut) (Stop.Label ind amount) (length body + amount) (length body + amount + size)
+            ≡ measured (stripped size at (lines (drop at body)) ind amount (length body + amount))
+        unfolding filled measured
+        sheet_kept =
+            let n : len - cut ≡ length (unbroken left.text) = omega (arith, value) in
+            rw (strip, left.same, n)
 
 pub ruleset sheets = (sheet_mixed, sheet_stray, sheet_room, sheet_kept)
 

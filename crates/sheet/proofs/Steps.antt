@@ -1,14 +1,15 @@
 -- The code of a line on each way through: where it ends, what it is to the block, what comes off it, its break. Assumes nothing.
 use Rattle.std.specs.Prelude.{if◌then◌else◌}
 use Prim.Native.Nat.{ℕ, zero, suc, ◌+◌, ◌-◌, ◌<◌, ◌≤◌, min}
-use mathlib.Core.Path.{◌≡◌, refl, sym, ap, ◌∙◌}
+use mathlib.Core.Path.{◌≡◌, refl, sym, ◌∙◌}
 use mathlib.Core.Bool.{Bool, true, false, not}
 use mathlib.Core.List.{List, [], ◌∷◌}
 use native.Mathlib.Omega.{arith}
 use lib.Dec.{eqb}
 use lib.ListN.{length, get_or, take, drop, length-drop, drop_of_length-le}
-use lib.Seq.{get_or-drop, drop-drop}
+use lib.Seq.{drop-drop}
 use borrow.Author.Tests.{eq-eqb, ne_eqb, le-leb, lt-leb}
+use Rattle.std.specs.List.{prefix_len, fold}
 use Rattle.byte.specs.Words.{◌is◌, run}
 use Rattle.byte.specs.Bytes.{is_blank, is_identifier, is_no_break}
 use Rattle.source.specs.Code.{RunEnd}
@@ -18,7 +19,7 @@ use Rattle.unit.specs.declared.Match.{Match}
 use Rattle.unit.specs.Closers.{matched, indented}
 use Rattle.unit.proofs.Inside.{matched_length}
 use Rattle.sheet.specs.declared.Line.{Line}
-use Rattle.sheet.specs.Bodies.{Indent, is_break, is_over}
+use Rattle.sheet.specs.Bodies.{Indent, is_over}
 use Rattle.sheet.specs.Sheets.{closing_label, judged_line, line_kind}
 use Rattle.sheet.specs.Code.{line_length, LineEnd, indentation, offset_of, is_stray, break_of}
 use Rattle.sheet.proofs.Closings.{bounded, closing_label_bounded}
@@ -88,6 +89,11 @@ module _ (label line : List ℕ) (at : ℕ) (end : Bool) (m : Match) (e : m ≡ 
 
 pub ruleset labels = (label_inside, label_whole, label_other, label_undecided)
 
+indentation_fold : (ind : Indentation) (xs : List ℕ) → fold indented ind xs ≡ indentation ind xs
+unfolding indentation
+indentation_fold ind [] = refl
+indentation_fold ind (b ∷ rest) = indentation_fold (indented ind b) rest
+
 -- after its blanks a line is what the label makes of it
 pub line_kind_run : (label : List ℕ) (end : Bool) (ind : Indentation) (amount : ℕ) (xs : List ℕ)
     → line_kind label end ind amount xs
@@ -123,10 +129,10 @@ module _ (label line : List ℕ) (end : Bool) (n : ℕ) (r : RunEnd is_blank lin
       let y : 0 + n ≡ n = omega arith in
       line_kind_run label end Indentation.None 0 line ∙ rw (z, e, y)
 
-  pub kind_closes : (ind : Indentation) → m ≡ Match.Whole → ind ≡ indentation Indentation.None (take n line)
+  pub kind_closes : (ind : Indentation) → m ≡ Match.Whole → ind ≡ fold indented Indentation.None (take n line)
       → Line.Closes ind n ≡ line_kind label end Indentation.None 0 line
   unfolding judged_line
-  kind_closes ind w i = sym (kind ∙ rw (w, ← i))
+  kind_closes ind w i = sym (kind ∙ rw (w, i, indentation_fold Indentation.None (take n line)))
 
   pub kind_other : m ≡ Match.Other → Line.Body ≡ line_kind label end Indentation.None 0 line
   unfolding judged_line
@@ -142,117 +148,37 @@ module _ (label line : List ℕ) (end : Bool) (n : ℕ) (r : RunEnd is_blank lin
 
 pub ruleset kinds = (kind_closes, kind_other, kind_end, kind_more)
 
--- the blanks before i have this kind
-pub record Indenting (line : List ℕ) (n : ℕ) (ind : Indentation) (i : ℕ) : Type 0 where
-  pub inside : i ≤ n
-  pub same : indentation Indentation.None (take n line) ≡ indentation ind (take (n - i) (drop i line))
-
-module _ (line : List ℕ) (n : ℕ) (fits : n ≤ length line) where
-  pub indenting_first : Indenting line n Indentation.None 0
-  indenting_first =
-      let z : n ≡ n - 0 = omega arith in
-      record { inside = omega arith; same = ap (λ (k : ℕ). indentation Indentation.None (take k line)) z }
-
-  module _ (ind : Indentation) (i : ℕ) (p : Indenting line n ind i) where
-    pub indenting_end : n ≤ i → ind ≡ indentation Indentation.None (take n line)
-    unfolding indentation
-    indenting_end h =
-        let z : n - i ≡ 0 = omega arith in
-        sym (p.same ∙ rw z)
-
-    pub indenting_on : (more : Indentation) → i < n → more ≡ indented ind (get_or line i 0) → Indenting line n more (i + 1)
-    unfolding indentation
-    indenting_on more h e =
-        let z : n - i ≡ suc (n - (i + 1)) = omega arith in
-        let k : i < length line = omega arith in
-        record { inside = omega arith; same = p.same ∙ rw (z, drop-one line i k, e) }
-
-pub ruleset indenting = (indenting_first, indenting_end, indenting_on)
-
--- i bytes of indentation come off
-pub record Counting (blank width : ℕ) (line : List ℕ) (i : ℕ) : Type 0 where
-  pub inside : i ≤ length line
-  pub within : i ≤ width
-  pub same : run (eqb blank) line ≡ i + run (eqb blank) (drop i line)
-
-module _ (blank width : ℕ) (line : List ℕ) where
-  pub counting_first : Counting blank width line 0
-  counting_first = record { inside = omega arith; within = omega arith; same = omega arith }
-
-  module _ (i : ℕ) (p : Counting blank width line i) where
-    pub counting_full : width ≤ i → i ≡ offset_of (record { blank = blank; width = width }) line
-    unfolding offset_of
-    counting_full h = omega (arith, p.within, p.same)
-
-    pub counting_end : i < width → length line ≤ i → i ≡ offset_of (record { blank = blank; width = width }) line
-    unfolding offset_of run
-    counting_end w h =
-        let e : run (eqb blank) line ≡ i = p.same ∙ rw (drop_of_length-le line h) (omega arith) in
-        omega arith
-
-    module _ (w : i < width) (h : i < length line) where
-      pub counting_stop : (get_or line i 0 ≡ blank → ⊥) → i ≡ offset_of (record { blank = blank; width = width }) line
-      unfolding offset_of run
-      counting_stop n =
-          let t : eqb blank (get_or line i 0) ≡ false = ne_eqb blank (get_or line i 0) (λ (z : blank ≡ get_or line i 0). n (sym z)) in
-          let e : run (eqb blank) line ≡ i = p.same ∙ rw (drop-one line i h, t) (omega arith) in
-          omega arith
-
-      pub counting_on : get_or line i 0 ≡ blank → Counting blank width line (i + 1)
-      unfolding run
-      counting_on e =
-          let t : eqb blank (get_or line i 0) ≡ true = eq-eqb blank (get_or line i 0) (sym e) in
-          record { inside = omega arith; within = omega arith; same = p.same ∙ rw (drop-one line i h, t) (omega arith) }
-
-pub ruleset counting = (counting_first, counting_full, counting_end, counting_stop, counting_on)
+-- what comes off a line, as the code counts it
+pub run_prefix : (test : ℕ → Bool) (width : ℕ) (xs : List ℕ) → prefix_len test (take width xs) ≡ min width (run test xs)
+unfolding run
+run_prefix test zero xs = omega arith
+run_prefix test (suc width) [] = omega arith
+run_prefix test (suc width) (b ∷ rest) = go (test b) (run_prefix test width rest)
+  where
+    go : (t : Bool) → prefix_len test (take width rest) ≡ min width (run test rest)
+        → (if t then 1 + prefix_len test (take width rest) else 0) ≡ min (suc width) (if t then suc (run test rest) else 0)
+    go true e = omega arith
+    go false e = omega arith
 
 -- whether the byte after what comes off a line is stray
 pub offset-length : (ind : Indent) (line : List ℕ) → offset_of ind line ≤ length line
 unfolding offset_of
 offset-length ind line = omega (arith, run_length (eqb ind.blank) line)
 
-module _ (blank width off : ℕ) (line : List ℕ) (e : off ≡ offset_of (record { blank = blank; width = width }) line) where
-  pub stray_none : width ≤ off → false ≡ is_stray (record { blank = blank; width = width }) line
+module _ (ind : Indent) (off : ℕ) (line : List ℕ) (e : off ≡ offset_of ind line) where
+  pub stray_none : ind.width ≤ off → false ≡ is_stray ind line
   unfolding is_stray
-  stray_none h = rw (← e, le-leb width off h)
+  stray_none h = rw (← e, le-leb ind.width off h)
 
-  pub stray_over : (over : Bool) → off < width → over ≡ is_over (drop off line)
-      → not over ≡ is_stray (record { blank = blank; width = width }) line
+  pub stray_over : (over : Bool) → off < ind.width → over ≡ is_over (drop off line)
+      → not over ≡ is_stray ind line
   unfolding is_stray
-  stray_over over h f = rw (← e, lt-leb width off h, ← f)
+  stray_over over h f = rw (← e, lt-leb ind.width off h, ← f)
 
   pub stray_place : off ≤ length line
-  stray_place = rw e (offset-length (record { blank = blank; width = width }) line)
+  stray_place = rw e (offset-length ind line)
 
 pub ruleset strays = (stray_none, stray_over, stray_place)
-
-module _ (line : List ℕ) (at : ℕ) where
-  pub over_past : length line ≤ at → true ≡ is_over (drop at line)
-  unfolding is_over
-  over_past h = rw (drop_of_length-le line h)
-
-  module _ (h : at < length line) where
-    pub over_lf : get_or line at 0 ≡ 10 → true ≡ is_over (drop at line)
-    unfolding is_over
-    over_lf e = rw (drop-one line at h, eq-eqb (get_or line at 0) 10 e)
-
-    module _ (n : get_or line at 0 ≡ 10 → ⊥) where
-      pub over_other : (get_or line at 0 ≡ 13 → ⊥) → false ≡ is_over (drop at line)
-      unfolding is_over
-      over_other c = rw (drop-one line at h, ne_eqb (get_or line at 0) 10 n, ne_eqb (get_or line at 0) 13 c)
-
-      module _ (c : get_or line at 0 ≡ 13) where
-        pub over_cr_past : length line ≤ at + 1 → false ≡ is_over (drop at line)
-        unfolding is_over is_break
-        over_cr_past p =
-            rw (drop-one line at h, ne_eqb (get_or line at 0) 10 n, eq-eqb (get_or line at 0) 13 c, drop_of_length-le line p)
-
-        pub over_cr : at + 1 < length line → eqb (get_or line (at + 1) 0) 10 ≡ is_over (drop at line)
-        unfolding is_over is_break
-        over_cr p =
-            rw (drop-one line at h, ne_eqb (get_or line at 0) 10 n, eq-eqb (get_or line at 0) 13 c, drop-one line (at + 1) p)
-
-pub ruleset overs = (over_past, over_lf, over_other, over_cr_past, over_cr)
 
 -- the break at a text's end, by its last byte and the one before
 unfoldable before : Bool → List ℕ → ℕ → Bool
@@ -269,42 +195,36 @@ break_of_last cr (b ∷ c ∷ rest) zero l = absurd (omega arith)
 break_of_last cr (b ∷ c ∷ rest) (suc zero) l = break_of_last (b is "\r") (c ∷ rest) zero (omega arith)
 break_of_last cr (b ∷ c ∷ rest) (suc (suc m)) l = break_of_last (b is "\r") (c ∷ rest) (suc m) (omega arith)
 
-module _ (body : List ℕ) (at : ℕ) (start : at ≤ length body) where
-  pub break_empty : length body ≡ at → 0 ≡ break_of false (drop at body)
+module _ (text : List ℕ) where
+  pub break_empty : length text < 1 → 0 ≡ break_of false text
   unfolding break_of
-  break_empty e =
-      let past : length body ≤ at = omega arith in
-      rw (drop_of_length-le body past)
+  break_empty h = go text h
+    where
+      go : (xs : List ℕ) → length xs < 1 → 0 ≡ break_of false xs
+      go [] k = refl
+      go (b ∷ rest) k = absurd (omega arith)
 
-  module _ (n : length body ≡ at → ⊥) where
-    -- m bytes stand before the last
-    last-break : (m : ℕ) → at + suc m ≡ length body
-        → break_of false (drop at body) ≡ (if get_or body (length body - 1) 0 is "\n" then (if before false (drop at body) m then 2 else 1) else 0)
-    last-break m e =
-        let l : length (drop at body) ≡ suc m = length-drop at body ∙ omega arith in
-        let k : at + m ≡ length body - 1 = omega arith in
-        break_of_last false (drop at body) m l ∙ rw (get_or-drop at body m 0, k)
+  pub break_other : 1 ≤ length text → (get_or text (length text - 1) 0 ≡ 10 → ⊥) → 0 ≡ break_of false text
+  break_other h n = sym (break_of_last false text (length text - 1) (omega arith) ∙ rw (ne_eqb _ 10 n))
 
-    pub break_other : (get_or body (length body - 1) 0 ≡ 10 → ⊥) → 0 ≡ break_of false (drop at body)
-    break_other e = sym (last-break (length body - 1 - at) (omega arith) ∙ rw (ne_eqb _ 10 e))
+  module _ (lf : get_or text (length text - 1) 0 ≡ 10) where
+    pub break_one : 1 ≤ length text → length text < 2 → 1 ≡ break_of false text
+    unfolding before
+    break_one h k =
+        let z : length text - 1 ≡ 0 = omega arith in
+        sym (break_of_last false text (length text - 1) (omega arith) ∙ rw (eq-eqb _ 10 lf, z))
 
-    module _ (lf : get_or body (length body - 1) 0 ≡ 10) where
-      pub break_one : length body - 1 ≡ at → 1 ≡ break_of false (drop at body)
+    module _ (h : 2 ≤ length text) where
+      two : break_of false text ≡ (if get_or text (length text - 2) 0 is "\r" then 2 else 1)
       unfolding before
-      break_one e = sym (last-break 0 (omega arith) ∙ rw (eq-eqb _ 10 lf))
+      two =
+          let z : length text - 1 ≡ suc (length text - 2) = omega arith in
+          break_of_last false text (length text - 1) (omega arith) ∙ rw (eq-eqb _ 10 lf, z)
 
-      module _ (k : length body - 1 ≡ at → ⊥) where
-        two : break_of false (drop at body) ≡ (if get_or body (length body - 1 - 1) 0 is "\r" then 2 else 1)
-        unfolding before
-        two =
-            let m = length body - 2 - at in
-            let j : at + m ≡ length body - 1 - 1 = omega arith in
-            last-break (suc m) (omega arith) ∙ rw (eq-eqb _ 10 lf, get_or-drop at body m 0, j)
+      pub break_lf : (get_or text (length text - 2) 0 ≡ 13 → ⊥) → 1 ≡ break_of false text
+      break_lf n = sym (two ∙ rw (ne_eqb _ 13 n))
 
-        pub break_lf : (get_or body (length body - 1 - 1) 0 ≡ 13 → ⊥) → 1 ≡ break_of false (drop at body)
-        break_lf e = sym (two ∙ rw (ne_eqb _ 13 e))
-
-        pub break_crlf : get_or body (length body - 1 - 1) 0 ≡ 13 → 2 ≡ break_of false (drop at body)
-        break_crlf e = sym (two ∙ rw (eq-eqb _ 13 e))
+      pub break_crlf : get_or text (length text - 2) 0 ≡ 13 → 2 ≡ break_of false text
+      break_crlf e = sym (two ∙ rw (eq-eqb _ 13 e))
 
 pub ruleset breaks = (break_empty, break_other, break_one, break_lf, break_crlf)

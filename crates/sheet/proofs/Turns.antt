@@ -14,7 +14,7 @@ use Rattle.byte.specs.Words.{◌is◌, run}
 use Rattle.unit.specs.declared.Indentation.{Indentation}
 use Rattle.sheet.specs.declared.Found.{Found}
 use Rattle.sheet.specs.declared.Line.{Line}
-use Rattle.sheet.specs.declared.Size.{Size}
+use Rattle.std.specs.Prelude.{Result, Ok, Err}
 use Rattle.sheet.specs.Bodies.{Indent, Text, Kept, Stray, in_front, lines, is_over, unindented, followed, body_text}
 use Rattle.sheet.specs.Sheets.{line_kind, Block, Closed, Missing, Open, with_line, told, block}
 use Rattle.sheet.specs.Code.{line_length, LineEnd, found, offset_of, is_stray, size_of}
@@ -162,18 +162,18 @@ flush_body ind z n (line ∷ more) =
     rw (flush_body ind z (n + length line) more, z, le-leb 0 (run (eqb ind.blank) line) (omega arith))
 
 -- so many bytes more
-unfoldable pub plus : ℕ → Size → Size
-plus len (Size.Kept k) = Size.Kept (len + k)
-plus len (Size.Stray p) = Size.Stray p
+unfoldable pub plus : ℕ → Result ℕ ℕ → Result ℕ ℕ
+plus len (Ok k) = Ok (len + k)
+plus len (Err p) = Err p
 
-plus_zero : (s : Size) → s ≡ plus 0 s
+plus_zero : (s : Result ℕ ℕ) → s ≡ plus 0 s
 unfolding plus
-plus_zero (Size.Kept k) = ap Size.Kept (omega arith)
-plus_zero (Size.Stray p) = refl
+plus_zero (Ok k) = ap Ok (omega arith)
+plus_zero (Err p) = refl
 
 plus_followed : (len : ℕ) (x : List ℕ) (t : Text) → plus len (size_of (followed (Kept x) t)) ≡ plus (len + length x) (size_of t)
 unfolding plus size_of followed
-plus_followed len x (Kept y) = ap Size.Kept (omega (arith, length-append x y))
+plus_followed len x (Kept y) = ap Ok (omega (arith, length-append x y))
 plus_followed len x (Stray p) = refl
 
 -- len bytes are left of the lines before i
@@ -182,38 +182,35 @@ pub record Stripping (ind : Indent) (body : List ℕ) (at i len : ℕ) : Type 0 
   pub small : len ≤ i
   pub same : size_of (body_text ind at (lines (drop at body))) ≡ plus len (size_of (body_text ind i (lines (drop i body))))
 
-module _ (blank width : ℕ) (body : List ℕ) (at : ℕ) where
-  abbrev ind : Indent
-  ind = record { blank = blank; width = width }
-
-  pub stripping_flush : width ≡ 0
-      → Size.Kept (length body - at) ≡ size_of (body_text (record { blank = blank; width = width }) at (lines (drop at body)))
+module _ (ind : Indent) (body : List ℕ) (at : ℕ) where
+  pub stripping_flush : ind.width ≡ 0
+      → Ok (length body - at) ≡ size_of (body_text ind at (lines (drop at body)))
   unfolding size_of
   stripping_flush e = rw (flush_body ind e at (lines (drop at body)), flat_lines (drop at body), length-drop at body)
 
-  pub stripping_first : at ≤ length body → Stripping (record { blank = blank; width = width }) body at at 0
+  pub stripping_first : at ≤ length body → Stripping ind body at at 0
   stripping_first h = record { inside = h; small = omega arith; same = plus_zero _ }
 
-  module _ (i len : ℕ) (p : Stripping (record { blank = blank; width = width }) body at i len) where
-    pub stripping_end : length body ≤ i → Size.Kept len ≡ size_of (body_text (record { blank = blank; width = width }) at (lines (drop at body)))
+  module _ (i len : ℕ) (p : Stripping ind body at i len) where
+    pub stripping_end : length body ≤ i → Ok len ≡ size_of (body_text ind at (lines (drop at body)))
     unfolding lines body_text size_of plus
-    stripping_end h = sym (p.same ∙ rw (drop_of_length-le body h) (ap Size.Kept (omega arith)))
+    stripping_end h = sym (p.same ∙ rw (drop_of_length-le body h) (ap Ok (omega arith)))
 
     module _ (h : i < length body) (next : ℕ) (e : LineEnd body i next) (off : ℕ)
-        (o : off ≡ offset_of (record { blank = blank; width = width }) (take (next - i) (drop i body))) where
+        (o : off ≡ offset_of ind (take (next - i) (drop i body))) where
       pub stripping_off : i + off ≤ next
       stripping_off = omega (arith, o, offset-length ind (take (next - i) (drop i body)), line_size body i next h e, e.on)
 
       pub stripping_place : length body ≤ 65536 → i + off < 2 ^ 64
       stripping_place short = omega (arith, stripping_off, e.inside)
 
-      module _ (flag : Bool) (f : flag ≡ is_stray (record { blank = blank; width = width }) (take (next - i) (drop i body))) where
-        pub stripping_stray : flag ≡ true → Size.Stray (i + off) ≡ size_of (body_text (record { blank = blank; width = width }) at (lines (drop at body)))
+      module _ (flag : Bool) (f : flag ≡ is_stray ind (take (next - i) (drop i body))) where
+        pub stripping_stray : flag ≡ true → Err (i + off) ≡ size_of (body_text ind at (lines (drop at body)))
         unfolding followed size_of plus
         stripping_stray t =
             sym (p.same ∙ rw (body_turn body i next h e ind, unindented_parts ind i (take (next - i) (drop i body)), ← f, t, ← o))
 
-        pub stripping_on : flag ≡ false → Stripping (record { blank = blank; width = width }) body at next (len + (next - (i + off)))
+        pub stripping_on : flag ≡ false → Stripping ind body at next (len + (next - (i + off)))
         stripping_on t =
             let size : length (drop off (take (next - i) (drop i body))) ≡ next - (i + off) =
             length-drop off (take (next - i) (drop i body)) ∙ rw (line_size body i next h e) (omega arith) in

@@ -6,11 +6,8 @@
 --   unbroken     a text without its last break
 use Rattle.std.specs.Prelude.{ℕ, ◌+◌, Bool, true, false, ◌&&◌, ◌||◌, List, [], ◌∷◌, ◌++◌, ◌≡◌, refl, leb, eqb, length, drop, if◌then◌else◌}
 use Rattle.byte.specs.Words.{◌is◌, run, bytes}
-
 -- a closing line's indentation: which byte, and how many
-pub record Indent : Type 0 where
-  pub blank : ℕ
-  pub width : ℕ
+pub use Rattle.sheet.specs.declared.Indent.{Indent}
 
 -- what is left, or the place of the first stray byte
 pub data Text : Type 0 where

@@ -4,23 +4,23 @@
 --   found                          where a block closes, without its lines
 --   offset_of                      how many bytes of indentation come off a line
 --   is_stray                       the byte after them is stray
---   size_of                        how many bytes are left of a body
+--   size_of                        how many bytes are left of a body, or the place of its first stray byte
 --   break_of                       how many bytes the last break of a text has: 2, 1, or 0 where there is none. A CR
 --                                  may stand before the text
 --   is_line                        its one LF is its last byte
 --   Body                           a part of the source that is whole lines, from a place on
+--   one_blank                      the one blank of an indentation
 --   blank_of, indent_of, Closing   the blank of a closing line's indentation, and what comes off each line by it
 --   left_of, sheet_of              the bytes that are left of a body, and the value of a body at n: what `write_sheet`
 --                                  writes
 --   Left   when the value of a body may be written: it is there, and there is room
-use Rattle.std.specs.Prelude.{ℕ, suc, ◌+◌, ◌≤◌, ◌<◌, min, Bool, true, false, not, List, [], ◌∷◌, ◌≡◌, leb, eqb, length, drop, if◌then◌else◌}
+use Rattle.std.specs.Prelude.{ℕ, suc, ◌+◌, ◌≤◌, ◌<◌, min, Bool, true, false, not, List, [], ◌∷◌, ◌≡◌, leb, eqb, length, drop, if◌then◌else◌, Option, Some, None, Result, Ok, Err}
 use Prim.Native.Char.{code}
 use Rattle.byte.specs.Words.{◌is◌, run, every}
 use Rattle.unit.specs.declared.Indentation.{Indentation}
 use Rattle.unit.specs.declared.Stop.{Stop}
 use Rattle.unit.specs.Closers.{indented}
 use Rattle.sheet.specs.declared.Found.{Found}
-use Rattle.sheet.specs.declared.Size.{Size}
 use Rattle.sheet.specs.Bodies.{Indent, Text, Kept, Stray, lines, is_over, body_text, unbroken}
 use Rattle.sheet.specs.Sheets.{Block, Closed, Missing, Open}
 
@@ -48,9 +48,9 @@ offset_of ind line = min ind.width (run (eqb ind.blank) line)
 unfoldable pub is_stray : Indent → List ℕ → Bool
 is_stray ind line = if leb ind.width (offset_of ind line) then false else not (is_over (drop (offset_of ind line) line))
 
-unfoldable pub size_of : Text → Size
-size_of (Kept text) = Size.Kept (length text)
-size_of (Stray p) = Size.Stray p
+unfoldable pub size_of : Text → Result ℕ ℕ
+size_of (Kept text) = Ok (length text)
+size_of (Stray p) = Err p
 
 unfoldable pub break_of : Bool → List ℕ → ℕ
 break_of cr [] = 0
@@ -66,6 +66,13 @@ pub record Body (part : List ℕ) (at : ℕ) : Type 0 where
   pub start : at ≤ length part
   pub short : length part ≤ 65536
   pub whole : every is_line (lines (drop at part)) ≡ true
+
+-- a space where there is none to take off
+unfoldable pub one_blank : Indentation → Option ℕ
+one_blank Indentation.None = Some (code " ")
+one_blank Indentation.Space = Some (code " ")
+one_blank Indentation.Tab = Some (code "\t")
+one_blank Indentation.Mixed = None
 
 -- 0 where there is no one blank
 unfoldable pub blank_of : Stop → ℕ

@@ -1,13 +1,13 @@
 // The closing line of a sheet block: where lines end, what a line is to the block, and the first one that closes it.
 // As request P1 has it, and the PHP manual: no identifier byte follows a closing label. The ported modes' closer is crate closer's.
-ghost use Rattle.std.specs.Prelude.{◌≡◌, [], ◌≤◌, ◌<◌, length, take, drop};
+ghost use Rattle.std.specs.Prelude.{◌≡◌, [], ◌≤◌, ◌<◌, length, drop};
 ghost use Rattle.unit.specs.declared.Indentation.{Indentation};
 ghost use Rattle.sheet.specs.Bodies.{lines};
 ghost use Rattle.sheet.specs.Sheets.{closing_label, line_kind, block};
-ghost use Rattle.sheet.specs.Code.{LineEnd, indentation, found};
+ghost use Rattle.sheet.specs.Code.{LineEnd, found};
 
 use crate::{Found, Line};
-use unit::{Indentation, Match};
+use unit::Match;
 
 // Where the line at `at` ends, after its break.
 pub fn line_end(src: &[u8], at: usize) -> usize
@@ -15,27 +15,20 @@ pub fn line_end(src: &[u8], at: usize) -> usize
     ensures { LineEnd src.now at result }
 {
     let n = source::break_end(src, at);
-    if n < src.len() {
-        return n + 1;
-    }
-    n
+    if n < src.len() { n + 1 } else { n }
 }
 
 // What stands after a label that may close: another byte than an identifier's, or the announced end.
-fn behind_label(line: &[u8], at: usize, end: bool) -> Match
-    requires { at ≤ length line.now }
-    ensures { result ≡ closing_label [] end (drop at line.now) }
+#[tactic(auto, unfolding(crate::specs::Sheets::closing_label))]
+fn behind_label(rest: &[u8], end: bool) -> Match
+    ensures { result ≡ closing_label [] end rest.now }
 {
-    if at < line.len() {
-        if byte::is_identifier(line[at]) {
-            return Match::Other;
-        }
-        return Match::Whole;
+    match rest {
+        [b, ..] if byte::is_identifier(*b) => Match::Other,
+        [_, ..] => Match::Whole,
+        [] if end => Match::Whole,
+        [] => Match::Undecided,
     }
-    if end {
-        return Match::Whole;
-    }
-    Match::Undecided
 }
 
 // The label from `at` on, and no identifier byte after it.
@@ -43,26 +36,11 @@ fn closing_label(line: &[u8], at: usize, label: &[u8], end: bool) -> Match
     requires { (at ≤ length line.now) × (length line.now ≤ 65536) × (length label.now ≤ 64) }
     ensures { result ≡ closing_label label.now end (drop at line.now) }
 {
-    let m = closer::match_at(line, at, label);
-    match m {
-        Match::Whole => behind_label(line, at + label.len(), end),
+    match closer::match_at(line, at, label) {
+        Match::Whole => behind_label(&line[at + label.len()..], end),
         Match::Other => Match::Other,
         Match::Undecided => Match::Undecided,
     }
-}
-
-// The kind of the first n bytes of a line, which are blanks.
-fn indentation_of(line: &[u8], n: usize) -> Indentation
-    requires { n ≤ length line.now }
-    ensures { result ≡ indentation Indentation.None (take n line.now) }
-{
-    let mut i = 0;
-    let mut ind = Indentation::None;
-    while i < n {
-        ind = closer::indented_by(ind, line[i]);
-        i += 1;
-    }
-    ind
 }
 
 // What one line is to the block. Only where the label closes is the kind of its blanks asked.
@@ -71,19 +49,14 @@ fn line_kind(line: &[u8], label: &[u8], end: bool) -> Line
     ensures { result ≡ line_kind label.now end Indentation.None 0 line.now }
 {
     let n = closer::blank_end(line, 0);
-    let m = closing_label(line, n, label, end);
-    match m {
+    match closing_label(line, n, label, end) {
         Match::Whole => Line::Closes {
-            indentation: indentation_of(line, n),
+            indentation: closer::indentation_of(&line[..n]),
             amount: n,
         },
+        Match::Undecided if !end => Line::Undecided,
+        Match::Undecided => Line::Body,
         Match::Other => Line::Body,
-        Match::Undecided => {
-            if end {
-                return Line::Body;
-            }
-            Line::Undecided
-        }
     }
 }
 
@@ -93,10 +66,10 @@ pub fn find_closer(src: &[u8], label: &[u8], at: usize, end: bool) -> Found
     ensures { result ≡ found (block label.now end at (lines (drop at src.now))) }
 {
     let mut i = at;
+    // A turn passes a line, whose end is looked for by blocks of bytes, so no iterator counts the places.
     while i < src.len() {
         let next = line_end(src, i);
-        let kind = line_kind(&src[i..next], label, end);
-        match kind {
+        match line_kind(&src[i..next], label, end) {
             Line::Closes {
                 indentation,
                 amount,
@@ -112,8 +85,5 @@ pub fn find_closer(src: &[u8], label: &[u8], at: usize, end: bool) -> Found
         }
         i = next;
     }
-    if end {
-        return Found::Missing;
-    }
-    Found::Open
+    if end { Found::Missing } else { Found::Open }
 }

@@ -3,19 +3,20 @@
 // In order: the closing line (closing); what is left of a line and of the body; the scan, which writes nothing; the writer.
 #![tactic(auto)]
 
-ghost use Rattle.std.specs.Prelude.{◌≡◌, false, ◌+◌, ◌≤◌, min, length, drop};
+ghost use Rattle.std.specs.Prelude.{◌≡◌, ◌==◌, false, ◌+◌, ◌≤◌, length, take, drop};
+ghost use Rattle.std.specs.List.{take_while};
 ghost use Rattle.byte.specs.Laid.{laid};
 ghost use Rattle.text.specs.Code.{measured};
 ghost use Rattle.sheet.specs.Bodies.{lines, is_over, body_text};
 ghost use Rattle.sheet.specs.Sheets.{stripped, sheet_at};
-ghost use Rattle.sheet.specs.Code.{offset_of, is_stray, size_of, break_of, Body, blank_of, Closing, sheet_of, Left};
+ghost use Rattle.sheet.specs.Code.{offset_of, is_stray, size_of, break_of, Body, one_blank, blank_of, Closing, sheet_of, Left};
 
 use text::Scanned;
 use unit::{Indentation, Stop};
 
 mod closing;
 
-// What a line is to the block.
+// What a line is to the block: three answers by name, of which an Option of an Option would say less.
 #[derive(Clone, Copy)]
 pub enum Line {
     // Blanks, then the label and no identifier byte: it closes the block.
@@ -29,7 +30,7 @@ pub enum Line {
     Undecided,
 }
 
-// Where the block closes.
+// Where the block closes: three answers by name, of which a Result of an Option would say less.
 #[derive(Clone, Copy)]
 pub enum Found {
     Closed {
@@ -43,156 +44,141 @@ pub enum Found {
     Open,
 }
 
-// How many bytes are left of a body, or the place of its first stray byte.
+// Nothing is left of a line, or only its break.
+#[tactic(auto, unfolding(crate::specs::Bodies::is_over, crate::specs::Bodies::is_break))]
+fn is_over(rest: &[u8]) -> bool
+    ensures { result ≡ is_over rest.now }
+{
+    matches!(rest, [] | [b'\n', ..] | [b'\r', b'\n', ..])
+}
+
+// What comes off each line: so many of one blank.
 #[derive(Clone, Copy)]
-pub enum Size {
-    Kept(usize),
-    Stray(usize),
+struct Indent {
+    blank: u8,
+    width: usize,
 }
 
-// How many bytes of indentation come off a line.
-fn offset_of(line: &[u8], blank: u8, width: usize) -> usize
-    ensures { result ≡ offset_of (record { blank = blank; width = width }) line.now }
-{
-    let mut i = 0;
-    while i < width {
-        if line.len() <= i {
-            return i;
+impl Indent {
+    // How many of its blanks a line begins with, as many as come off at most.
+    fn blanks(self, line: &[u8]) -> usize
+        ensures { result ≡ length (take_while (λ b. self.blank == b) (take self.width line.now)) }
+    {
+        line.iter()
+            .take(self.width)
+            .take_while(|b| self.blank == **b)
+            .count()
+    }
+
+    // How many bytes of indentation come off a line.
+    fn offset(self, line: &[u8]) -> usize
+        ensures { result ≡ offset_of self line.now }
+    {
+        self.blanks(line)
+    }
+
+    // The byte after a line's indentation, of which `off` bytes come off, is stray.
+    fn is_stray(self, line: &[u8], off: usize) -> bool
+        requires { off ≡ offset_of self line.now }
+        ensures { result ≡ is_stray self line.now }
+    {
+        off < self.width && !is_over(&line[off..])
+    }
+
+    // How many bytes are left of the body from `at` on without its indentation, or the place of its first stray byte.
+    // Without an indentation it is left as it is.
+    fn strip_len(self, body: &[u8], at: usize) -> Result<usize, usize>
+        requires { (at ≤ length body.now) × (length body.now ≤ 65536) }
+        ensures { result ≡ size_of (body_text self at (lines (drop at body.now))) }
+    {
+        if self.width == 0 {
+            return Ok(body.len() - at);
         }
-        if line[i] != blank {
-            return i;
+        let mut i = at;
+        let mut len = 0;
+        // A turn passes a line, whose end is looked for by blocks of bytes, so no iterator counts the places.
+        while i < body.len() {
+            let next = closing::line_end(body, i);
+            let off = self.offset(&body[i..next]);
+            let k = i + off;
+            if self.is_stray(&body[i..next], off) {
+                return Err(k);
+            }
+            len += next - k;
+            i = next;
         }
-        i += 1;
+        Ok(len)
     }
-    i
 }
 
-// Nothing is left of a line from `at` on, or only its break.
-fn is_over(line: &[u8], at: usize) -> bool
-    requires { at ≤ length line.now }
-    ensures { result ≡ is_over (drop at line.now) }
+// How many bytes the break at the end of a text has.
+#[tactic(auto, using(crate::proofs::Steps::breaks))]
+fn break_len(text: &[u8]) -> usize
+    ensures { result ≡ break_of false text.now }
 {
-    if line.len() <= at {
-        return true;
+    match text {
+        [.., b'\r', b'\n'] => 2,
+        [.., b'\n'] => 1,
+        _ => 0,
     }
-    let b = line[at];
-    if b == b'\n' {
-        return true;
-    }
-    if b != b'\r' {
-        return false;
-    }
-    let j = at + 1;
-    if line.len() <= j {
-        return false;
-    }
-    line[j] == b'\n'
 }
 
-// The byte after a line's indentation, of which `off` bytes come off, is stray.
-fn is_stray(line: &[u8], blank: u8, width: usize, off: usize) -> bool
-    requires { off ≡ offset_of (record { blank = blank; width = width }) line.now }
-    ensures { result ≡ is_stray (record { blank = blank; width = width }) line.now }
+// The one blank of an indentation, a space where there is none to take off; None where blanks are mixed.
+#[tactic(auto, unfolding(crate::specs::Code::one_blank))]
+fn one_blank(indentation: Indentation) -> Option<u8>
+    ensures { result ≡ one_blank indentation }
 {
-    if width <= off {
-        return false;
+    match indentation {
+        Indentation::None | Indentation::Space => Some(b' '),
+        Indentation::Tab => Some(b'\t'),
+        Indentation::Mixed => None,
     }
-    !is_over(line, off)
-}
-
-// The body from `at` on without its indentation, measured. Without an indentation it is left as it is.
-fn strip_len(body: &[u8], at: usize, blank: u8, width: usize) -> Size
-    requires { (at ≤ length body.now) × (length body.now ≤ 65536) }
-    ensures { result ≡ size_of (body_text (record { blank = blank; width = width }) at (lines (drop at body.now))) }
-{
-    if width == 0 {
-        return Size::Kept(body.len() - at);
-    }
-    let mut i = at;
-    let mut len = 0;
-    while i < body.len() {
-        let next = closing::line_end(body, i);
-        let off = offset_of(&body[i..next], blank, width);
-        let k = i + off;
-        if is_stray(&body[i..next], blank, width, off) {
-            return Size::Stray(k);
-        }
-        len += next - k;
-        i = next;
-    }
-    Size::Kept(len)
-}
-
-// How many bytes the break at the end of a body has.
-fn break_len(body: &[u8], at: usize) -> usize
-    requires { at ≤ length body.now }
-    ensures { result ≡ break_of false (drop at body.now) }
-{
-    if body.len() == at {
-        return 0;
-    }
-    let j = body.len() - 1;
-    if body[j] != b'\n' {
-        return 0;
-    }
-    if j == at {
-        return 1;
-    }
-    let k = j - 1;
-    if body[k] != b'\r' {
-        return 1;
-    }
-    2
 }
 
 // The blank that a stop is indented with, a space before a label without an indentation; 0 where there is no one blank.
+#[tactic(auto, unfolding(crate::specs::Code::blank_of, crate::specs::Code::one_blank))]
 pub fn blank_of(stop: Stop) -> u8
     ensures { result ≡ blank_of stop }
 {
     match stop {
-        Stop::Quote => 0,
-        Stop::Interpolation => 0,
-        Stop::DollarLeftBrace => 0,
-        Stop::LeftBrace => 0,
-        Stop::Variable(_) => 0,
-        Stop::Label {
-            indentation,
-            amount: _,
-        } => match indentation {
-            Indentation::None => b' ',
-            Indentation::Space => b' ',
-            Indentation::Tab => b'\t',
-            Indentation::Mixed => 0,
-        },
+        Stop::Label { indentation, .. } => one_blank(indentation).unwrap_or(0),
+        _ => 0,
     }
 }
 
 // The sheet of a body by the closing line after it: its indentation, and a label of `size` bytes.
-fn closed_sheet(body: &[u8], at: usize, ind: Indentation, amount: usize, size: usize) -> Scanned
-    requires { Body body.now at × Closing body.now ind amount size }
-    ensures { result ≡ measured (stripped size at (lines (drop at body.now)) ind amount (length body.now + amount)) }
+fn closed_sheet(
+    body: &[u8],
+    at: usize,
+    indentation: Indentation,
+    amount: usize,
+    size: usize,
+) -> Scanned
+    requires { Body body.now at × Closing body.now indentation amount size }
+    ensures { result ≡ measured (stripped size at (lines (drop at body.now)) indentation amount (length body.now + amount)) }
 {
     let from = body.len() + amount;
-    let stop = Stop::Label {
-        indentation: ind,
-        amount,
-    };
-    let blank = blank_of(stop);
-    if blank == 0 {
+    let Some(blank) = one_blank(indentation) else {
         return Scanned::Refused {
             number: byte::INVALID_DOC_INDENTATION,
             place: from,
         };
-    }
-    let left = strip_len(body, at, blank, amount);
-    match left {
-        Size::Kept(len) => Scanned::Text {
-            len: len - break_len(body, at),
-            stop,
+    };
+    let ind = Indent {
+        blank,
+        width: amount,
+    };
+    match ind.strip_len(body, at) {
+        Ok(len) => Scanned::Text {
+            len: len - break_len(&body[at..]),
+            stop: Stop::Label {
+                indentation,
+                amount,
+            },
             from,
             after: from + size,
         },
-        Size::Stray(place) => Scanned::Refused {
+        Err(place) => Scanned::Refused {
             number: byte::STRAY_INDENTATION,
             place,
         },
@@ -204,8 +190,7 @@ pub fn scan_sheet(src: &[u8], label: &[u8], at: usize, end: bool) -> Scanned
     requires { (at ≤ length src.now) × (length src.now ≤ 65536) × (length label.now ≤ 64) }
     ensures { result ≡ measured (sheet_at label.now end at (drop at src.now)) }
 {
-    let closing = closing::find_closer(src, label, at, end);
-    match closing {
+    match closing::find_closer(src, label, at, end) {
         Found::Closed {
             indentation,
             amount,
@@ -219,28 +204,19 @@ pub fn scan_sheet(src: &[u8], label: &[u8], at: usize, end: bool) -> Scanned
     }
 }
 
-// The lesser of two numbers.
-fn lesser(a: usize, b: usize) -> usize
-    ensures { result ≡ min a b }
-{
-    if a <= b {
-        return a;
-    }
-    b
-}
-
 // The value of a body from `at` on, which was measured: its first `len` bytes without their indentation, at the start of a part.
 pub fn write_sheet(body: &[u8], at: usize, blank: u8, width: usize, len: usize, dst: &mut [u8])
     requires { Left (record { blank = blank; width = width }) body.now at len (length dst.old) }
     ensures { dst.new ≡ laid dst.old 0 (sheet_of (record { blank = blank; width = width }) at (drop at body.now)) }
 {
+    let ind = Indent { blank, width };
     let mut i = at;
     let mut j = 0;
+    // A turn puts what is left of a line, so no iterator counts the places.
     while j < len {
         let next = closing::line_end(body, i);
-        let off = offset_of(&body[i..next], blank, width);
-        let k = i + off;
-        let count = lesser(next - k, len - j);
+        let k = i + ind.offset(&body[i..next]);
+        let count = (next - k).min(len - j);
         token::put_value(&body[k..k + count], dst, j);
         j += count;
         i = next;

@@ -2,7 +2,7 @@
 -- the part as it is where a nowdoc is found by its label. Assumes nothing.
 use Prim.Native.Nat.{ℕ, ◌+◌, ◌-◌, ◌<◌, ◌≤◌}
 use mathlib.Core.Path.{◌≡◌, refl, sym, ap, ◌∙◌}
-use mathlib.Core.Bool.{Bool, true, false, not, false≢true}
+use mathlib.Core.Bool.{Bool, true, false, false≢true}
 use mathlib.Core.List.{List, [], ◌∷◌, ◌++◌}
 use native.Mathlib.Omega.{arith}
 use lib.Dec.{eqb}
@@ -15,8 +15,9 @@ use Rattle.unit.specs.declared.Mode.{Mode}
 use Rattle.unit.specs.declared.TextUnit.{TextUnit}
 use Rattle.unit.specs.Units.{unit_at}
 use Rattle.unit.specs.Readings.{after_of, text_at}
+use Rattle.text.specs.declared.Piece.{Piece}
 use Rattle.text.specs.declared.Scanned.{Scanned}
-use Rattle.text.specs.Code.{Here, is_plain, bytes_of, is_break, last_break, ended, unclosed, measured, gathered}
+use Rattle.text.specs.Code.{Here, is_plain, bytes_of, is_break, IsPiece, last_break, ended, unclosed, measured, gathered}
 use Rattle.text.specs.Code.{clipped, Reads, is_searched, Scans, Searchable, is_writable}
 use Rattle.text.proofs.Runs.{run_after}
 use Rattle.text.proofs.Scans.{TextInside, unit_text, unit_writable, Scanning, scanning_first, scanning_end}
@@ -102,38 +103,31 @@ module _ (m : Mode) (label : List ℕ) (end : Bool) (src : List ℕ) (at : ℕ) 
     pub gathering_past : (r : Scanned) → length src ≤ n → r ≡ unclosed end n → Reads m src label at end old r run
     gathering_past = gathering_end run n (len + (n - i)) _ there
 
-    module _ (h : n < length src) (u : TextUnit) (e : u ≡ unit_at m label end n (get_or src n 0) (drop (n + 1) src))
-        (width : ℕ) (w : width ≡ length (bytes_of u)) where
-      pub gathering_stop : (last : Bool) (r : Scanned) → width ≡ 0 → last ≡ last_break broken (take (n - i) (drop i src))
+    module _ (h : n < length src) (u : TextUnit) (e : u ≡ unit_at m label end n (get_or src n 0) (drop (n + 1) src)) where
+      pub gathering_stop : (last : Bool) (r : Scanned) → length (bytes_of u) ≡ 0
+          → last ≡ last_break broken (take (n - i) (drop i src))
           → r ≡ ended m (len + (n - i)) last u → Reads m src label at end old r run
       gathering_stop last r z l k =
-          over run n (len + (n - i)) _ there r (gathered_stop m label end src n h u e (sym w ∙ z))
-          (k ∙ rw l (unit_stop m label end src at n (len + (n - i)) _ there.text h u e (sym w ∙ z)))
+          over run n (len + (n - i)) _ there r (gathered_stop m label end src n h u e z)
+          (k ∙ rw l (unit_stop m label end src at n (len + (n - i)) _ there.text h u e z))
 
-      module _ (z : width ≡ 0 → ⊥) where
+      module _ (x : Piece) (q : IsPiece u x) where
+        some : length (bytes_of u) ≡ 0 → ⊥
+        some z = omega (arith, z, q.width, q.some)
+
         unit : TextInside n (length src) (length (bytes_of u)) (after_of u)
-        unit = unit_text m label end src n h u e (λ y. z (w ∙ y))
+        unit = unit_text m label end src n h u e some
 
-        pub gathering_less : (next : ℕ) → next ≡ after_of u → length src - next < length src - i
-        gathering_less next k = omega (arith, unit.on, unit.inside, run_after m label end src i n p)
+        pub gathering_less : length src - x.after < length src - i
+        gathering_less = omega (arith, q.after, unit.on, unit.inside, run_after m label end src i n p)
 
-        turned : (after : List ℕ) (next : ℕ) (flag : Bool) → after ≡ clipped run (len + (n - i)) (bytes_of u)
-            → next ≡ after_of u → flag ≡ is_break u
-            → Gathering m label end src at old after next (len + (n - i) + width) flag
-        turned after next flag a k l =
-            let on = unit_on m label end src at n (len + (n - i)) _ there.text h u e (λ y. z (w ∙ y)) in
-            let turn = gathered_unit m label end src n h u e (λ y. z (w ∙ y)) unit.on in
-            rw (k, l, w) (onto run n (len + (n - i)) _ there (bytes_of u) after (after_of u) (is_break u) a turn on)
-
-  -- the same, its premises in the order in which they are found
-  pub gathering_on : (dst after run : List ℕ) (i len n width next : ℕ) (broken flag : Bool) (u : TextUnit)
-      → Gathering m label end src at old dst i len broken → after ≡ clipped run (len + (n - i)) (bytes_of u)
-      → run ≡ clipped dst len (take (n - i) (drop i src)) → RunEnd (is_plain m) src i n
-      → next ≡ after_of u → flag ≡ is_break u
-      → width ≡ length (bytes_of u) → (width ≡ 0 → ⊥) → u ≡ unit_at m label end n (get_or src n 0) (drop (n + 1) src)
-      → n < length src → Gathering m label end src at old after next (len + (n - i) + width) flag
-  gathering_on dst after run i len n width next broken flag u g a f p k l w z e h =
-      turned dst i len broken g n p run f h u e width w z after next flag a k l
+        pub gathering_on : (after : List ℕ) → after ≡ clipped run (len + (n - i)) (bytes_of u)
+            → Gathering m label end src at old after x.after (len + (n - i) + x.width) x.broken
+        gathering_on after a =
+            let on = unit_on m label end src at n (len + (n - i)) _ there.text h u e some in
+            let turn = gathered_unit m label end src n h u e some unit.on in
+            rw (q.after, q.broken, q.width)
+            (onto run n (len + (n - i)) _ there (bytes_of u) after (after_of u) (is_break u) a turn on)
 
 pub gathering_writable : (m : Mode) (label : List ℕ) (end : Bool) (src : List ℕ) (n : ℕ) (u : TextUnit) → n < length src
     → u ≡ unit_at m label end n (get_or src n 0) (drop (n + 1) src) → is_writable u
@@ -152,49 +146,28 @@ pub ruleset gathering = (
   gathering_writable,
 )
 
--- a label that is looked for, and one that is not
-pub searched_none : (label : List ℕ) → length label ≡ 0 → false ≡ is_searched Mode.Nowdoc label
-unfolding is_searched
-searched_none [] h = refl
-searched_none (b ∷ rest) h = absurd (omega arith)
-
-pub searched_some : (label : List ℕ) → (length label ≡ 0 → ⊥)
-    → not (eqb (get_or label 0 0) 10) ≡ is_searched Mode.Nowdoc label
-unfolding is_searched
-searched_some [] some = absurd (some refl)
-searched_some (b ∷ rest) some = refl
-
-pub ruleset searched = (searched_none, searched_some)
-
-searched_facts : (label : List ℕ) → length label ≤ 64 → is_searched Mode.Nowdoc label ≡ true → Searchable label
+-- a label that is looked for
+pub searched_facts : (label : List ℕ) → length label ≤ 64 → is_searched Mode.Nowdoc label ≡ true → Searchable label
 unfolding is_searched
 searched_facts [] short e = absurd (false≢true e)
 searched_facts (b ∷ rest) short e =
     record { some = omega arith; short = short; unbroken = eqb-false b 10 (not-true (eqb b 10) e) }
 
 -- the scan: a part that is read into, or left as it is
+pub unsearched : (m : Mode) (label : List ℕ) → (m ≡ Mode.Nowdoc → ⊥) → is_searched m label ≡ false
+unfolding is_searched
+unsearched Mode.Single label z = refl
+unsearched (Mode.Double octals) label z = refl
+unsearched (Mode.DoubleQuote octals) label z = refl
+unsearched Mode.ShellExec label z = refl
+unsearched (Mode.Heredoc octals) label z = refl
+unsearched Mode.Nowdoc label z = absurd (z refl)
+
 module _ (m : Mode) (src label : List ℕ) (at : ℕ) (end : Bool) (dst : List ℕ) (r : Scanned) where
-  pub scans_read : (arm : Mode) (after : List ℕ) → m ≡ arm → is_searched arm label ≡ false
-      → Reads m src label at end dst r after → Scans m src label at end dst r after
-  scans_read arm after e other p = record { told = p.told; held = p.held ∙ rw (e, other) }
-
-  pub scans_arm : (arm : Mode) (after : List ℕ) → m ≡ arm → Scans arm src label at end dst r after
+  pub scans_read : (after : List ℕ) → is_searched m label ≡ false → Reads m src label at end dst r after
       → Scans m src label at end dst r after
-  scans_arm arm after e p = rw e p
+  scans_read after e p = record { told = p.told; held = p.held ∙ rw e }
 
-pub ruleset scans = (scans_read, scans_arm)
-
-module _ (label : List ℕ) (flag : Bool) (f : flag ≡ is_searched Mode.Nowdoc label) where
-  pub nowdoc_searched : length label ≤ 64 → flag ≡ true → Searchable label
-  nowdoc_searched short e = searched_facts label short (sym f ∙ e)
-
-  module _ (src : List ℕ) (at : ℕ) (end : Bool) (dst : List ℕ) (r : Scanned) where
-    pub nowdoc_label : flag ≡ true → r ≡ measured (text_at Mode.Nowdoc label end at (drop at src))
-        → Scans Mode.Nowdoc src label at end dst r dst
-    nowdoc_label e told = record { told = told; held = rw (← f, e) }
-
-    pub nowdoc_read : (after : List ℕ) → flag ≡ false → Reads Mode.Nowdoc src label at end dst r after
-        → Scans Mode.Nowdoc src label at end dst r after
-    nowdoc_read after e p = record { told = p.told; held = p.held ∙ rw (← f, e) }
-
-pub ruleset nowdocs = (nowdoc_searched, nowdoc_label, nowdoc_read)
+  pub scans_label : is_searched m label ≡ true → r ≡ measured (text_at m label end at (drop at src))
+      → Scans m src label at end dst r dst
+  scans_label e told = record { told = told; held = rw e }

@@ -4,12 +4,13 @@ use Prim.Native.Nat.{ℕ, zero, suc, ◌+◌, ◌-◌, ◌<◌, ◌≤◌}
 use mathlib.Core.Path.{◌≡◌, refl, sym, ap, ◌∙◌}
 use mathlib.Core.Bool.{Bool, true, false, not}
 use mathlib.Core.List.{List, [], ◌∷◌}
+use Rattle.std.specs.Prelude.{Option, Some, None, MatchOption, is_some}
 use native.Mathlib.Omega.{arith}
 use native.Mathlib.Nat.{add-zero}
 use lib.Dec.{eqb}
 use lib.ListN.{length, get_or, take, drop, length-drop}
 use lib.Seq.{get_or-drop, drop-drop}
-use borrow.Author.Tests.{ne_eqb, eqb-true, eqb-false, not-true, not-false}
+use borrow.Author.Tests.{ne_eqb, eqb-true, eqb-false, not-false}
 use Rattle.byte.specs.Words.{◌is◌, run}
 use Rattle.byte.specs.Bytes.{is_blank, is_no_break, is_none_of}
 use Rattle.source.specs.Code.{RunEnd}
@@ -23,34 +24,13 @@ use Rattle.unit.specs.Interpolations.{plain}
 use Rattle.unit.specs.Closers.{matched, indented, judged, line}
 use Rattle.unit.specs.Units.{unit_at}
 use Rattle.unit.specs.Readings.{Reading, onto, taken, after_of, collected, text_at}
+use Rattle.text.specs.declared.Piece.{Piece}
 use Rattle.text.specs.declared.Scanned.{Scanned}
-use Rattle.text.specs.Code.{bytes_of, ended, unclosed, measured, BeforeBlanks, Searchable}
+use Rattle.text.specs.Code.{bytes_of, IsPiece, ended, unclosed, measured, BeforeBlanks, Searchable}
 use Rattle.text.proofs.Runs.{onto_nil, onto_cons, collected_byte, run_end_stop}
 use Rattle.text.proofs.Scans.{open_at, onto_open, behind_open}
 use Rattle.text.proofs.Lines.{Lining, lining_first, lining_end, lining_bytes, lining_run, lining_other}
 use Rattle.text.proofs.Lines.{lining_stop, lining_on}
-
--- the loop of `before_blanks`
-pub record Backing (from n k : ℕ) : Type 0 where
-  pub first : from ≤ k
-  pub last : k < n
-
-module _ (src : List ℕ) (from n : ℕ) (start : BeforeBlanks src from n from) where
-  pub backing_first : Backing from n (n - 1)
-  backing_first = record { first = omega (arith, start.last); last = omega (arith, start.last) }
-
-  module _ (k : ℕ) (p : Backing from n k) where
-    pub backing_inside : k < length src
-    backing_inside = omega (arith, p.last, start.inside)
-
-    pub backing_stop : (flag : Bool) → flag ≡ is_blank (get_or src k 0) → not flag ≡ true → BeforeBlanks src from n k
-    backing_stop flag f t =
-        record { first = p.first; last = p.last; inside = start.inside; other = sym f ∙ not-true flag t }
-
-    pub backing_on : from < k → Backing from n (k - 1)
-    backing_on h = record { first = omega arith; last = omega (arith, p.last) }
-
-pub ruleset backing = (backing_first, backing_inside, backing_stop, backing_on)
 
 -- the first of a run passes its test, and the others are the run of the rest
 run-cons : (test : ℕ → Bool) (b : ℕ) (rest : List ℕ) (k : ℕ) → k < run test (b ∷ rest)
@@ -202,14 +182,18 @@ module _ (label : List ℕ) (end : Bool) (src : List ℕ) (at i : ℕ) (s : Lini
     looking_other = lining_other label end src at k text looking_inside
 
     module _ (break : get_or src k 0 ≡ 10) (u : TextUnit)
-        (e : u ≡ line label end k Indentation.None 0 (drop (k + 1) src))
-        (width : ℕ) (f : width ≡ length (bytes_of u)) where
-      pub looking_stop : (r : Scanned) → width ≡ 0 → r ≡ ended Mode.Nowdoc (k - at) false u
+        (e : u ≡ line label end k Indentation.None 0 (drop (k + 1) src)) where
+      pub looking_stop : (r : Scanned) (o : Option Piece) → MatchOption o (length (bytes_of u) ≡ 0) (IsPiece u)
+          → is_some o ≡ false → r ≡ ended Mode.Nowdoc (k - at) false u
           → r ≡ measured (text_at Mode.Nowdoc label end at (drop at src))
-      looking_stop r z g = g ∙ lining_stop label end src at k text looking_inside break u e (sym f ∙ z)
+      looking_stop r None q z g = g ∙ lining_stop label end src at k text looking_inside break u e q
+      looking_stop r (Some x) q z g = cc
 
-      pub looking_on : (width ≡ 0 → ⊥) → Lining label end src at (k + 1)
-      looking_on z = lining_on label end src at k text looking_inside break u e (λ y. z (f ∙ y))
+      pub looking_on : (o : Option Piece) → MatchOption o (length (bytes_of u) ≡ 0) (IsPiece u) → is_some o ≡ true
+          → Lining label end src at (k + 1)
+      looking_on None q z = cc
+      looking_on (Some x) q z =
+          lining_on label end src at k text looking_inside break u e (λ y. omega (arith, y, q.width, q.some))
 
 pub ruleset looking = (
   lining_first,

@@ -13,20 +13,10 @@ use Rattle.byte.specs.Bytes.{is_no_break}
 use Rattle.source.specs.Code.{RunEnd}
 use Rattle.byte.proofs.Tests.{choice, none_of}
 use Rattle.unit.specs.declared.Mode.{Mode}
-use Rattle.unit.specs.declared.TextUnit.{TextUnit}
 use Rattle.unit.specs.Interpolations.{plain}
 use Rattle.unit.specs.Units.{unit_at}
 use Rattle.unit.specs.Readings.{Reading, Text, Refused, Wait, onto, taken, after_of, collected}
 use Rattle.text.specs.Code.{is_plain}
-
--- one mode's run is that of its arm
-pub plain_arm : (m arm : Mode) (src : List ℕ) (at r : ℕ) → m ≡ arm → RunEnd (is_plain arm) src at r → RunEnd (is_plain m) src at r
-plain_arm m arm src at r e h = rw e h
-
--- and so is what stands at a place; a mode that has no label does not look at it
-pub unit_arm : (m arm : Mode) (label : List ℕ) (end : Bool) (n b : ℕ) (rest : List ℕ) (r : TextUnit) → m ≡ arm
-    → r ≡ unit_at arm label end n b rest → r ≡ unit_at m label end n b rest
-unit_arm m arm label end n b rest r e h = rw e h
 
 -- the unit of a byte that stands for itself
 pub plain_unit : (m : Mode) (label : List ℕ) (end : Bool) (n b : ℕ) (rest : List ℕ) → is_plain m b ≡ true

@@ -2,23 +2,22 @@
 use Rattle.std.specs.Prelude.{if◌then◌else◌}
 use Prim.Native.Nat.{ℕ, zero, suc, ◌+◌, ◌-◌, ◌%◌, ◌<◌, ◌≤◌}
 use mathlib.Core.Path.{◌≡◌, refl, sym, ap, ◌∙◌}
-use mathlib.Core.Bool.{Bool, true, false, not}
+use mathlib.Core.Bool.{Bool, true, false}
 use mathlib.Core.List.{List, [], ◌∷◌, ◌++◌}
 use native.Mathlib.Omega.{arith}
 use lib.Dec.{ltb, eqb}
 use lib.ListN.{length, get_or, take, drop, length-append, length-drop, drop_of_length-le}
 use lib.Seq.{take-suc, length-take-le, get_or-drop, drop-drop}
-use borrow.Author.Tests.{ne_eqb, ltb-false, not-true, not-false}
+use borrow.Author.Tests.{ne_eqb, ltb-false}
 use Rattle.byte.specs.Words.{◌is◌}
 use Rattle.source.specs.Code.{RunEnd}
 use Rattle.byte.proofs.Tests.{choice}
 use Rattle.byte.proofs.Words.{drop-one}
 use Rattle.unit.specs.declared.Mode.{Mode}
-use Rattle.unit.specs.declared.Stop.{Stop}
 use Rattle.unit.specs.declared.TextUnit.{TextUnit}
 use Rattle.unit.specs.Digits.{utf8}
 use Rattle.unit.specs.Units.{unit_at}
-use Rattle.unit.specs.Readings.{Reading, Text, Refused, Wait, onto, taken, after_of, collected, trimmed, heredoc_loses_break, loses_break, finished, text_at}
+use Rattle.unit.specs.Readings.{Reading, Text, Refused, Wait, onto, taken, after_of, collected, trimmed, loses_break, finished, text_at}
 use Rattle.unit.proofs.Stands.{Stands, utf8_length, unit_stands}
 use Rattle.unit.proofs.Readings.{collected_turn}
 use Rattle.text.specs.declared.Scanned.{Scanned}
@@ -30,67 +29,16 @@ positive : (n : ℕ) → (n ≡ 0 → ⊥) → 0 < n
 positive zero h = absurd (h refl)
 positive (suc n) h = omega arith
 
--- an arm of a match on a unit, a stop or a mode
-module _ (u arm : TextUnit) (e : u ≡ arm) where
-  pub width_arm : (r : ℕ) → r ≡ length (bytes_of arm) → r ≡ length (bytes_of u)
-  width_arm r h = rw e h
+pub utf8_some : (c : ℕ) → 0 < length (utf8 c)
+unfolding utf8
+utf8_some c = choice Some (ltb c 0x80) _ _ (λ e. omega arith) (λ e. choice Some (ltb c 0x800) _ _ (λ f. omega arith) (λ f. choice Some (ltb c 0x10000) _ _ (λ g. omega arith) (λ g. omega arith)))
+  where
+    Some : List ℕ → Type 0
+    Some vs = 0 < length vs
 
-  pub after_arm : (r : ℕ) → r ≡ after_of arm → r ≡ after_of u
-  after_arm r h = rw e h
-
-  pub break_arm : (r : Bool) → r ≡ is_break arm → r ≡ is_break u
-  break_arm r h = rw e h
-
-  pub ended_arm : (m : Mode) (len : ℕ) (broken : Bool) (r : Scanned) → r ≡ ended m len broken arm → r ≡ ended m len broken u
-  ended_arm m len broken r h = rw e h
-
-pub width_point : (code after r : ℕ) → r ≡ length (utf8 code) → r ≡ length (bytes_of (TextUnit.Point code after))
-unfolding bytes_of
-width_point code after r e = e
-
-pub width_four : (code r : ℕ) → r ≡ length (utf8 code) → r ≤ 4
-width_four code r e = rw e (utf8_length code)
-
-pub ruleset widths = (width_arm, width_point, width_four)
-
-pub stop_arm : (stop arm : Stop) (r : Bool) → stop ≡ arm → r ≡ heredoc_loses_break arm → r ≡ heredoc_loses_break stop
-stop_arm stop arm r e h = rw e h
-
-pub mode_arm : (m arm : Mode) (stop : Stop) (r : Bool) → m ≡ arm → r ≡ loses_break arm stop → r ≡ loses_break m stop
-mode_arm m arm stop r e h = rw e h
-
-pub ended_stop : (m : Mode) (len value : ℕ) (broken : Bool) (stop : Stop) (from after : ℕ) → value ≡ value_length m len broken stop → Scanned.Text value stop from after ≡ ended m len broken (TextUnit.Ends stop from after)
-unfolding ended
-ended_stop m len value broken stop from after e = rw e
-
-module _ (m : Mode) (len : ℕ) (broken : Bool) (stop : Stop) where
-  pub value_whole : not broken ≡ true → len ≡ value_length m len broken stop
-  unfolding value_length
-  value_whole b = rw (not-true broken b)
-
-  module _ (b : not broken ≡ false) (loses : Bool) (e : loses ≡ loses_break m stop) where
-    pub value_kept : loses ≡ false → len ≡ value_length m len broken stop
-    unfolding value_length
-    value_kept l = rw (not-false broken b, ← e, l)
-
-    pub value_shorter : (r : ℕ) → loses ≡ true → r ≡ len - 1 → r ≡ value_length m len broken stop
-    unfolding value_length
-    value_shorter r l f = f ∙ rw (not-false broken b, ← e, l)
-
-pub ruleset values = (value_whole, value_kept, value_shorter)
-
-pub ruleset endings = (ended_arm, ended_stop)
-
-module _ (end : Bool) (place : ℕ) where
-  pub unclosed_end : end ≡ true → Scanned.Refused 1 place ≡ unclosed end place
-  unfolding unclosed
-  unclosed_end e = rw e
-
-  pub unclosed_wait : end ≡ false → Scanned.Wait ≡ unclosed end place
-  unfolding unclosed
-  unclosed_wait e = rw e
-
-pub ruleset unclosing = (unclosed_end, unclosed_wait)
+-- a code point has one byte to four
+pub point_piece : (code : ℕ) → (0 < length (utf8 code)) × (length (utf8 code) ≤ 4)
+point_piece code = (utf8_some code, utf8_length code)
 
 last_break_append : (broken : Bool) (xs ys : List ℕ) → last_break broken (xs ++ ys) ≡ last_break (last_break broken xs) ys
 unfolding last_break
@@ -169,13 +117,6 @@ pub behind_open : (m : Mode) (len : ℕ) (broken end : Bool) (n : ℕ) → behin
 unfolding behind unclosed
 behind_open m len broken true n = refl
 behind_open m len broken false n = refl
-
-pub utf8_some : (c : ℕ) → 0 < length (utf8 c)
-unfolding utf8
-utf8_some c = choice Some (ltb c 0x80) _ _ (λ e. omega arith) (λ e. choice Some (ltb c 0x800) _ _ (λ f. omega arith) (λ f. choice Some (ltb c 0x10000) _ _ (λ g. omega arith) (λ g. omega arith)))
-  where
-    Some : List ℕ → Type 0
-    Some vs = 0 < length vs
 
 utf8_break : (broken : Bool) (c : ℕ) → last_break broken (utf8 c) ≡ (c is "\n")
 unfolding utf8 last_break

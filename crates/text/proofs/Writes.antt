@@ -1,12 +1,13 @@
 -- The bytes of a text on their way into a part: how far a part goes, a run, one unit, and the bytes gathered from a place
 -- on, of which a value is a start (`value_gathered`). Assumes nothing.
 use Rattle.std.specs.Prelude.{if◌then◌else◌}
-use Prim.Native.Nat.{ℕ, zero, suc, ◌+◌, ◌-◌, ◌<◌, ◌≤◌}
+use Prim.Native.Nat.{ℕ, zero, suc, ◌+◌, ◌-◌, ◌<◌, ◌≤◌, min}
 use mathlib.Core.Path.{◌≡◌, refl, sym, ap, ◌∙◌}
 use mathlib.Core.Bool.{Bool, true, false}
 use mathlib.Core.List.{List, [], ◌∷◌, ◌++◌}
 use native.Mathlib.Omega.{arith}
-use native.Mathlib.Nat.{add-zero}
+use native.Mathlib.Nat.{add-zero, min_comm}
+use Rattle.std.proofs.lemmas.List.{take_min}
 use lib.Dec.{leb}
 use lib.ListN.{length, get_or, set, take, drop, length-append, length-take, drop_of_length-le}
 use lib.Seq.{take_all, take-nil, take-length, take-take, take-append-le, take-append-add, drop-drop}
@@ -18,15 +19,13 @@ use Rattle.byte.proofs.Tests.{choice}
 use Rattle.byte.proofs.Words.{drop-one}
 use Rattle.byte.proofs.Laid.{laid_nil, laid_append, set_laid, length_laid, take_laid}
 use Rattle.unit.specs.declared.Mode.{Mode}
-use Rattle.unit.specs.declared.Stop.{Stop}
 use Rattle.unit.specs.declared.TextUnit.{TextUnit}
 use Rattle.unit.specs.Digits.{utf8}
 use Rattle.unit.specs.Interpolations.{plain}
 use Rattle.unit.specs.Units.{unit_at}
 use Rattle.unit.specs.Readings.{Reading, Text, Refused, Wait, onto, taken, after_of, collected, trimmed}
 use Rattle.unit.specs.Readings.{loses_break, finished, text_at}
-use Rattle.unit.proofs.Stands.{utf8_length}
-use Rattle.text.specs.Code.{is_plain, bytes_of, value_of, clipped, onward, gathered, is_writable}
+use Rattle.text.specs.Code.{is_plain, bytes_of, value_of, clipped, onward, gathered}
 use Rattle.text.proofs.Runs.{plain_unit, run_after}
 use Rattle.text.proofs.Scans.{utf8_some}
 
@@ -81,82 +80,25 @@ clipped_append dst at vs ws = go (leb (at + length vs) (length dst)) refl (lengt
         take-append-le (length dst - at) vs ws (omega (arith, h)) in
         rw (size, z, start) (laid_nil (laid dst at (take (length dst - at) vs)) (at + length vs))
 
--- a run
-module _ (dst : List ℕ) (at : ℕ) (src : List ℕ) (from to : ℕ) (r : List ℕ) where
-  pub run_whole : to - from ≤ length dst - at → r ≡ laid dst at (take (to - from) (drop from src))
-      → r ≡ clipped dst at (take (to - from) (drop from src))
-  run_whole h e =
-      let n : length (take (to - from) (drop from src)) ≤ length dst - at =
-      rw (length-take (to - from) (drop from src)) (omega arith) in
-      e ∙ clipped_whole dst at (take (to - from) (drop from src)) n
-
-  pub run_cut : length dst - at < to - from → r ≡ laid dst at (take (from + (length dst - at) - from) (drop from src))
-      → r ≡ clipped dst at (take (to - from) (drop from src))
-  unfolding clipped
-  run_cut h e =
-      let n : from + (length dst - at) - from ≡ length dst - at = omega arith in
-      e ∙ rw (n, take-take (length dst - at) (to - from) (drop from src) (omega arith))
-
-pub ruleset runs = (clipped_past, run_whole, run_cut)
+-- a run, as much of it as fits
+pub run_put : (dst : List ℕ) (at : ℕ) (vs : List ℕ)
+    → laid dst at (take (min (length vs) (length dst - at)) vs) ≡ clipped dst at vs
+unfolding clipped
+run_put dst at vs = ap (laid dst at) (rw (min_comm (length vs) (length dst - at)) (take_min (length dst - at) vs))
 
 -- a byte
-pub put_byte : (dst : List ℕ) (at value : ℕ) → at < length dst → set dst at value ≡ clipped dst at (value ∷ [])
-put_byte dst at value h = set_laid dst at value h ∙ clipped_whole dst at (value ∷ []) (omega arith)
-
-pub ruleset places = (clipped_past, put_byte)
+pub byte_put : (dst : List ℕ) (at value : ℕ) → at < length dst → set dst at value ≡ clipped dst at (value ∷ [])
+byte_put dst at value h = set_laid dst at value h ∙ clipped_whole dst at (value ∷ []) (omega arith)
 
 -- a code point, first in a part of four bytes
-pub point_room : (code : ℕ) → 0 + length (utf8 code) ≤ 4
-point_room code = omega (arith, utf8_length code)
+pub point_put : (code len : ℕ) (old point : List ℕ) → len ≡ length (utf8 code) → point ≡ laid old 0 (utf8 code)
+    → take len point ≡ utf8 code
+point_put code len old point n p = rw p (take_laid old (utf8 code) len n)
 
-module _ (old point : List ℕ) (code len : ℕ) (p : point ≡ laid old 0 (utf8 code)) (n : len ≡ length (utf8 code)) where
-  point_same : take (len - 0) point ≡ utf8 code
-  point_same =
-      let z : len - 0 ≡ len = omega arith in
-      rw (z, p) (take_laid old (utf8 code) len n)
-
-  pub point_inside : len ≤ length point
-  point_inside = omega (arith, n, ap length point_same, length-take (len - 0) point)
-
-  pub point_put : (dst : List ℕ) (at : ℕ) (r : List ℕ) → r ≡ clipped dst at (take (len - 0) (drop 0 point))
-      → r ≡ clipped dst at (utf8 code)
-  point_put dst at r e = e ∙ rw point_same
-
-pub ruleset points = (point_room, point_inside, point_put)
-
--- an arm of a match on a unit
-module _ (dst : List ℕ) (at : ℕ) (u : TextUnit) where
-  pub put_unit_byte : (value after : ℕ) (r : List ℕ) → u ≡ TextUnit.Byte value after → r ≡ clipped dst at (value ∷ [])
-      → r ≡ clipped dst at (bytes_of u)
-  unfolding bytes_of
-  put_unit_byte value after r e h = h ∙ rw e
-
-  pub put_unit_scalar : (code after : ℕ) → u ≡ TextUnit.Point code after → is_writable u → code < 1114112
-  unfolding is_writable
-  put_unit_scalar code after e w = rw e at w
-
-  pub put_unit_point : (code after : ℕ) (r : List ℕ) → u ≡ TextUnit.Point code after → r ≡ clipped dst at (utf8 code)
-      → r ≡ clipped dst at (bytes_of u)
-  unfolding bytes_of
-  put_unit_point code after r e h = h ∙ rw e
-
-  -- nothing of the others
-  nothing : bytes_of u ≡ [] → dst ≡ clipped dst at (bytes_of u)
-  nothing e = sym (rw e (clipped_nil dst at))
-
-  pub put_stop : (stop : Stop) (from after : ℕ) → u ≡ TextUnit.Ends stop from after → dst ≡ clipped dst at (bytes_of u)
-  unfolding bytes_of
-  put_stop stop from after e = nothing (rw e)
-
-  pub put_fault : (number place : ℕ) → u ≡ TextUnit.Fault number place → dst ≡ clipped dst at (bytes_of u)
-  unfolding bytes_of
-  put_fault number place e = nothing (rw e)
-
-  pub put_nothing : u ≡ TextUnit.Undecided → dst ≡ clipped dst at (bytes_of u)
-  unfolding bytes_of
-  put_nothing e = nothing (rw e)
-
-pub ruleset puts = (put_unit_byte, put_unit_scalar, put_unit_point, put_stop, put_fault, put_nothing)
+pub point_inside : (code len : ℕ) (old point : List ℕ) → len ≡ length (utf8 code) → point ≡ laid old 0 (utf8 code)
+    → len ≤ length point
+point_inside code len old point n p =
+    omega (arith, n, ap length (point_put code len old point n p), length-take len point)
 
 -- what a unit leaves to gather
 onward_text : (u : TextUnit) (later : List ℕ) → (length (bytes_of u) ≡ 0 → ⊥) → onward u later ≡ bytes_of u ++ later

@@ -3,6 +3,7 @@
 --   is_plain       a byte that stands for itself in a mode: its unit is that byte, whatever comes after it
 --   bytes_of       the bytes of the value that a unit is
 --   is_break       a unit that is a break, also one from an escape
+--   IsPiece        what a unit that is text leaves: its bytes' number, whether it is a break, and the place after it
 --   last_break     of bytes: whether the last of them is a break
 --   value_length   of a text of so many bytes, the last of them a break or not: a heredoc's loses it before an
 --                  interpolation
@@ -31,6 +32,7 @@ use Rattle.unit.specs.declared.TextUnit.{TextUnit}
 use Rattle.unit.specs.Digits.{utf8}
 use Rattle.unit.specs.Units.{unit_at}
 use Rattle.unit.specs.Readings.{Reading, Text, Refused, Wait, after_of, loses_break, text_at}
+use Rattle.text.specs.declared.Piece.{Piece}
 use Rattle.text.specs.declared.Scanned.{Scanned}
 
 pub record Here (src : List ℕ) (n : ℕ) : Type 0 where
@@ -58,6 +60,14 @@ is_break (TextUnit.Point code after) = code is "\n"
 is_break (TextUnit.Ends stop from after) = false
 is_break (TextUnit.Fault number place) = false
 is_break TextUnit.Undecided = false
+
+-- what a unit that is text leaves
+pub record IsPiece (u : TextUnit) (p : Piece) : Type 0 where
+  pub width : p.width ≡ length (bytes_of u)
+  pub some : 0 < p.width
+  pub narrow : p.width ≤ 4
+  pub broken : p.broken ≡ is_break u
+  pub after : p.after ≡ after_of u
 
 -- `broken` tells it of the bytes before; of no bytes it is the answer
 unfoldable pub last_break : Bool → List ℕ → Bool

@@ -3,12 +3,12 @@
 // In order: what stands at a place in each mode (units); what a unit is to a text; its bytes into a part; the reader; the scan.
 #![tactic(auto)]
 
-ghost use Rattle.std.specs.Prelude.{◌≡◌, [], ◌∷◌, ◌-◌, ◌≤◌, ◌<◌, length, take, drop};
+ghost use Rattle.std.specs.Prelude.{◌≡◌, [], ◌∷◌, ◌-◌, ◌≤◌, ◌<◌, MatchOption, length, take, drop};
 ghost use Rattle.unit.specs.declared.Mode.{Mode};
 ghost use Rattle.unit.specs.declared.TextUnit.{TextUnit};
 ghost use Rattle.unit.specs.Digits.{utf8};
-ghost use Rattle.unit.specs.Readings.{after_of, heredoc_loses_break, loses_break, text_at};
-ghost use Rattle.text.specs.Code.{bytes_of, is_break, last_break, value_length, ended, unclosed, measured};
+ghost use Rattle.unit.specs.Readings.{loses_break, text_at};
+ghost use Rattle.text.specs.Code.{bytes_of, IsPiece, last_break, value_length, ended, unclosed, measured};
 ghost use Rattle.text.specs.Code.{BeforeBlanks, Searchable, is_writable, clipped, Reads, is_searched, Scans};
 
 use unit::{Mode, Stop, TextUnit};
@@ -31,126 +31,63 @@ pub enum Scanned {
     Wait,
 }
 
-// How many bytes of the value a unit is; 0 where it is no text.
-fn width_of(u: TextUnit) -> usize
-    ensures { (result ≡ length (bytes_of u)) × (result ≤ 4) }
+// A unit that is text: how many bytes of the value it is, whether it is a break, also one from an escape, and the place after it.
+#[derive(Clone, Copy)]
+struct Piece {
+    width: usize,
+    broken: bool,
+    after: usize,
+}
+
+#[tactic(auto, unfolding(crate::specs::Code::bytes_of, crate::specs::Code::is_break, unit::specs::Readings::after_of), using(crate::proofs::Scans::point_piece))]
+fn piece_of(u: TextUnit) -> Option<Piece>
+    ensures { MatchOption result (length (bytes_of u) ≡ 0) (IsPiece u) }
 {
     match u {
-        TextUnit::Byte { value: _, after: _ } => 1,
-        TextUnit::Point { code, after: _ } => escape::utf8_len(code),
-        TextUnit::Ends {
-            stop: _,
-            from: _,
-            after: _,
-        } => 0,
-        TextUnit::Fault {
-            number: _,
-            place: _,
-        } => 0,
-        TextUnit::Undecided => 0,
+        TextUnit::Byte { value, after } => Some(Piece {
+            width: 1,
+            broken: value == b'\n',
+            after,
+        }),
+        TextUnit::Point { code, after } => Some(Piece {
+            width: escape::utf8_len(code),
+            broken: code == 10,
+            after,
+        }),
+        TextUnit::Ends { .. } | TextUnit::Fault { .. } | TextUnit::Undecided => None,
     }
 }
 
-// The place after a unit that is text.
-fn after_of(u: TextUnit) -> usize
-    ensures { result ≡ after_of u }
-{
-    match u {
-        TextUnit::Byte { value: _, after } => after,
-        TextUnit::Point { code: _, after } => after,
-        TextUnit::Ends {
-            stop: _,
-            from: _,
-            after: _,
-        } => 0,
-        TextUnit::Fault {
-            number: _,
-            place: _,
-        } => 0,
-        TextUnit::Undecided => 0,
-    }
-}
-
-// Whether a unit is a break, also one from an escape.
-fn is_break(u: TextUnit) -> bool
-    ensures { result ≡ is_break u }
-{
-    match u {
-        TextUnit::Byte { value, after: _ } => value == b'\n',
-        TextUnit::Point { code, after: _ } => code == 10,
-        TextUnit::Ends {
-            stop: _,
-            from: _,
-            after: _,
-        } => false,
-        TextUnit::Fault {
-            number: _,
-            place: _,
-        } => false,
-        TextUnit::Undecided => false,
-    }
-}
-
-// Whether the text before a stop of a heredoc loses its last break.
-fn heredoc_loses_break(stop: Stop) -> bool
-    ensures { result ≡ heredoc_loses_break stop }
-{
-    match stop {
-        Stop::Quote => true,
-        Stop::Interpolation => true,
-        Stop::DollarLeftBrace => true,
-        Stop::LeftBrace => true,
-        Stop::Variable(_) => true,
-        Stop::Label {
-            indentation: _,
-            amount: _,
-        } => false,
-    }
-}
-
+// Whether the text before a stop loses its last break: a heredoc's does, but before its label.
+#[tactic(auto, unfolding(unit::specs::Readings::loses_break, unit::specs::Readings::heredoc_loses_break))]
 fn loses_break(m: Mode, stop: Stop) -> bool
     ensures { result ≡ loses_break m stop }
 {
-    match m {
-        Mode::Single => false,
-        Mode::Double(_) => false,
-        Mode::DoubleQuote(_) => false,
-        Mode::ShellExec => false,
-        Mode::Heredoc(_) => heredoc_loses_break(stop),
-        Mode::Nowdoc => false,
+    match (m, stop) {
+        (Mode::Heredoc(_), Stop::Label { .. }) => false,
+        (Mode::Heredoc(_), _) => true,
+        _ => false,
     }
-}
-
-// One less, and 0 of 0.
-fn shorter(len: usize) -> usize
-    ensures { result ≡ len - 1 }
-{
-    if len == 0 {
-        return 0;
-    }
-    len - 1
 }
 
 // The length of a value whose text has `len` bytes, the last of them a break or not.
+#[tactic(auto, unfolding(crate::specs::Code::value_length))]
 fn value_len(m: Mode, len: usize, broken: bool, stop: Stop) -> usize
     ensures { result ≡ value_length m len broken stop }
 {
-    if !broken {
-        return len;
+    if broken && loses_break(m, stop) {
+        len.saturating_sub(1)
+    } else {
+        len
     }
-    if loses_break(m, stop) {
-        return shorter(len);
-    }
-    len
 }
 
 // A unit that ends a text of `len` bytes.
+#[tactic(auto, unfolding(crate::specs::Code::ended))]
 fn ended_as(m: Mode, len: usize, broken: bool, u: TextUnit) -> Scanned
     ensures { result ≡ ended m len broken u }
 {
     match u {
-        TextUnit::Byte { value: _, after: _ } => Scanned::Wait,
-        TextUnit::Point { code: _, after: _ } => Scanned::Wait,
         TextUnit::Ends { stop, from, after } => Scanned::Text {
             len: value_len(m, len, broken, stop),
             stop,
@@ -158,11 +95,12 @@ fn ended_as(m: Mode, len: usize, broken: bool, u: TextUnit) -> Scanned
             after,
         },
         TextUnit::Fault { number, place } => Scanned::Refused { number, place },
-        TextUnit::Undecided => Scanned::Wait,
+        TextUnit::Byte { .. } | TextUnit::Point { .. } | TextUnit::Undecided => Scanned::Wait,
     }
 }
 
 // A text that is not closed.
+#[tactic(auto, unfolding(crate::specs::Code::unclosed))]
 fn unclosed(end: bool, place: usize) -> Scanned
     ensures { result ≡ unclosed end place }
 {
@@ -176,6 +114,7 @@ fn unclosed(end: bool, place: usize) -> Scanned
 }
 
 // Whether the byte before n is a break; where no bytes were passed from i on, `broken` tells it.
+#[tactic(auto, using(crate::proofs::Scans::last_breaks))]
 fn last_break(src: &[u8], i: usize, n: usize, broken: bool) -> bool
     requires { (i ≤ n) × (n ≤ length src.now) }
     ensures { result ≡ last_break broken (take (n - i) (drop i src.now)) }
@@ -186,20 +125,14 @@ fn last_break(src: &[u8], i: usize, n: usize, broken: bool) -> bool
     src[n - 1] == b'\n'
 }
 
-// The bytes from `from` to `to` at a place of a part, as far as it goes.
-fn put_run(src: &[u8], from: usize, to: usize, dst: &mut [u8], at: usize)
-    requires { (from ≤ to) × (to ≤ length src.now) }
-    ensures { dst.new ≡ clipped dst.old at (take (to - from) (drop from src.now)) }
+// Some bytes at a place of a part, as far as it goes.
+fn put_run(run: &[u8], dst: &mut [u8], at: usize)
+    ensures { dst.new ≡ clipped dst.old at run.now }
 {
-    if dst.len() <= at {
-        return;
+    if at < dst.len() {
+        let count = run.len().min(dst.len() - at);
+        token::put_value(&run[..count], dst, at);
     }
-    let room = dst.len() - at;
-    if to - from <= room {
-        token::put_value(&src[from..to], dst, at);
-        return;
-    }
-    token::put_value(&src[from..from + room], dst, at);
 }
 
 // One byte, where the part has the place.
@@ -218,31 +151,19 @@ fn put_point(dst: &mut [u8], at: usize, code: u32)
 {
     let mut point = [0u8; 4];
     escape::put_utf8(&mut point, 0, code);
-    put_run(&point, 0, escape::utf8_len(code), dst, at);
+    put_run(&point[..escape::utf8_len(code)], dst, at);
 }
 
 // One unit's bytes at a place of a part, as far as it goes.
+#[tactic(auto, unfolding(crate::specs::Code::bytes_of, crate::specs::Code::is_writable), using(crate::proofs::Writes::clipped_nil))]
 fn put_unit(dst: &mut [u8], at: usize, u: TextUnit)
     requires { is_writable u }
     ensures { dst.new ≡ clipped dst.old at (bytes_of u) }
 {
     match u {
-        TextUnit::Byte { value, after: _ } => {
-            put_byte(dst, at, value);
-        }
-        TextUnit::Point { code, after: _ } => {
-            put_point(dst, at, code);
-        }
-        TextUnit::Ends {
-            stop: _,
-            from: _,
-            after: _,
-        } => {}
-        TextUnit::Fault {
-            number: _,
-            place: _,
-        } => {}
-        TextUnit::Undecided => {}
+        TextUnit::Byte { value, .. } => put_byte(dst, at, value),
+        TextUnit::Point { code, .. } => put_point(dst, at, code),
+        TextUnit::Ends { .. } | TextUnit::Fault { .. } | TextUnit::Undecided => {}
     }
 }
 
@@ -255,22 +176,22 @@ pub fn read_text(m: Mode, src: &[u8], label: &[u8], at: usize, end: bool, dst: &
     let mut i = at;
     let mut len = 0;
     let mut broken = false;
+    // A turn passes as many bytes as its run and its unit have, so no iterator counts the places.
     while i < src.len() {
         let n = units::plain_end(m, src, i);
-        put_run(src, i, n, dst, len);
+        put_run(&src[i..n], dst, len);
         if src.len() <= n {
             return unclosed(end, n);
         }
         let u = units::unit_at(m, src, label, n, end);
-        let width = width_of(u);
-        if width == 0 {
-            return ended_as(m, len + (n - i), last_break(src, i, n, broken), u);
-        }
         len += n - i;
+        let Some(piece) = piece_of(u) else {
+            return ended_as(m, len, last_break(src, i, n, broken), u);
+        };
         put_unit(dst, len, u);
-        len += width;
-        broken = is_break(u);
-        i = after_of(u);
+        len += piece.width;
+        broken = piece.broken;
+        i = piece.after;
     }
     unclosed(end, i)
 }
@@ -280,14 +201,10 @@ fn before_blanks(src: &[u8], from: usize, n: usize) -> usize
     requires { BeforeBlanks src.now from n from }
     ensures { BeforeBlanks src.now from n result }
 {
-    let mut k = n - 1;
-    while from < k {
-        if !byte::is_blank(src[k]) {
-            return k;
-        }
-        k -= 1;
+    match src[from..n].iter().rposition(|b| !byte::is_blank(*b)) {
+        Some(k) => from + k,
+        None => from,
     }
-    from
 }
 
 // A nowdoc's text: from an LF on the label's first byte is looked for, and the label where blanks alone stand before it.
@@ -297,6 +214,7 @@ fn scan_label(src: &[u8], label: &[u8], at: usize, end: bool) -> Scanned
 {
     let w = label[0];
     let mut i = at;
+    // A turn goes on after the last byte that is no blank, so no iterator counts the places.
     while i < src.len() {
         let lf = source::break_end(src, i);
         let n = source::stop_end(src, lf, w, w, w, w);
@@ -306,7 +224,7 @@ fn scan_label(src: &[u8], label: &[u8], at: usize, end: bool) -> Scanned
         let k = before_blanks(src, lf, n);
         if src[k] == b'\n' {
             let u = closer::line_at(src, label, k, end);
-            if width_of(u) == 0 {
+            if piece_of(u).is_none() {
                 return ended_as(Mode::Nowdoc, k - at, false, u);
             }
         }
@@ -316,13 +234,11 @@ fn scan_label(src: &[u8], label: &[u8], at: usize, end: bool) -> Scanned
 }
 
 // Whether a nowdoc's label has a byte to look for.
+#[tactic(auto, unfolding(crate::specs::Code::is_searched))]
 fn is_searched(label: &[u8]) -> bool
     ensures { result ≡ is_searched Mode.Nowdoc label.now }
 {
-    if label.len() == 0 {
-        return false;
-    }
-    label[0] != b'\n'
+    label.first().is_some_and(|b| *b != b'\n')
 }
 
 // A nowdoc's text, by its label; unit by unit where the label has no byte to look for.
@@ -342,11 +258,7 @@ pub fn scan_text(m: Mode, src: &[u8], label: &[u8], at: usize, end: bool, dst: &
     ensures { Scans m src.now label.now at end dst.old result dst.new }
 {
     match m {
-        Mode::Single => read_text(m, src, label, at, end, dst),
-        Mode::Double(_) => read_text(m, src, label, at, end, dst),
-        Mode::DoubleQuote(_) => read_text(m, src, label, at, end, dst),
-        Mode::ShellExec => read_text(m, src, label, at, end, dst),
-        Mode::Heredoc(_) => read_text(m, src, label, at, end, dst),
         Mode::Nowdoc => scan_nowdoc(src, label, at, end, dst),
+        _ => read_text(m, src, label, at, end, dst),
     }
 }

@@ -3,7 +3,7 @@
 --   Falls, Faults, Splits, Final   what a unit is in one of the two
 --   Opening                        the two continuations; `opens_on` carries it one byte further on
 -- Assumes nothing.
-use Rattle.std.specs.Prelude.{if◌then◌else◌}
+use Rattle.std.specs.Prelude.{if◌then◌else◌, Some, None}
 use mathlib.Core.Path.{◌≡◌, refl, ap, ◌∙◌}
 use mathlib.Core.Bool.{Bool, true, false}
 use mathlib.Core.List.{List, [], ◌∷◌, ◌++◌}
@@ -17,7 +17,6 @@ use Rattle.byte.specs.Words.{◌is◌, every}
 use Rattle.byte.specs.Bytes.{is_start, is_identifier, is_blank, is_letter, is_digit}
 use Rattle.byte.specs.Demand.{is_byte}
 use Rattle.unit.specs.declared.Follow.{Follow}
-use Rattle.unit.specs.declared.Look.{Look}
 use Rattle.unit.specs.declared.Stop.{Stop}
 use Rattle.unit.specs.declared.TextUnit.{TextUnit}
 use Rattle.unit.specs.Digits.{digit_value}
@@ -153,7 +152,7 @@ stop_told h = clash cc
 pub fault_told : {A : Type 0} {number place : ℕ} → TextUnit.Fault number place ≡ TextUnit.Undecided → A
 fault_told h = clash cc
 
-pub look_told : {A : Type 0} {f : Follow} → Look.Settled f ≡ Look.Undecided → A
+pub look_told : {A : Type 0} {f : Follow} → Some f ≡ None → A
 look_told h = clash cc
 
 -- one byte further on

@@ -4,7 +4,7 @@
 -- The pairs: a 0 comes or the text ends there (`falls`, `faults`: the refusal's place tells them apart), `->a` comes or the text
 -- ends (`splits`), the rest of the label comes or the text ends (`closes`). Each law is its definition again, with `if_waits` for
 -- a choice. Assumes nothing.
-use Rattle.std.specs.Prelude.{if◌then◌else◌}
+use Rattle.std.specs.Prelude.{if◌then◌else◌, Option, Some, None}
 use mathlib.Core.Path.{◌≡◌, refl, ap}
 use mathlib.Core.Bool.{Bool, true, false, ◌&&◌, ◌||◌}
 use mathlib.Core.List.{List, [], ◌∷◌, ◌++◌}
@@ -21,7 +21,6 @@ use Rattle.byte.specs.Demand.{is_byte}
 use Rattle.byte.proofs.Tests.{choice, &&-left, &&-right}
 use Rattle.unit.specs.declared.Follow.{Follow}
 use Rattle.unit.specs.declared.Indentation.{Indentation}
-use Rattle.unit.specs.declared.Look.{Look}
 use Rattle.unit.specs.declared.Match.{Match}
 use Rattle.unit.specs.declared.Mode.{Mode}
 use Rattle.unit.specs.declared.TextUnit.{TextUnit}
@@ -131,32 +130,32 @@ quote_escape_waits p (b ∷ xs) k =
 -- ---- interpolations
 
 -- after a name: nothing of it, or a property
-record LookSplits (xs : List ℕ) (g : List ℕ → Look) : Type 0 where
+record LookSplits (xs : List ℕ) (g : List ℕ → Option Follow) : Type 0 where
   more : List ℕ
   more_bytes : every is_byte more ≡ true
-  now : g xs ≡ Look.Settled Follow.Other
-  later : g (xs ++ more) ≡ Look.Settled Follow.Property
+  now : g xs ≡ Some Follow.Other
+  later : g (xs ++ more) ≡ Some Follow.Property
 
-look_on : {xs : List ℕ} {g : List ℕ → Look} (b : ℕ) → LookSplits xs (λ ys. g (b ∷ ys)) → LookSplits (b ∷ xs) g
+look_on : {xs : List ℕ} {g : List ℕ → Option Follow} (b : ℕ) → LookSplits xs (λ ys. g (b ∷ ys)) → LookSplits (b ∷ xs) g
 look_on b x = record { more = x.more; more_bytes = x.more_bytes; now = x.now; later = x.later }
 
-property_waits : (xs : List ℕ) → property false xs ≡ Look.Undecided → LookSplits xs (property true)
+property_waits : (xs : List ℕ) → property false xs ≡ None → LookSplits xs (property true)
 unfolding property is_start is_letter every
 property_waits [] k = record { more = code "a" ∷ []; more_bytes = refl; now = refl; later = refl }
 property_waits (b ∷ xs) k = look_told k
 
-arrow_waits : (xs : List ℕ) → arrow false xs ≡ Look.Undecided → LookSplits xs (arrow true)
+arrow_waits : (xs : List ℕ) → arrow false xs ≡ None → LookSplits xs (arrow true)
 unfolding arrow property is_start is_letter every
 arrow_waits [] k = record { more = code ">" ∷ code "a" ∷ []; more_bytes = refl; now = refl; later = refl }
 arrow_waits (b ∷ xs) k = look_on b (if_waits (LookSplits xs) (b is ">") (λ e. property_waits xs) look_told k)
 
-question_arrow_waits : (xs : List ℕ) → question_arrow false xs ≡ Look.Undecided → LookSplits xs (question_arrow true)
+question_arrow_waits : (xs : List ℕ) → question_arrow false xs ≡ None → LookSplits xs (question_arrow true)
 unfolding question_arrow arrow property is_start is_letter every
 question_arrow_waits [] k =
     record { more = code "-" ∷ code ">" ∷ code "a" ∷ []; more_bytes = refl; now = refl; later = refl }
 question_arrow_waits (b ∷ xs) k = look_on b (if_waits (LookSplits xs) (b is "-") (λ e. arrow_waits xs) look_told k)
 
-follow_waits : (xs : List ℕ) → follow false xs ≡ Look.Undecided → LookSplits xs (follow true)
+follow_waits : (xs : List ℕ) → follow false xs ≡ None → LookSplits xs (follow true)
 unfolding follow arrow property is_start is_letter every
 follow_waits [] k = record { more = code "-" ∷ code ">" ∷ code "a" ∷ []; more_bytes = refl; now = refl; later = refl }
 follow_waits (b ∷ xs) k =
@@ -166,10 +165,10 @@ follow_waits (b ∷ xs) k =
     (if_waits (LookSplits xs) (b is "?") (λ e. question_arrow_waits xs) look_told))
     k)
 
-variable_undecided : (from n : ℕ) (l : Look) → variable from n l ≡ TextUnit.Undecided → l ≡ Look.Undecided
+variable_undecided : (from n : ℕ) (l : Option Follow) → variable from n l ≡ TextUnit.Undecided → l ≡ None
 unfolding variable
-variable_undecided from n (Look.Settled f) k = stop_told k
-variable_undecided from n Look.Undecided k = refl
+variable_undecided from n (Some f) k = stop_told k
+variable_undecided from n None k = refl
 
 variable_splits : (from n b : ℕ) (xs : List ℕ) → LookSplits (b ∷ xs) (follow true)
     → Splits xs (λ ys. variable from n (follow true (b ∷ ys)))

@@ -3,7 +3,7 @@
 --   faults        what a mode may refuse
 --   unit_stands   Stands m n b (n + 1 + length rest) (unit_at m label end n b rest)
 -- Each law is its definition again, with `if_stands` for a choice. Assumes nothing.
-use Rattle.std.specs.Prelude.{if◌then◌else◌}
+use Rattle.std.specs.Prelude.{if◌then◌else◌, Option, Some, None}
 use Prim.Native.Nat.{ℕ, zero, suc, ◌+◌, ◌*◌, ◌≤◌, ◌<◌}
 use Prim.Native.Char.{Char, code}
 use mathlib.Core.Path.{◌≡◌, refl, sym, ◌∙◌}
@@ -21,7 +21,6 @@ use Rattle.byte.specs.Bytes.{is_start, is_identifier, is_blank}
 use Rattle.byte.proofs.Tests.{choice, &&-left}
 use Rattle.unit.specs.declared.Follow.{Follow}
 use Rattle.unit.specs.declared.Indentation.{Indentation}
-use Rattle.unit.specs.declared.Look.{Look}
 use Rattle.unit.specs.declared.Match.{Match}
 use Rattle.unit.specs.declared.Mode.{Mode}
 use Rattle.unit.specs.declared.Stop.{Stop}
@@ -245,10 +244,10 @@ module _ (m : Mode) (n b hi : ℕ) where
           own = λ e. i;
         }
 
-    variable_stands : (p : ℕ) (l : Look) → n < p → p ≤ hi → Stands m n b hi (variable n p l)
+    variable_stands : (p : ℕ) (l : Option Follow) → n < p → p ≤ hi → Stands m n b hi (variable n p l)
     unfolding variable gap
-    variable_stands p (Look.Settled f) x y = entering refl refl x y
-    variable_stands p Look.Undecided x y = tt
+    variable_stands p (Some f) x y = entering refl refl x y
+    variable_stands p None x y = tt
 
     name_stands : (p : ℕ) (xs : List ℕ) → n < p → p + length xs ≤ hi → Stands m n b hi (name end n p xs)
     unfolding name

@@ -2,7 +2,7 @@
 --   unit_stays   where `unit_at m label false n b rest` is not undecided, `unit_at m label true n b (rest ++ more)` is
 --                the same
 -- Each law is its definition again, with `if_stays` for a choice. Assumes nothing.
-use Rattle.std.specs.Prelude.{if◌then◌else◌}
+use Rattle.std.specs.Prelude.{if◌then◌else◌, Option, None}
 use mathlib.Core.Path.{◌≡◌, refl, ap}
 use mathlib.Core.Bool.{Bool, true, false}
 use mathlib.Core.List.{List, [], ◌∷◌, ◌++◌}
@@ -13,8 +13,8 @@ use lib.ListN.{length}
 use Rattle.byte.specs.declared.Octal.{Octal}
 use Rattle.byte.specs.Words.{◌is◌}
 use Rattle.byte.specs.Bytes.{is_start, is_identifier, is_blank}
+use Rattle.unit.specs.declared.Follow.{Follow}
 use Rattle.unit.specs.declared.Indentation.{Indentation}
-use Rattle.unit.specs.declared.Look.{Look}
 use Rattle.unit.specs.declared.Match.{Match}
 use Rattle.unit.specs.declared.Mode.{Mode}
 use Rattle.unit.specs.declared.TextUnit.{TextUnit}
@@ -33,8 +33,8 @@ Stays undecided u u' = (u ≡ undecided → ⊥) → u' ≡ u
 abbrev UnitStays : TextUnit → TextUnit → Type 0
 UnitStays u u' = Stays TextUnit.Undecided u u'
 
-abbrev LookStays : Look → Look → Type 0
-LookStays l l' = Stays Look.Undecided l l'
+abbrev LookStays : Option Follow → Option Follow → Type 0
+LookStays l l' = Stays None l l'
 
 pub if_stays : {A : Type 0} {o u u' v v' : A} (t : Bool) → Stays o u u' → Stays o v v'
     → Stays o (if t then u else v) (if t then u' else v')
@@ -118,7 +118,7 @@ follow_stays (b ∷ xs) more k =
     (if_stays (b is "-") (arrow_stays xs more) (if_stays (b is "?") (question_arrow_stays xs more) same))
     k
 
-variable_stays : (from n : ℕ) (l l' : Look) → LookStays l l' → UnitStays (variable from n l) (variable from n l')
+variable_stays : (from n : ℕ) (l l' : Option Follow) → LookStays l l' → UnitStays (variable from n l) (variable from n l')
 unfolding variable
 variable_stays from n l l' s k = ap (variable from n) (s (λ z. k (rw z)))
 

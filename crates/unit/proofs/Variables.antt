@@ -5,7 +5,7 @@
 --   variable_found    a literal finds something where there is a name or a `{`
 --   brace_manual      after a `{`: a `$`, or the brace itself, in both readings
 -- Assumes nothing.
-use Rattle.std.specs.Prelude.{if◌then◌else◌}
+use Rattle.std.specs.Prelude.{if◌then◌else◌, Some}
 use Prim.Native.Nat.{ℕ, suc, ◌+◌, ◌<◌}
 use Prim.Native.Char.{code}
 use mathlib.Core.Path.{◌≡◌, refl, ap, ◌∙◌}
@@ -19,7 +19,6 @@ use Rattle.byte.specs.Words.{◌is◌, run}
 use Rattle.byte.specs.Bytes.{is_start, is_identifier, is_letter}
 use Rattle.byte.proofs.Tests.{choice, &&-left, if_both}
 use Rattle.unit.specs.declared.Follow.{Follow}
-use Rattle.unit.specs.declared.Look.{Look}
 use Rattle.unit.specs.declared.Stop.{Stop}
 use Rattle.unit.specs.declared.TextUnit.{TextUnit}
 use Rattle.unit.specs.Interpolations.{plain, property, arrow, question_arrow, follow, variable, name, dollar}
@@ -36,35 +35,35 @@ named : (k : ℕ) → eqb (suc k) 0 ≡ false
 named k = ne_eqb (suc k) 0 (λ e. omega arith)
 
 -- an arrow's name, whatever the arrow's size
-property_pointed : (size : ℕ) (xs : List ℕ) → property true xs ≡ Look.Settled (follow_of (pointed size xs))
+property_pointed : (size : ℕ) (xs : List ℕ) → property true xs ≡ Some (follow_of (pointed size xs))
 unfolding property pointed name_length follow_of
 property_pointed size [] = refl
 property_pointed size (b ∷ rest) = go (is_start b)
   where
-    go : (t : Bool) → Look.Settled (if t then Follow.Property else Follow.Other)
-        ≡ Look.Settled (follow_of (if eqb (if t then suc (run is_identifier rest) else 0) 0 then Alone
+    go : (t : Bool) → Some (if t then Follow.Property else Follow.Other)
+        ≡ Some (follow_of (if eqb (if t then suc (run is_identifier rest) else 0) 0 then Alone
         else Belonging.Property (size + (if t then suc (run is_identifier rest) else 0))))
     go true = rw (named (run is_identifier rest))
     go false = refl
 
 -- an arrow's `>` and its name
 arrow_pointed : (size : ℕ) (xs : List ℕ)
-    → arrow true xs ≡ Look.Settled (follow_of (if begins (code ">") xs then pointed size (drop 1 xs) else Alone))
+    → arrow true xs ≡ Some (follow_of (if begins (code ">") xs then pointed size (drop 1 xs) else Alone))
 unfolding arrow begins follow_of
 arrow_pointed size [] = refl
 arrow_pointed size (b ∷ rest) =
-    if_both (λ l y. l ≡ Look.Settled (follow_of y)) (b is ">") (λ e. property_pointed size rest) (λ e. refl)
+    if_both (λ l y. l ≡ Some (follow_of y)) (b is ">") (λ e. property_pointed size rest) (λ e. refl)
 
 question_arrow_pointed : (xs : List ℕ)
     → question_arrow true xs
-    ≡ Look.Settled
+    ≡ Some
     (follow_of (if begins (code "-") xs && begins (code ">") (drop 1 xs) then pointed 3 (drop 2 xs) else Alone))
 unfolding question_arrow begins follow_of
 question_arrow_pointed [] = refl
 question_arrow_pointed (b ∷ rest) = go (b is "-")
   where
-    go : (t : Bool) → (if t then arrow true rest else Look.Settled Follow.Other)
-        ≡ Look.Settled (follow_of (if t && begins (code ">") rest then pointed 3 (drop 1 rest) else Alone))
+    go : (t : Bool) → (if t then arrow true rest else Some Follow.Other)
+        ≡ Some (follow_of (if t && begins (code ">") rest then pointed 3 (drop 1 rest) else Alone))
     go true = arrow_pointed 3 rest
     go false = refl
 
@@ -76,18 +75,18 @@ bracketed_offset xs =
     (λ e h. refl)
     (λ e h. clash cc)
 
-follow_manual : (xs : List ℕ) → is_loose xs ≡ false → follow true xs ≡ Look.Settled (follow_of (belonging xs))
+follow_manual : (xs : List ℕ) → is_loose xs ≡ false → follow true xs ≡ Some (follow_of (belonging xs))
 unfolding follow belonging is_loose follow_of begins
 follow_manual [] h = refl
 follow_manual (b ∷ rest) h =
-    if_both (λ l y. (b is "[" && is_alone y) ≡ false → l ≡ Look.Settled (follow_of y)) (b is "[")
-    (λ e. rw e (λ z. ap Look.Settled (bracketed_offset rest z)))
+    if_both (λ l y. (b is "[" && is_alone y) ≡ false → l ≡ Some (follow_of y)) (b is "[")
+    (λ e. rw e (λ z. ap Some (bracketed_offset rest z)))
     (λ e z. go (b is "-") (b is "?") (eqb-true b (code "-")) (eqb-true b (code "?")))
     h
   where
     go : (t q : Bool) → (t ≡ true → b ≡ code "-") → (q ≡ true → b ≡ code "?")
-        → (if t then arrow true rest else if q then question_arrow true rest else Look.Settled Follow.Other)
-        ≡ Look.Settled
+        → (if t then arrow true rest else if q then question_arrow true rest else Some Follow.Other)
+        ≡ Some
         (follow_of
         (if t && begins (code ">") rest then pointed 2 (drop 1 rest)
         else if (q && begins (code "-") rest) && begins (code ">") (drop 1 rest) then pointed 3 (drop 2 rest)
@@ -97,7 +96,7 @@ follow_manual (b ∷ rest) h =
     go false true f g = question_arrow_pointed rest
     go false false f g = refl
 
-follow_loose : (xs : List ℕ) → is_loose xs ≡ true → follow true xs ≡ Look.Settled Follow.Offset
+follow_loose : (xs : List ℕ) → is_loose xs ≡ true → follow true xs ≡ Some Follow.Offset
 unfolding follow is_loose begins
 follow_loose [] h = clash cc
 follow_loose (b ∷ rest) h = rw (&&-left (b is "[") _ h)

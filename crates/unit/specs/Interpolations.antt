@@ -4,12 +4,11 @@
 --   dollar                    after a `$`: `${`, a variable, or the sign itself
 --   brace                     after a `{`: a `$`, and only the brace is taken; or the brace itself
 --   find_dollar, find_brace   the same in a literal, where an interpolation is found and not taken
-use Rattle.std.specs.Prelude.{ℕ, suc, Bool, ◌||◌, List, [], ◌∷◌, if◌then◌else◌}
+use Rattle.std.specs.Prelude.{ℕ, suc, Bool, ◌||◌, List, [], ◌∷◌, if◌then◌else◌, Option, Some, None}
 use Prim.Native.Char.{code}
 use Rattle.byte.specs.Words.{◌is◌}
 use Rattle.byte.specs.Bytes.{is_start, is_identifier}
 use Rattle.unit.specs.declared.Follow.{Follow}
-use Rattle.unit.specs.declared.Look.{Look}
 use Rattle.unit.specs.declared.Stop.{Stop}
 use Rattle.unit.specs.declared.TextUnit.{TextUnit}
 use Rattle.unit.specs.Escapes.{last}
@@ -19,34 +18,34 @@ abbrev pub plain : ℕ → ℕ → TextUnit
 plain b n = TextUnit.Byte b (suc n)
 
 -- nothing is left after the name
-abbrev pub last_look : Bool → Look
-last_look end = if end then Look.Settled Follow.Other else Look.Undecided
+abbrev pub last_look : Bool → Option Follow
+last_look end = if end then Some Follow.Other else None
 
-unfoldable pub property : Bool → List ℕ → Look
+unfoldable pub property : Bool → List ℕ → Option Follow
 property end [] = last_look end
-property end (b ∷ rest) = Look.Settled (if is_start b then Follow.Property else Follow.Other)
+property end (b ∷ rest) = Some (if is_start b then Follow.Property else Follow.Other)
 
 -- after `-`, and after `?`
-unfoldable pub arrow : Bool → List ℕ → Look
+unfoldable pub arrow : Bool → List ℕ → Option Follow
 arrow end [] = last_look end
-arrow end (b ∷ rest) = if b is ">" then property end rest else Look.Settled Follow.Other
+arrow end (b ∷ rest) = if b is ">" then property end rest else Some Follow.Other
 
-unfoldable pub question_arrow : Bool → List ℕ → Look
+unfoldable pub question_arrow : Bool → List ℕ → Option Follow
 question_arrow end [] = last_look end
-question_arrow end (b ∷ rest) = if b is "-" then arrow end rest else Look.Settled Follow.Other
+question_arrow end (b ∷ rest) = if b is "-" then arrow end rest else Some Follow.Other
 
-unfoldable pub follow : Bool → List ℕ → Look
+unfoldable pub follow : Bool → List ℕ → Option Follow
 follow end [] = last_look end
 follow end (b ∷ rest) =
-    if b is "[" then Look.Settled Follow.Offset
+    if b is "[" then Some Follow.Offset
     else if b is "-" then arrow end rest
     else if b is "?" then question_arrow end rest
-    else Look.Settled Follow.Other
+    else Some Follow.Other
 
 -- a variable from its `$` to n
-unfoldable pub variable : ℕ → ℕ → Look → TextUnit
-variable from n (Look.Settled f) = TextUnit.Ends (Stop.Variable f) from n
-variable from n Look.Undecided = TextUnit.Undecided
+unfoldable pub variable : ℕ → ℕ → Option Follow → TextUnit
+variable from n (Some f) = TextUnit.Ends (Stop.Variable f) from n
+variable from n None = TextUnit.Undecided
 
 unfoldable pub name : Bool → ℕ → ℕ → List ℕ → TextUnit
 name end from n [] = variable from n (follow end [])

@@ -24,13 +24,6 @@ pub enum Follow {
     Property,
 }
 
-// A look at what follows, which may lie past the part.
-#[derive(Clone, Copy)]
-pub enum Look {
-    Settled(Follow),
-    Undecided,
-}
-
 // The blanks before a closing label.
 #[derive(Clone, Copy)]
 pub enum Indentation {

@@ -1,6 +1,5 @@
--- `text::scan_label` meets its contract: the loop keeps `Lining`. Assumes nothing.
-use Prim.Native.Nat.{◌-◌}
-use lib.ListN.{length}
+-- All bytes up to a place are text. Assumes nothing.
+use Rattle.std.proofs.Common.{length, ◌-◌}
 use Rattle.text.proofs.Lines.{Lining}
 use Rattle.text.proofs.scan_label.Given as goal
 

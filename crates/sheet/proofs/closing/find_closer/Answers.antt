@@ -1,6 +1,5 @@
 -- `sheet::closing::find_closer` meets its contract: the loop keeps `Finding`. Assumes nothing.
-use Prim.Native.Nat.{◌-◌}
-use borrow.Author.Rules.{rules}
+
 use Rattle.sheet.proofs.Turns.{finding}
 use Rattle.sheet.proofs.closing.find_closer.Goals as goal
 
@@ -19,8 +18,8 @@ loop-i-preserved c = search finding
 pub returns-then-end : goal.returns-then-end
 returns-then-end c = search finding
 
-pub returns : goal.returns
-returns c = search finding
+pub returns-else-end : goal.returns-else-end
+returns-else-end c = search finding
 
 pub overflow_add-result : goal.overflow_add-result
 overflow_add-result c = search finding

@@ -1,6 +1,6 @@
 -- `sheet::closing::find_closer` meets its contract: the loop keeps `Finding`. Assumes nothing.
-use Prim.Native.Nat.{◌-◌}
-use lib.ListN.{length}
+
+use Rattle.std.proofs.Common.{length, ◌-◌}
 use Rattle.sheet.proofs.Turns.{Finding}
 use Rattle.sheet.proofs.closing.find_closer.Given as goal
 
