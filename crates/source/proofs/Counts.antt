@@ -4,18 +4,23 @@ use Rattle.std.specs.Prelude.{if◌then◌else◌}
 use mathlib.Core.Path.{◌≡◌, refl, sym, ap, ◌∙◌}
 use mathlib.Core.Bool.{Bool, true, false, not, false≢true}
 use mathlib.Core.List.{List, [], ◌∷◌, ◌++◌}
-use Prim.Native.Nat.{ℕ, zero, suc, ◌+◌, ◌-◌, ◌<◌, ◌≤◌}
+use Prim.Native.Nat.{ℕ, zero, suc, ◌+◌, ◌-◌, ◌*◌, ◌/◌, ◌<◌, ◌≤◌}
 use native.Mathlib.Omega.{arith}
 use native.Mathlib.Nat.{add-zero, le_refl}
 use native.Mathlib.Numerals.{unary_clauses}
 use lib.Dec.{eqb, ltb}
+use Rattle.std.specs.Int.{from_bool}
+use Rattle.std.specs.List.{sum_by}
+use Rattle.std.proofs.lemmas.List.Recursion.{is_sum_by}
+use Rattle.std.proofs.lemmas.List.Sums.{sum_by-cons}
+use Rattle.std.specs.Simd.{first_chunks}
 use lib.ListN.{length, get_or, take, drop, length-drop, take-append-drop, length-append, drop_of_length-le}
 use lib.Seq.{take-add, drop-drop, take_all, take-suc, length-take-le, get_or-drop}
 use borrow.Author.Tests.{eq-eqb, ne_eqb, not-true, not-false, eqb-false, ltb-true, ltb-false}
 use Rattle.byte.specs.Words.{every}
 use Rattle.byte.specs.Bytes.{is_no_break}
 use Rattle.source.specs.Cursor.{passed_byte, passed}
-use Rattle.source.specs.Code.{Reaches, breaks, Unbroken, LineStart}
+use Rattle.source.specs.Code.{Reaches, breaks, Unbroken, LineStart, is_not}
 use Rattle.source.specs.declared.Span.{Span}
 use Rattle.byte.proofs.Tests.{&&-left, &&-right}
 use Rattle.byte.proofs.Words.{drop-one, every_append, every_get_d}
@@ -40,64 +45,52 @@ breaks_take (suc n) (b ∷ xs) = go (eqb b 10) (breaks_take n xs)
     go true h = omega arith
     go false h = omega arith
 
--- of m bytes from `at` on, j are looked at, up to the place i, and n of them are LFs
-pub record Counting (part : List ℕ) (at m n j i : ℕ) : Type 0 where
-  pub fits : at + m ≤ length part
-  pub inside : j ≤ m
-  pub few : n ≤ j
-  pub place : i ≡ at + j
-  pub same : n ≡ breaks (take j (drop at part))
+-- what a byte adds
+abbrev pub one_break : ℕ → ℕ
+one_break b = from_bool (eqb b 10)
 
-module _ (part : List ℕ) (at m : ℕ) where
-  pub counting_first : (i : ℕ) → i ≡ at + 0 → at + m ≤ length part → Counting part at m 0 0 i
-  unfolding breaks
-  counting_first i e h = record { fits = h; inside = omega arith; few = omega arith; place = e; same = refl }
+pub breaks_sum : (xs : List ℕ) → sum_by one_break xs ≡ breaks xs
+unfolding breaks
+breaks_sum xs = sym (is_sum_by breaks one_break refl (λ b ys. go (eqb b 10) ys) xs)
+  where
+    go : (t : Bool) (ys : List ℕ) → (if t then suc (breaks ys) else breaks ys) ≡ from_bool t + breaks ys
+    go true ys = omega arith
+    go false ys = omega arith
 
-  module _ (n j i : ℕ) (c : Counting part at m n j i) where
-    pub counting_end : m ≤ j → n ≡ breaks (take m (drop at part))
-    counting_end h =
-        let all : j ≡ m = omega (arith, c.inside) in
-        rw all at c.same
+breaks_few : (xs : List ℕ) → breaks xs ≤ length xs
+breaks_few xs =
+    let all : take (length xs) xs ≡ xs = take_all (length xs) xs (le_refl (length xs)) in
+    rw all at (breaks_take (length xs) xs)
 
-    -- the next l bytes have k LFs
-    module _ (next after : ℕ) where
-      pub counting_block : (k l : ℕ) → l ≤ m - j → k ≡ breaks (take l (drop i part)) → after ≡ n + k → next ≡ i + l → Counting part at m after (j + l) next
-      counting_block k l h e f g =
-          let first : breaks (take j (drop at part)) ≡ n = sym c.same in
-          let others : breaks (take l (drop (at + j) part)) ≡ k = rw (← c.place) (sym e) in
-          let sum : after ≡ breaks (take (j + l) (drop at part)) = f ∙ rw (take-add j l (drop at part), drop-drop j at part, breaks_append (take j (drop at part)) (take l (drop (at + j) part)), first, others) in
-          record { fits = c.fits; inside = omega (arith, c.inside); few = omega (arith, c.few, breaks_take l (drop i part)); place = omega (arith, c.place); same = sum }
+pub breaks_fit : (xs : List ℕ) (top : ℕ) → length xs < top → sum_by one_break xs < top
+breaks_fit xs top h = rw (breaks_sum xs) (omega (arith, breaks_few xs))
 
-      module _ (h : j < m) (g : next ≡ i + 1) where
-        byte : i < length part
-        byte = omega (arith, c.fits, c.place)
+-- the blocks of a part and the bytes after them
+blocks_sum : (n k : ℕ) (xs : List ℕ) → sum_by breaks (first_chunks n k xs) ≡ breaks (take (k * n) xs)
+unfolding breaks
+blocks_sum n zero xs =
+    let z : 0 * n ≡ 0 = omega arith in
+    rw z refl
+blocks_sum n (suc k) xs =
+    let place : suc k * n ≡ n + k * n = omega arith in
+    sum_by-cons breaks (take n xs) (first_chunks n k (drop n xs))
+    ∙ rw (place, take-add n (k * n) xs, breaks_append (take n xs) (take (k * n) (drop n xs))) (ap (λ r. breaks (take n xs) + r) (blocks_sum n k (drop n xs)))
 
-        pub counting_break : get_or part i 0 ≡ 10 → after ≡ n + 1 → Counting part at m after (j + 1) next
-        unfolding breaks
-        counting_break b e = counting_block 1 1 (omega arith) (rw (drop-one part i byte, eq-eqb (get_or part i 0) 10 b)) e g
+module _ (part : List ℕ) (blocks : List (List ℕ)) (b : blocks ≡ first_chunks 64 (length part / 64) part) where
+  pub blocks_fit : length part < 4294967296 → sum_by breaks blocks < 4294967296
+  blocks_fit h = rw (b, blocks_sum 64 (length part / 64) part) (omega (arith, breaks_take (length part / 64 * 64) part))
 
-        pub counting_other : (get_or part i 0 ≡ 10 → ⊥) → after ≡ n → Counting part at m after (j + 1) next
-        unfolding breaks
-        counting_other b e = counting_block 0 1 (omega arith) (rw (drop-one part i byte, ne_eqb (get_or part i 0) 10 b)) (omega arith) g
+  module _ (rest : List ℕ) (n k : ℕ) (r : rest ≡ drop (length part / 64 * 64) part) (e : n ≡ sum_by breaks blocks) (f : k ≡ breaks rest) where
+    pub breaks_all : n + k ≡ breaks part
+    breaks_all =
+        let first : n ≡ breaks (take (length part / 64 * 64) part) = e ∙ rw (b, blocks_sum 64 (length part / 64) part) refl in
+        let others : k ≡ breaks (drop (length part / 64 * 64) part) = f ∙ rw r refl in
+        let whole : breaks part ≡ breaks (take (length part / 64 * 64) part) + breaks (drop (length part / 64 * 64) part) =
+        rw (take-append-drop (length part / 64 * 64) part) at (breaks_append (take (length part / 64 * 64) part) (drop (length part / 64 * 64) part)) in
+        omega (arith, first, others, whole)
 
-pub counting_next : (at j : ℕ) → at + (j + 1) ≡ at + j + 1
-counting_next at j = omega arith
-
-pub ruleset counting = (counting_first, counting_end, counting_block, counting_break, counting_other, counting_next)
-
--- of a whole part
-pub breaks_first : (part : List ℕ) → Counting part 0 (length part) 0 0 0
-breaks_first part = counting_first part 0 (length part) 0 refl (omega arith)
-
-module _ (part : List ℕ) (n i : ℕ) (c : Counting part 0 (length part) n i i) where
-  pub breaks_all : length part ≤ i → n ≡ breaks part
-  breaks_all h = rw (take_all i part h) at c.same
-
-  -- what a block adds has room
-  pub breaks_room : (k l : ℕ) → l ≤ length part - i → k ≡ breaks (take l (drop i part)) → length part < 4294967296 → n + k < 4294967296
-  breaks_room k l h e small = omega (arith, c.few, c.inside, breaks_take l (drop i part))
-
-pub ruleset counted = (breaks_first, breaks_all, breaks_room)
+    pub breaks_room : length part < 4294967296 → n + k < 4294967296
+    breaks_room h = omega (arith, breaks_all, breaks_few part)
 
 -- the walk back to the start of the last line
 module _ (part : List ℕ) where
@@ -185,7 +178,11 @@ pub passed_same : (part : List ℕ) (p : Span) (start : ℕ) → LineStart part 
 passed_same part p start s e = sym (passed_unbroken p part (rw e at s.last.clear))
 
 -- both ways of `past`
-module _ (part : List ℕ) (p : Span) (hit : Bool) (has : hit ≡ not (every is_no_break part)) where
+module _ (part : List ℕ) (p : Span) (hit : Bool) (answer : hit ≡ not (every (is_not 10) part)) where
+  has : hit ≡ not (every is_no_break part)
+  unfolding is_no_break
+  has = answer
+
   pub passed_clear : not hit ≡ true
       → record { line = p.line; column = p.column + length part; position = p.position + length part }
       ≡ passed p part

@@ -1,5 +1,6 @@
 pub mod Runs
 pub mod Blocks
+pub mod Places
 pub mod Marks
 pub mod Searches
 pub mod Cursor

@@ -9,7 +9,9 @@ use native.Mathlib.Omega.{arith}
 use native.Mathlib.Nat.{suc-mul, suc-add, zero-add, mul-one}
 use lib.Dec.{eqb}
 use lib.ListN.{length, get_or, take, drop, length-drop}
-use lib.Seq.{length-take-le}
+use lib.Seq.{length-take-le, take_all}
+use Rattle.std.specs.Int.{from_le_bytes}
+use Rattle.std.proofs.Common.{w64, subst}
 use lib.Count.{count_trailing_zeros, under, trailing_le}
 use lib.Pow.{pow-add}
 use lib.Bits.{bit_and, bit_or, bit_xor, and_block, or_block, xor_block, and_le_l, and_le_r, or_lt, xor_lt}
@@ -183,54 +185,36 @@ first_mark test (b ∷ bs) = go (test b) (first_mark test bs)
 
 -- ---- the functions
 
-module _ (src : List ℕ) (at : ℕ) (h : at + 8 ≤ length src) where
-  block_length : length (take 8 (drop at src)) ≡ 8
-  block_length = length-take-le 8 (drop at src) (rw (length-drop at src) (omega arith))
+module _ (bs : List ℕ) (size : length bs ≡ 8) where
+  eight : bs ≡ get_or bs 0 0 ∷ get_or bs 1 0 ∷ get_or bs 2 0 ∷ get_or bs 3 0 ∷ get_or bs 4 0 ∷ get_or bs 5 0 ∷ get_or bs 6 0 ∷ get_or bs 7 0 ∷ []
+  eight = sym (take_all 8 bs (omega arith)) ∙ eight_bytes bs 0 (omega arith)
 
-  pub word_eight : (a b c d e f g i : ℕ)
-      → (a ≡ get_or src at 0) × (a ≤ 255) → (b ≡ get_or src (at + 1) 0) × (b ≤ 255)
-      → (c ≡ get_or src (at + 2) 0) × (c ≤ 255) → (d ≡ get_or src (at + 3) 0) × (d ≤ 255)
-      → (e ≡ get_or src (at + 4) 0) × (e ≤ 255) → (f ≡ get_or src (at + 5) 0) × (f ≤ 255)
-      → (g ≡ get_or src (at + 6) 0) × (g ≤ 255) → (i ≡ get_or src (at + 7) 0) × (i ≤ 255)
-      → Word (take 8 (drop at src)) (a + b * 0x100 + c * 0x10000 + d * 0x1000000
-      + e * 0x100000000 + f * 0x10000000000 + g * 0x1000000000000 + i * 0x100000000000000)
+  word_is : from_le_bytes w64 bs ≡ word_of bs
   unfolding word_of
-  word_eight a b c d e f g i pa pb pc pd pe pf pg pi =
-      rw (
-        eight_bytes src at h,
-        ← pa.0,
-        ← pb.0,
-        ← pc.0,
-        ← pd.0,
-        ← pe.0,
-        ← pf.0,
-        ← pg.0,
-        ← pi.0,
-      )
-      (record {
-        number = omega arith;
-        small =
-            small pa.1 (small pb.1 (small pc.1 (small pd.1
-            (small pe.1 (small pf.1 (small pg.1 (small pi.1 Small.none)))))));
-      })
-    where
-      small : {b : ℕ} {bs : List ℕ} → b ≤ 255 → Small bs → Small (b ∷ bs)
-      small {b} h s = Small.more {b = b} (omega (arith, h)) s
+  word_is =
+      let sum : from_le_bytes w64 bs ≡ word_of (get_or bs 0 0 ∷ get_or bs 1 0 ∷ get_or bs 2 0 ∷ get_or bs 3 0 ∷ get_or bs 4 0 ∷ get_or bs 5 0 ∷ get_or bs 6 0 ∷ get_or bs 7 0 ∷ []) = omega arith in
+      sum ∙ ap word_of (sym eight)
 
-  pub marks_word : (c v w r : ℕ) → Word (take 8 (drop at src)) v → (w ≡ repeated 8 c) × (c < 256)
+  all_small : ((i : ℕ) → get_or bs i 0 < 256) → Small bs
+  all_small h =
+      let sum : Small (get_or bs 0 0 ∷ get_or bs 1 0 ∷ get_or bs 2 0 ∷ get_or bs 3 0 ∷ get_or bs 4 0 ∷ get_or bs 5 0 ∷ get_or bs 6 0 ∷ get_or bs 7 0 ∷ []) =
+      Small.more (h 0) (Small.more (h 1) (Small.more (h 2) (Small.more (h 3) (Small.more (h 4) (Small.more (h 5) (Small.more (h 6) (Small.more (h 7) Small.none))))))) in
+      subst Small (sym eight) sum
+
+  pub marks_word : (c v w r : ℕ) → v ≡ from_le_bytes w64 bs → ((i : ℕ) → get_or bs i 0 < 256) → (w ≡ repeated 8 c) × (c < 256)
       → r ≡ bit_and (bit_xor v w) (repeated 8 127) + repeated 8 127
       → bit_and (18446744073709551615 - bit_or r (bit_xor v w)) 9259542123273814144
-      ≡ word_of (marks_of (is_not c) (take 8 (drop at src)))
+      ≡ word_of (marks_of (is_not c) bs)
   unfolding repeated
-  marks_word c v w r p q e =
+  marks_word c v w r p h q e =
       let full : repeated 8 255 ≡ 18446744073709551615 = refl in
       let tops : repeated 8 128 ≡ 9259542123273814144 = refl in
-      rw (e, p.number, q.0, ← full, ← tops)
-      (rw block_length at (marked_word c q.1 (take 8 (drop at src)) p.small))
+      rw (e, p, word_is, q.0, ← full, ← tops)
+      (rw size at (marked_word c q.1 bs (all_small h)))
 
-  pub marks_run : (test : ℕ → Bool) (m : ℕ) → m ≡ word_of (marks_of test (take 8 (drop at src)))
-      → count_trailing_zeros 64 m / 8 ≡ run test (take 8 (drop at src))
-  marks_run test m e = rw e (rw block_length at (first_mark test (take 8 (drop at src))))
+  pub marks_run : (test : ℕ → Bool) (m : ℕ) → m ≡ word_of (marks_of test bs)
+      → count_trailing_zeros 64 m / 8 ≡ run test bs
+  marks_run test m e = rw e (rw size at (first_mark test bs))
 
 pub marks_four : (bs : List ℕ) (w x y z k l m n : ℕ) → k ≡ word_of (marks_of (is_not w) bs)
     → l ≡ word_of (marks_of (is_not x) bs) → m ≡ word_of (marks_of (is_not y) bs) → n ≡ word_of (marks_of (is_not z) bs)
@@ -257,7 +241,7 @@ module _ (test : ℕ → Bool) (src : List ℕ) (at i m : ℕ) (p : Passing test
   passing_marks k q =
       let inside : i + 8 ≤ length src = omega arith in
       passing_part test src at i p k (omega (arith, q.1))
-      (omega (arith, q.0, marks_run src i inside test m e, run_take test (drop i src) 8))
+      (omega (arith, q.0, marks_run (take 8 (drop i src)) (length-take-le 8 (drop i src) (rw (length-drop i src) (omega arith))) test m e, run_take test (drop i src) 8))
 
   pub passing_unmarked : m ≡ 0 → Passing test src at (i + 8)
   unfolding count_trailing_zeros

@@ -30,3 +30,7 @@ module _ (test : ℕ → Bool) (src : List ℕ) (at : ℕ) where
       passing_on t = record { inside = omega arith; same = p.same ∙ rw (drop-one src i h, ← f, not-false flag t) (omega arith) }
 
 pub ruleset passing = (passing_first, passing_end, passing_stop, passing_on)
+
+-- a run that is gone on with from a place on the way ends where it does
+pub passing_run : (test : ℕ → Bool) (src : List ℕ) (at i r : ℕ) → Passing test src at i → RunEnd test src i r → RunEnd test src at r
+passing_run test src at i r p e = record { place = e.place ∙ sym p.same; inside = e.inside }

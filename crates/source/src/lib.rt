@@ -2,13 +2,13 @@
 // Of the Rust: state/source.rs, and `peek_identifier` of mod.rs. A cursor is a value beside the lent bytes.
 #![tactic(auto)]
 
-ghost use Rattle.std.specs.Prelude.{◌≡◌, not, ◌+◌, ◌<◌, ◌≤◌, length, take, drop};
+ghost use Rattle.std.specs.Prelude.{◌≡◌, ℕ, Bool, not, ◌+◌, ◌<◌, ◌≤◌, length, take, drop};
 ghost use Rattle.byte.specs.Words.{every};
 ghost use Rattle.byte.specs.Bytes.{is_identifier, is_no_break, is_none_of};
 ghost use Rattle.source.specs.Cursor.{passed_byte, passed};
 ghost use Rattle.source.specs.Code.{Reaches, breaks, Unbroken, LineStart, RunEnd, Passing, IdentifierEnd};
 ghost use Rattle.source.specs.Identifiers.{identifier_at};
-ghost use Rattle.source.specs.Code.{word_of, marks_of};
+ghost use Rattle.source.specs.Code.{word_of, marks_of, is_not};
 
 mod words;
 
@@ -20,59 +20,57 @@ pub struct Span {
     pub position: u32,
 }
 
-// Whether an LF stands among 8 bytes.
-fn break_in_8(src: &[u8], at: usize) -> bool
-    requires { at + 8 ≤ length src.now }
-    ensures { result ≡ not (every is_no_break (take 8 (drop at src.now))) }
+// The first place from `at` on whose byte fails a test; the end where there is none.
+pub fn end_of<F: Fn(u8) -> bool>(src: &[u8], at: usize, test: F) -> usize
+    requires inside { at ≤ length src.now }
+    requires callable { F.IsAlwaysCallable test }
+    ensures { (class : ℕ → Bool) → ((b : ℕ) (r : Bool) → F.post test b r → r ≡ class b) → RunEnd class src.now at result }
 {
-    let mut hit = false;
-    let mut j = 0;
-    while j < 8 {
-        hit = hit | (src[at + j] == b'\n');
-        j += 1;
-    }
-    hit
+    let passed = src[at..].iter().position(|b| !test(*b));
+    at + passed.unwrap_or(src.len() - at)
 }
 
-// From `at` on past blocks of 8 bytes, up to one with an LF or to fewer than 8.
-fn break_blocks(src: &[u8], at: usize) -> usize
-    requires { at ≤ length src.now }
-    ensures { Passing is_no_break src.now at result }
+// Whether a byte stands in a part.
+fn has(part: &[u8], c: u8) -> bool
+    ensures { result ≡ not (every (is_not c) part.now) }
 {
-    let mut i = at;
-    while 8 <= src.len() - i {
-        if break_in_8(src, i) {
-            return i;
-        }
-        i += 8;
-    }
-    i
+    part.contains(&c)
+}
+
+// From `at` on past blocks of N bytes, up to one with the byte `c` or to fewer than N.
+pub fn pass_blocks<const N: usize>(src: &[u8], at: usize, c: u8) -> usize
+    requires inside { at ≤ length src.now }
+    requires size { (0 < N) × (N < 9223372036854775808) }
+    ensures { Passing (is_not c) src.now at result }
+{
+    let (blocks, _) = src[at..].as_chunks::<N>();
+    let passed = blocks.iter().position(
+        |block| -> bool
+            ensures { result ≡ not (every (is_not c) block.now) }
+        { has(block, c) },
+    );
+    at + passed.unwrap_or(blocks.len()) * N
 }
 
 // The first LF from `at` on; the end where there is none.
+#[tactic(auto, using(crate::proofs::Runs::passing_run), unfolding(byte::specs::Bytes::is_no_break))]
 pub fn break_end(src: &[u8], at: usize) -> usize
     requires { at ≤ length src.now }
     ensures { RunEnd is_no_break src.now at result }
 {
-    let mut i = break_blocks(src, at);
-    while i < src.len() {
-        if !byte::is_no_break(src[i]) {
-            return i;
-        }
-        i += 1;
-    }
-    i
+    let i = pass_blocks::<8>(src, at, b'\n');
+    end_of(src, i, byte::is_no_break)
 }
 
 // The top bit of each of eight bytes that is one of four.
-fn stop_marks(src: &[u8], at: usize, w: u8, x: u8, y: u8, z: u8) -> u64
-    requires { at + 8 ≤ length src.now }
-    ensures { result ≡ word_of (marks_of (is_none_of w x y z) (take 8 (drop at src.now))) }
+#[tactic(auto, using(crate::proofs::Marks::marks_four))]
+fn stop_marks(block: &[u8; 8], w: u8, x: u8, y: u8, z: u8) -> u64
+    ensures { result ≡ word_of (marks_of (is_none_of w x y z) block.now) }
 {
-    words::marks(src, at, w)
-        | words::marks(src, at, x)
-        | words::marks(src, at, y)
-        | words::marks(src, at, z)
+    words::marks(block, w)
+        | words::marks(block, x)
+        | words::marks(block, y)
+        | words::marks(block, z)
 }
 
 // From `at` on past blocks of 8 bytes, up to one of the four bytes or to fewer than 8.
@@ -80,15 +78,14 @@ fn stop_blocks(src: &[u8], at: usize, w: u8, x: u8, y: u8, z: u8) -> usize
     requires { at ≤ length src.now }
     ensures { Passing (is_none_of w x y z) src.now at result }
 {
-    let mut i = at;
-    while 8 <= src.len() - i {
-        let m = stop_marks(src, i, w, x, y, z);
+    let (blocks, _) = src[at..].as_chunks::<8>();
+    for (k, block) in blocks.iter().enumerate() {
+        let m = stop_marks(block, w, x, y, z);
         if m != 0 {
-            return i + words::before(m);
+            return at + k * 8 + words::before(m);
         }
-        i += 8;
     }
-    i
+    at + blocks.len() * 8
 }
 
 // The first place from `at` on where one of four bytes stands; the end where there is none.
@@ -96,17 +93,12 @@ pub fn stop_end(src: &[u8], at: usize, w: u8, x: u8, y: u8, z: u8) -> usize
     requires { at ≤ length src.now }
     ensures { RunEnd (is_none_of w x y z) src.now at result }
 {
-    let mut i = stop_blocks(src, at, w, x, y, z);
-    while i < src.len() {
-        if !byte::is_none_of(w, x, y, z, src[i]) {
-            return i;
-        }
-        i += 1;
-    }
-    i
+    let i = stop_blocks(src, at, w, x, y, z);
+    end_of(src, i, |b| byte::is_none_of(w, x, y, z, b))
 }
 
 // The cursor past one byte.
+#[tactic(auto, using(crate::proofs::Cursor::passing_byte))]
 pub fn past_byte(p: Span, b: u8) -> Span
     requires { Reaches p 1 }
     ensures { result ≡ passed_byte p b }
@@ -125,120 +117,57 @@ pub fn past_byte(p: Span, b: u8) -> Span
     }
 }
 
-// The LFs among 64 bytes: eight bits hold their number.
-fn breaks_in_64(part: &[u8], at: usize) -> u8
-    requires { at + 64 ≤ length part.now }
-    ensures { result ≡ breaks (take 64 (drop at part.now)) }
+// The LFs of a short part: eight bits hold their number, so that many bytes are counted at once.
+fn breaks_in(part: &[u8]) -> u8
+    requires { length part.now < 256 }
+    ensures { result ≡ breaks part.now }
 {
-    let mut n = 0u8;
-    let mut j = 0;
-    while j < 64 {
-        if part[at + j] == b'\n' {
-            n += 1;
-        }
-        j += 1;
-    }
-    n
+    part.iter().map(|b| u8::from(*b == b'\n')).sum()
 }
 
-// The LFs of a part, by blocks of 64 bytes and then one by one.
+// The LFs of a part, by blocks of 64 bytes and the bytes after them.
 fn breaks(part: &[u8]) -> u32
     requires { length part.now < 4294967296 }
     ensures { result ≡ breaks part.now }
 {
-    let mut n = 0u32;
-    let mut i = 0;
-    while 64 <= part.len() - i {
-        n += breaks_in_64(part, i) as u32;
-        i += 64;
-    }
-    while i < part.len() {
-        if part[i] == b'\n' {
-            n += 1;
-        }
-        i += 1;
-    }
-    n
+    let (blocks, rest) = part.as_chunks::<64>();
+    let whole: u32 = blocks
+        .iter()
+        .map(
+            |block| -> u32
+                ensures { result ≡ breaks block.now }
+            { u32::from(breaks_in(block)) },
+        )
+        .sum();
+    whole + u32::from(breaks_in(rest))
 }
 
 // From the end back past blocks of 8 bytes, up to one with an LF or to fewer than 8.
 fn last_block(part: &[u8]) -> usize
     ensures { Unbroken part.now result }
 {
-    let mut i = part.len();
-    while 8 <= i {
-        if break_in_8(part, i - 8) {
-            return i;
-        }
-        i -= 8;
-    }
-    i
+    let (_, blocks) = part.as_rchunks::<8>();
+    let passed = blocks.iter().rev().position(|block| has(block, b'\n'));
+    part.len() - passed.unwrap_or(blocks.len()) * 8
 }
 
 // The place after the last LF of a part; 0 where there is none.
 fn line_start(part: &[u8]) -> usize
     ensures { LineStart part.now result }
 {
-    let mut i = last_block(part);
-    while 0 < i {
-        if part[i - 1] == b'\n' {
-            return i;
-        }
-        i -= 1;
-    }
-    0
-}
-
-// Whether an LF stands among 16 bytes.
-fn break_in_16(part: &[u8], at: usize) -> bool
-    requires { at + 16 ≤ length part.now }
-    ensures { result ≡ not (every is_no_break (take 16 (drop at part.now))) }
-{
-    let mut hit = false;
-    let mut j = 0;
-    while j < 16 {
-        hit = hit | (part[at + j] == b'\n');
-        j += 1;
-    }
-    hit
-}
-
-// Whether a part has an LF, by blocks of 16 bytes: the last block lies over the one before.
-fn break_in_long(part: &[u8]) -> bool
-    requires { 16 ≤ length part.now }
-    ensures { result ≡ not (every is_no_break part.now) }
-{
-    let last = part.len() - 16;
-    let mut i = 0usize;
-    while i < last {
-        if break_in_16(part, i) {
-            return true;
-        }
-        i += 16;
-    }
-    break_in_16(part, last)
-}
-
-// Whether a part has an LF.
-fn has_break(part: &[u8]) -> bool
-    ensures { result ≡ not (every is_no_break part.now) }
-{
-    if part.len() < 8 {
-        return break_end(part, 0) != part.len();
-    }
-    if part.len() < 16 {
-        return break_in_8(part, 0) | break_in_8(part, part.len() - 8);
-    }
-    break_in_long(part)
+    let end = last_block(part);
+    let passed = part[..end].iter().rev().position(|b| *b == b'\n');
+    end - passed.unwrap_or(end)
 }
 
 // The cursor past all bytes of a part: if it has LFs they are counted, and only the last line's bytes make its column.
+#[tactic(auto, using(crate::proofs::Counts::passing_lines))]
 pub fn past(part: &[u8], p: Span) -> Span
     requires { Reaches p (length part.now) }
     ensures { result ≡ passed p part.now }
 {
     let len = part.len() as u32;
-    if !has_break(part) {
+    if !has(part, b'\n') {
         return Span {
             line: p.line,
             column: p.column + len,
@@ -258,17 +187,11 @@ pub fn run_end(src: &[u8], at: usize) -> usize
     requires { at ≤ length src.now }
     ensures { RunEnd is_identifier src.now at result }
 {
-    let mut i = at;
-    while i < src.len() {
-        if !byte::is_identifier(src[i]) {
-            return i;
-        }
-        i += 1;
-    }
-    i
+    end_of(src, at, byte::is_identifier)
 }
 
 // Where the identifier at a place ends: at the place itself where there is none.
+#[tactic(auto, using(crate::proofs::Identifiers::identifiers))]
 pub fn identifier_end(src: &[u8], at: usize) -> usize
     requires { at ≤ length src.now }
     ensures { IdentifierEnd src.now at result }
@@ -283,6 +206,7 @@ pub fn identifier_end(src: &[u8], at: usize) -> usize
 }
 
 // The identifier at a place: that part of the source itself, empty where there is none or the place lies past the end.
+#[tactic(auto, using(crate::proofs::Identifiers::identifiers))]
 pub fn peek_identifier(src: &[u8], at: usize) -> &[u8]
     ensures { result.now ≡ identifier_at src.now at }
 {
