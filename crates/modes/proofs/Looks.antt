@@ -1,12 +1,13 @@
 -- LookingForVarname, LookingForProperty and VarOffset on each way through them, and runs of identifier bytes. Assumes nothing.
-use Rattle.std.specs.Prelude.{if◌then◌else◌}
+use Rattle.std.specs.Prelude.{if◌then◌else◌, ◌⊎◌}
+use mathlib.Core.Logic.{inl, inr}
 use Prim.Native.Nat.{ℕ, suc, ◌+◌, ◌-◌, ◌^◌, ◌<◌, ◌≤◌}
 use mathlib.Core.Path.{◌≡◌, sym, ◌∙◌}
-use mathlib.Core.Bool.{Bool, true, false, not, ◌||◌}
+use mathlib.Core.Bool.{Bool, true, false, not}
 use mathlib.Core.List.{List, [], ◌∷◌}
 use native.Mathlib.Omega.{arith}
 use native.Mathlib.Numerals.{add-one}
-use lib.Dec.{eqb, ltb, leb-suc-suc}
+use lib.Dec.{ltb, leb-suc-suc}
 use lib.ListN.{length, get_or, drop, length-drop, drop_of_length-le}
 use lib.Seq.{drop-drop}
 use borrow.Author.Tests.{ne_eqb, lt-ltb, le-ltb, not-true, not-false}
@@ -103,11 +104,17 @@ module _ (src : List ℕ) (at : ℕ) where
   unfolding is_bracketed
   is_bracketed_past h = rw (drop_of_length-le src h)
 
-  pub is_bracketed_here : at < length src → (eqb (get_or src at 0) 91 || eqb (get_or src at 0) 125) ≡ is_bracketed (drop at src)
-  unfolding is_bracketed
-  is_bracketed_here h = rw (drop-one src at h)
+  module _ (h : at < length src) where
+    pub is_bracketed_here : (get_or src at 0 ≡ 91) ⊎ (get_or src at 0 ≡ 125) → true ≡ is_bracketed (drop at src)
+    unfolding is_bracketed
+    is_bracketed_here (inl b) = rw (drop-one src at h, b)
+    is_bracketed_here (inr b) = rw (drop-one src at h, b)
 
-pub ruleset bracketed = (is_bracketed_past, is_bracketed_here)
+    pub is_bracketed_other : (get_or src at 0 ≡ 91 → ⊥) → (get_or src at 0 ≡ 125 → ⊥) → false ≡ is_bracketed (drop at src)
+    unfolding is_bracketed
+    is_bracketed_other b c = rw (drop-one src at h, ne_eqb (get_or src at 0) 91 b, ne_eqb (get_or src at 0) 125 c)
+
+pub ruleset bracketed = (is_bracketed_past, is_bracketed_here, is_bracketed_other)
 
 -- ---- LookingForVarname
 
