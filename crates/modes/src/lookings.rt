@@ -5,21 +5,21 @@ ghost use Rattle.byte.specs.Refusals.{no_property};
 ghost use Rattle.outcome.specs.Lookings.{named, is_bracketed, varname, looking_for_varname, arrow_head, questioned, looking_for_property, var_offset};
 ghost use Rattle.plan.specs.Code.{Here, Plans};
 
-use outcome::{Change, Run};
+use outcome::Change;
 use plan::Plan;
 use state::Frame;
 
-// How many identifier bytes come, with the one before `at`.
+// How many identifier bytes come, with the one before `at`; none where the part may end within them.
 #[tactic(auto, using(crate::proofs::Looks::naming))]
-pub fn named_at(src: &[u8], at: usize, end: bool) -> Run
+pub fn named_at(src: &[u8], at: usize, end: bool) -> Option<usize>
     requires { Here src.now at }
     ensures { result ≡ named end 1 (drop at src.now) }
 {
     let n = source::run_end(src, at);
     if n < src.len() || end {
-        return Run::Over(n - at + 1);
+        return Some(n - at + 1);
     }
-    Run::Undecided
+    None
 }
 
 // Whether `[` or `}` stands at a place.
@@ -34,7 +34,7 @@ fn is_bracketed(src: &[u8], at: usize) -> bool
 #[tactic(auto, using(crate::proofs::Looks::varnames))]
 fn varname(src: &[u8], at: usize, k: usize, end: bool) -> Plan
     requires { (at + k ≤ length src.now) × (length src.now ≤ 65536) }
-    ensures { Plans src.now end (varname at (drop at src.now) (Run.Over k)) result }
+    ensures { Plans src.now end (varname at (drop at src.now) (Some k)) result }
 {
     if is_bracketed(src, at + k) {
         return plan::one_token(token::IDENTIFIER, at, k, Change::Swap(Frame::Scripting));
@@ -55,8 +55,8 @@ pub fn looking_for_varname(src: &[u8], at: usize, end: bool) -> Plan
         return plan::goes(at, Change::Swap(Frame::Scripting));
     }
     match named_at(src, at + 1, end) {
-        Run::Over(k) => varname(src, at, k, end),
-        Run::Undecided => Plan::Wait,
+        Some(k) => varname(src, at, k, end),
+        None => Plan::Wait,
     }
 }
 
@@ -122,8 +122,8 @@ pub fn looking_for_property(src: &[u8], at: usize, end: bool) -> Plan
         return no_property(at);
     }
     match named_at(src, at + 1, end) {
-        Run::Over(k) => plan::one_token(token::IDENTIFIER, at, k, Change::Leave),
-        Run::Undecided => Plan::Wait,
+        Some(k) => plan::one_token(token::IDENTIFIER, at, k, Change::Leave),
+        None => Plan::Wait,
     }
 }
 

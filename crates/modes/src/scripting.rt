@@ -11,7 +11,7 @@ ghost use Rattle.plan.specs.Code.{Here, Plans};
 ghost use Rattle.modes.specs.Code.{finished_plan, NoLiteral};
 
 use crate::lookings;
-use outcome::{Change, Run};
+use outcome::Change;
 use plan::{Plan, Work};
 use state::Frame;
 
@@ -35,8 +35,8 @@ fn word(src: &[u8], at: usize, end: bool) -> Plan
     ensures { Plans src.now end (word at (named end 1 (drop (at + 1) src.now))) result }
 {
     match lookings::named_at(src, at + 1, end) {
-        Run::Over(k) => plan::goes(at + k, Change::Keep),
-        Run::Undecided => Plan::Wait,
+        Some(k) => plan::goes(at + k, Change::Keep),
+        None => Plan::Wait,
     }
 }
 

@@ -8,8 +8,8 @@ returns-then-src-at c = search looking_for_varnames
 pub returns-then-not-is_start : goal.returns-then-not-is_start
 returns-then-not-is_start c = search looking_for_varnames
 
-pub returns-in-Over : goal.returns-in-Over
-returns-in-Over c = search looking_for_varnames
+pub returns-in-Some : goal.returns-in-Some
+returns-in-Some c = search looking_for_varnames
 
-pub returns-in-Undecided : goal.returns-in-Undecided
-returns-in-Undecided c = search looking_for_varnames
+pub returns-in-None : goal.returns-in-None
+returns-in-None c = search looking_for_varnames
