@@ -1,16 +1,17 @@
 -- The search for a comment's end, run by run: the loop of `comment_end` keeps `Searching`. Assumes nothing.
 use Rattle.std.specs.Prelude.{if◌then◌else◌}
 use Prim.Native.Nat.{ℕ, suc, ◌+◌, ◌-◌, ◌<◌, ◌≤◌}
-use mathlib.Core.Path.{◌≡◌, sym, ap, ◌∙◌}
-use mathlib.Core.Bool.{Bool, true, false, ◌&&◌, ◌||◌}
+use mathlib.Core.Path.{◌≡◌, refl, sym, ap, ◌∙◌}
+use mathlib.Core.Bool.{Bool, true, false, not, ◌&&◌, ◌||◌}
 use mathlib.Core.List.{List, [], ◌∷◌}
 use native.Mathlib.Omega.{arith}
 use native.Mathlib.Nat.{add-zero}
 use lib.Dec.{eqb}
 use lib.ListN.{length, get_or, drop, drop_of_length-le}
 use lib.Seq.{drop-drop}
+use Rattle.byte.specs.Bytes.{is_none_of}
 use Rattle.byte.specs.Words.{run}
-use Rattle.source.specs.Code.{RunEnd}
+use Rattle.source.specs.Code.{RunEnd, Passing, is_not}
 use Rattle.byte.proofs.Tests.{choice, none_of}
 use Rattle.byte.proofs.Words.{drop-one}
 use Rattle.outcome.specs.declared.CommentEnd.{CommentEnd}
@@ -47,6 +48,29 @@ pub ruleset endings = (ends_single, ends_multi)
 pub inner_arm : (kind arm : CommentKind) (src : List ℕ) (at r : ℕ) → kind ≡ arm → RunEnd (is_inner arm) src at r
     → RunEnd (is_inner kind) src at r
 inner_arm kind arm src at r e h = rw e h
+
+-- a byte that is no `*`, as the search by blocks asks it
+run_no_star : (xs : List ℕ) → run (is_not 42) xs ≡ run (is_none_of 42 42 42 42) xs
+unfolding run is_none_of
+run_no_star [] = refl
+run_no_star (b ∷ rest) = go (eqb b 42) (run_no_star rest)
+  where
+    go : (t : Bool) → run (is_not 42) rest ≡ run (is_none_of 42 42 42 42) rest
+        → (if not t then suc (run (is_not 42) rest) else 0)
+        ≡ (if not t && not t && not t && not t then suc (run (is_none_of 42 42 42 42) rest) else 0)
+    go true e = refl
+    go false e = rw e
+
+-- where the run after the blocks ends, the whole run does
+pub inner_blocks : (kind : CommentKind) (src : List ℕ) (at i r : ℕ) → kind ≡ CommentKind.MultiLine → Passing (is_not 42) src at i
+    → RunEnd (is_none_of 42 42 42 42) src i r → RunEnd (is_inner kind) src at r
+unfolding is_inner
+inner_blocks kind src at i r e p h =
+    let same : at + run (is_none_of 42 42 42 42) (drop at src) ≡ i + run (is_none_of 42 42 42 42) (drop i src) =
+    rw (← run_no_star (drop at src), ← run_no_star (drop i src)) p.same in
+    rw e (record { place = h.place ∙ sym same; inside = h.inside })
+
+pub ruleset inners = (inner_arm, inner_blocks)
 
 inner_ends : (kind : CommentKind) (b : ℕ) (rest : List ℕ) → is_inner kind b ≡ true → ends kind b rest ≡ false
 unfolding is_inner ends
@@ -89,60 +113,48 @@ pub record Searching (kind : CommentKind) (end : Bool) (src : List ℕ) (at k i 
   pub same : comment_end kind end k (drop (at + k) src) ≡ comment_end kind end (i - at) (drop i src)
 
 module _ (kind : CommentKind) (end : Bool) (src : List ℕ) (at k : ℕ) where
-  pub searching_first : at + k ≤ length src → Searching kind end src at k (at + k)
+  ran : (i : ℕ) → Searching kind end src at k i → (n : ℕ) → RunEnd (is_inner kind) src i n → Searching kind end src at k n
+  ran i s n p =
+      let size : run (is_inner kind) (drop i src) ≡ n - i = omega (arith, p.place) in
+      let place : i + (n - i) ≡ n = omega (arith, p.place) in
+      let count : i - at + (n - i) ≡ n - at = omega (arith, p.place, s.order) in
+      record {
+        order = omega (arith, p.place, s.order);
+        inside = p.inside;
+        same = s.same ∙ comment_end_run kind end (i - at) (drop i src) ∙ rw (size, drop-drop (n - i) i src, place, count);
+      }
+
+  pub searching_first : at + k ≤ length src → (n : ℕ) → RunEnd (is_inner kind) src (at + k) n → Searching kind end src at k n
   searching_first h =
       let z : at + k - at ≡ k = omega arith in
-      record { order = omega arith; inside = h; same = rw z }
+      ran (at + k) (record { order = omega arith; inside = h; same = rw z })
 
-  module _ (i : ℕ) (s : Searching kind end src at k i) where
-    pub searching_over : (r : CommentEnd) → length src ≤ i → r ≡ (if end then CommentEnd.Over else CommentEnd.Undecided)
-        → r ≡ comment_end kind end k (drop (at + k) src)
+  module _ (n : ℕ) (s : Searching kind end src at k n) where
+    pub searching_over : length src ≤ n → end ≡ true → CommentEnd.Over ≡ comment_end kind end k (drop (at + k) src)
     unfolding comment_end
-    searching_over r h e = e ∙ sym (s.same ∙ rw (drop_of_length-le src h))
+    searching_over h e = sym (s.same ∙ rw (drop_of_length-le src h, e))
 
-    module _ (n : ℕ) (p : RunEnd (is_inner kind) src i n) where
-      ran : Searching kind end src at k n
-      ran =
-          let size : run (is_inner kind) (drop i src) ≡ n - i = omega (arith, p.place) in
-          let place : i + (n - i) ≡ n = omega (arith, p.place) in
-          let count : i - at + (n - i) ≡ n - at = omega (arith, p.place, s.order) in
-          record {
-            order = omega (arith, p.place, s.order);
-            inside = p.inside;
-            same = s.same ∙ comment_end_run kind end (i - at) (drop i src) ∙ rw (size, drop-drop (n - i) i src, place, count);
-          }
+    pub searching_cut : length src ≤ n → end ≡ false → CommentEnd.Undecided ≡ comment_end kind end k (drop (at + k) src)
+    unfolding comment_end
+    searching_cut h e = sym (s.same ∙ rw (drop_of_length-le src h, e))
 
-      pub searching_less : i < length src → n < length src → length src - (n + 1) < length src - i
-      searching_less h l = omega (arith, p.place)
+    pub searching_order : at ≤ n
+    searching_order = omega (arith, s.order)
 
-      pub searching_order : at ≤ n
-      searching_order = omega (arith, ran.order)
+    module _ (h : n < length src) (flag : Bool) (f : flag ≡ ends kind (get_or src n 0) (drop (n + 1) src)) where
+      pub searching_found : flag ≡ true → CommentEnd.At (n - at) ≡ comment_end kind end k (drop (at + k) src)
+      unfolding comment_end
+      searching_found t = sym (s.same ∙ rw (drop-one src n h, ← f, t))
 
-      module _ (h : n < length src) (flag : Bool) (f : flag ≡ ends kind (get_or src n 0) (drop (n + 1) src)) where
-        pub searching_found : flag ≡ true → CommentEnd.At (n - at) ≡ comment_end kind end k (drop (at + k) src)
-        unfolding comment_end
-        searching_found t = sym (ran.same ∙ rw (drop-one src n h, ← f, t))
+      pub searching_on : flag ≡ false → (m : ℕ) → RunEnd (is_inner kind) src (n + 1) m → Searching kind end src at k m
+      unfolding comment_end
+      searching_on t =
+          let count : suc (n - at) ≡ n + 1 - at = omega (arith, s.order) in
+          ran (n + 1)
+          (record {
+            order = omega (arith, s.order);
+            inside = omega arith;
+            same = s.same ∙ rw (drop-one src n h, ← f, t, count);
+          })
 
-        pub searching_on : flag ≡ false → Searching kind end src at k (n + 1)
-        unfolding comment_end
-        searching_on t =
-            let count : suc (n - at) ≡ n + 1 - at = omega (arith, ran.order) in
-            record {
-              order = omega (arith, ran.order);
-              inside = omega arith;
-              same = ran.same ∙ rw (drop-one src n h, ← f, t, count);
-            }
-
-  pub searching_none : (i : ℕ) → Searching kind end src at k i → (n : ℕ) → RunEnd (is_inner kind) src i n → (r : CommentEnd) → length src ≤ n
-      → r ≡ (if end then CommentEnd.Over else CommentEnd.Undecided) → r ≡ comment_end kind end k (drop (at + k) src)
-  searching_none i s n p r h e = searching_over n (ran i s n p) r h e
-
-pub ruleset searching = (
-  searching_first,
-  searching_over,
-  searching_less,
-  searching_order,
-  searching_none,
-  searching_found,
-  searching_on,
-)
+pub ruleset searching = (searching_first, searching_over, searching_cut, searching_order, searching_found, searching_on)

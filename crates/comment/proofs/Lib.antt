@@ -1,3 +1,2 @@
-pub mod Stars
 pub mod Ends
 pub mod Comments

@@ -2,11 +2,8 @@
 // Of the Rust: the rows of `scripting` that read comments. Here the LF is not taken, `/*/` is open, and an open `/*` is refused.
 #![tactic(auto)]
 
-ghost use Rattle.std.specs.Prelude.{◌≡◌, ◌+◌, ◌≤◌, ◌<◌, not, length, get_or, take, drop, if◌then◌else◌};
-ghost use Rattle.byte.specs.Words.{every};
-ghost use Rattle.source.specs.Code.{Passing, RunEnd};
-ghost use Rattle.outcome.specs.declared.CommentEnd.{CommentEnd};
-ghost use Rattle.outcome.specs.declared.CommentKind.{CommentKind};
+ghost use Rattle.std.specs.Prelude.{◌≡◌, ◌+◌, ◌≤◌, ◌<◌, length, get_or, drop};
+ghost use Rattle.source.specs.Code.{RunEnd};
 ghost use Rattle.outcome.specs.Comments.{is_next, ends, end_taken, comment_end, endless, comment_at, slash, hash};
 ghost use Rattle.plan.specs.Code.{Plans};
 ghost use Rattle.comment.specs.Code.{is_inner};
@@ -15,16 +12,15 @@ use outcome::{Change, CommentEnd, CommentKind};
 use plan::Plan;
 
 // Whether this byte stands at a place.
+#[tactic(auto, using(crate::proofs::Ends::nexts))]
 fn is_next(src: &[u8], at: usize, c: u8) -> bool
     ensures { result ≡ is_next c (drop at src.now) }
 {
-    if src.len() <= at {
-        return false;
-    }
-    src[at] == c
+    src.get(at) == Some(&c)
 }
 
 // Whether a comment has its end at a place.
+#[tactic(auto, using(crate::proofs::Ends::endings))]
 fn ends_at(kind: CommentKind, src: &[u8], at: usize) -> bool
     requires { (at < length src.now) × (length src.now ≤ 65536) }
     ensures { result ≡ ends kind (get_or src.now at 0) (drop (at + 1) src.now) }
@@ -42,36 +38,8 @@ fn ends_at(kind: CommentKind, src: &[u8], at: usize) -> bool
     }
 }
 
-// Whether a `*` stands among 16 bytes.
-fn star_in_16(src: &[u8], at: usize) -> bool
-    requires { at + 16 ≤ length src.now }
-    ensures { result ≡ not (every (is_inner CommentKind.MultiLine) (take 16 (drop at src.now))) }
-{
-    let mut hit = false;
-    let mut j = 0;
-    while j < 16 {
-        hit = hit | (src[at + j] == b'*');
-        j += 1;
-    }
-    hit
-}
-
-// From `at` on past blocks of 16 bytes, up to one with a `*` or to fewer than 16.
-fn star_blocks(src: &[u8], at: usize) -> usize
-    requires { at ≤ length src.now }
-    ensures { Passing (is_inner CommentKind.MultiLine) src.now at result }
-{
-    let mut i = at;
-    while 16 <= src.len() - i {
-        if star_in_16(src, i) {
-            return i;
-        }
-        i += 16;
-    }
-    i
-}
-
 // Where the bytes from `at` on that begin no end are over.
+#[tactic(auto, using(crate::proofs::Ends::inners), unfolding(crate::specs::Code::is_inner))]
 fn inner_end(kind: CommentKind, src: &[u8], at: usize) -> usize
     requires { at ≤ length src.now }
     ensures { RunEnd (is_inner kind) src.now at result }
@@ -79,42 +47,34 @@ fn inner_end(kind: CommentKind, src: &[u8], at: usize) -> usize
     match kind {
         CommentKind::SingleLine => source::stop_end(src, at, b'\n', b'?', b'\n', b'?'),
         CommentKind::MultiLine => {
-            let i = star_blocks(src, at);
+            let i = source::pass_blocks::<16>(src, at, b'*');
             source::stop_end(src, i, b'*', b'*', b'*', b'*')
         }
     }
 }
 
-// What a text without an end tells: over, or undecided while more may come.
-fn no_end(end: bool) -> CommentEnd
-    ensures { result ≡ (if end then CommentEnd.Over else CommentEnd.Undecided) }
+// How many bytes of the comment at a place come before its end, `k` of them passed.
+#[tactic(auto, using(crate::proofs::Ends::searching))]
+fn comment_end(kind: CommentKind, src: &[u8], at: usize, k: usize, end: bool) -> CommentEnd
+    requires { (at + k ≤ length src.now) × (length src.now ≤ 65536) }
+    ensures { result ≡ comment_end kind end k (drop (at + k) src.now) }
 {
+    let mut n = inner_end(kind, src, at + k);
+    // A loop by hand: an iterator over the bytes would ask each of them, and the search for an end passes blocks.
+    while n < src.len() {
+        if ends_at(kind, src, n) {
+            return CommentEnd::At(n - at);
+        }
+        n = inner_end(kind, src, n + 1);
+    }
     if end {
         return CommentEnd::Over;
     }
     CommentEnd::Undecided
 }
 
-// How many bytes of the comment at a place come before its end, `k` of them passed.
-fn comment_end(kind: CommentKind, src: &[u8], at: usize, k: usize, end: bool) -> CommentEnd
-    requires { (at + k ≤ length src.now) × (length src.now ≤ 65536) }
-    ensures { result ≡ comment_end kind end k (drop (at + k) src.now) }
-{
-    let mut i = at + k;
-    while i < src.len() {
-        let n = inner_end(kind, src, i);
-        if src.len() <= n {
-            return no_end(end);
-        }
-        if ends_at(kind, src, n) {
-            return CommentEnd::At(n - at);
-        }
-        i = n + 1;
-    }
-    no_end(end)
-}
-
 // How many bytes of its end a comment takes.
+#[tactic(auto, using(crate::proofs::Comments::taken_arm), unfolding(outcome::specs::Comments::end_taken))]
 fn end_taken(kind: CommentKind) -> usize
     ensures { result ≡ end_taken kind }
 {
@@ -125,6 +85,7 @@ fn end_taken(kind: CommentKind) -> usize
 }
 
 // The comment at a place that has no end: it is over with the source, but an open `/*` is refused there.
+#[tactic(auto, using(crate::proofs::Comments::endlesses))]
 fn endless(kind: CommentKind, src: &[u8], at: usize, end: bool) -> Plan
     requires { (at ≤ length src.now) × (length src.now ≤ 65536) }
     ensures { Plans src.now end (endless kind at (drop at src.now)) result }
@@ -141,12 +102,12 @@ fn endless(kind: CommentKind, src: &[u8], at: usize, end: bool) -> Plan
 }
 
 // The comment at a place, `k` bytes of which were passed.
+#[tactic(auto, using(crate::proofs::Comments::commenting))]
 fn comment(kind: CommentKind, src: &[u8], at: usize, k: usize, end: bool) -> Plan
     requires { (at + k ≤ length src.now) × (length src.now ≤ 65536) }
     ensures { Plans src.now end (comment_at kind k end at (drop at src.now) (drop (at + k) src.now)) result }
 {
-    let found = comment_end(kind, src, at, k, end);
-    match found {
+    match comment_end(kind, src, at, k, end) {
         CommentEnd::At(j) => {
             let len = j + end_taken(kind);
             plan::one_token(token::COMMENT, at, len, Change::Keep)
@@ -157,25 +118,22 @@ fn comment(kind: CommentKind, src: &[u8], at: usize, k: usize, end: bool) -> Pla
 }
 
 // The `/` at a place: with another `/` or a `*` it begins a comment.
+#[tactic(auto, using(crate::proofs::Comments::slashes))]
 pub fn slash(src: &[u8], at: usize, end: bool) -> Plan
     requires { (at < length src.now) × (length src.now ≤ 65536) }
     ensures { Plans src.now end (slash end at (drop at src.now) (drop (at + 1) src.now)) result }
 {
     let i = at + 1;
-    if src.len() <= i {
-        return plan::ending(end, plan::goes(i, Change::Keep));
+    match src.get(i) {
+        Some(b'/') => comment(CommentKind::SingleLine, src, at, 2, end),
+        Some(b'*') => comment(CommentKind::MultiLine, src, at, 2, end),
+        Some(_) => plan::goes(i, Change::Keep),
+        None => plan::ending(end, plan::goes(i, Change::Keep)),
     }
-    let b = src[i];
-    if b == b'/' {
-        return comment(CommentKind::SingleLine, src, at, 2, end);
-    }
-    if b == b'*' {
-        return comment(CommentKind::MultiLine, src, at, 2, end);
-    }
-    plan::goes(i, Change::Keep)
 }
 
 // The `#` at a place: it begins a comment, but `#[` does not.
+#[tactic(auto, using(crate::proofs::Comments::hashes))]
 pub fn hash(src: &[u8], at: usize, end: bool) -> Plan
     requires { (at < length src.now) × (length src.now ≤ 65536) }
     ensures { Plans src.now end (hash end at (drop at src.now) (drop (at + 1) src.now)) result }

@@ -1,16 +1,20 @@
 -- The tag after a `<` and the first tag of a text, on each way through the code. Assumes nothing.
-use Rattle.std.specs.Prelude.{if◌then◌else◌}
+use Rattle.std.specs.Prelude.{if◌then◌else◌, cond, ◌==◌, zip, codes}
+use Rattle.std.specs.List.{list_any}
+use Rattle.std.specs.Char.{to_ascii_lowercase}
 use Prim.Native.Nat.{ℕ, suc, ◌+◌, ◌-◌, ◌<◌, ◌≤◌}
 use mathlib.Core.Path.{◌≡◌, refl, sym, ap, ◌∙◌}
-use mathlib.Core.Bool.{Bool, true, false}
+use mathlib.Core.Bool.{Bool, true, false, not, ◌&&◌, ◌||◌, false≢true}
 use mathlib.Core.List.{List, [], ◌∷◌}
 use native.Mathlib.Omega.{arith}
-use native.Mathlib.Nat.{add-zero}
+use native.Mathlib.Nat.{add-zero, le_refl}
 use native.Mathlib.Numerals.{add-one}
-use lib.ListN.{length, get_or, drop, drop_of_length-le}
-use lib.Seq.{drop-drop}
-use borrow.Author.Tests.{eq-eqb, ne_eqb, le-leb, lt-leb}
-use Rattle.byte.specs.Words.{◌is◌, bytes, run}
+use lib.Dec.{eqb, ltb}
+use lib.ListN.{length, get_or, take, drop, drop_of_length-le, length-drop}
+use lib.Seq.{drop-drop, take_all, get_or-drop}
+use borrow.Author.Tests.{ne_eqb, le-leb, lt-leb, ltb-true, ltb-false, eqb-true}
+use Rattle.byte.specs.Bytes.{is_none_of}
+use Rattle.byte.specs.Words.{bytes, run}
 use Rattle.source.specs.Code.{RunEnd}
 use Rattle.byte.proofs.Tests.{choice, none_of}
 use Rattle.byte.proofs.Words.{drop-one}
@@ -18,22 +22,7 @@ use Rattle.outcome.specs.declared.OpenTagKind.{OpenTagKind}
 use Rattle.outcome.specs.declared.Tag.{Tag}
 use Rattle.outcome.specs.declared.Tagged.{Tagged}
 use Rattle.outcome.specs.Initials.{lower, full_tag, open_tag, tag, or_later, tagged, tag_kind, tag_length}
-use Rattle.initial.specs.Code.{is_no_less}
-
-module _ (b : ℕ) where
-  pub lower_below : b < 65 → b ≡ lower b
-  unfolding lower
-  lower_below h = rw (lt-leb 65 b h)
-
-  pub lower_above : 90 < b → b ≡ lower b
-  unfolding lower
-  lower_above h = rw (le-leb 65 b (omega arith), lt-leb b 90 h)
-
-  pub lower_capital : 65 ≤ b → b ≤ 90 → b + 32 ≡ lower b
-  unfolding lower
-  lower_capital l h = rw (le-leb 65 b l, le-leb b 90 h)
-
-pub ruleset lowers = (lower_below, lower_above, lower_capital)
+use Rattle.initial.specs.Code.{is_no_less, LessAt}
 
 -- nothing is left, where a tag would be the short one
 abbrev pub last_tag : Bool → Tag
@@ -47,26 +36,82 @@ last_tag_more end e = rw e
 
 pub ruleset last_tags = (last_tag_end, last_tag_more)
 
--- the letter a, and the letters after it
-module _ (a : ℕ) (letters src : List ℕ) (n : ℕ) (end : Bool) where
-  pub full_tag_past : (r : Tag) → length src ≤ n → r ≡ last_tag end → r ≡ full_tag end (a ∷ letters) (drop n src)
+-- what the code asks of a byte and its letter
+abbrev differs : ℕ × ℕ → Bool
+differs p = not (p.1 == to_ascii_lowercase p.0)
+
+lowered : (b : ℕ) → to_ascii_lowercase b ≡ lower b
+unfolding lower
+lowered b = go (ltb b 65) (ltb b 91) refl refl
+  where
+    go : (s t : Bool) → ltb b 65 ≡ s → ltb b 91 ≡ t → cond s b (cond t (b + 32) b) ≡ lower b
+    go true t e f = rw (lt-leb 65 b (ltb-true b 65 e))
+    go false true e f = rw (le-leb 65 b (ltb-false b 65 e), le-leb b 90 (omega (arith, ltb-true b 91 f)))
+    go false false e f = rw (le-leb 65 b (ltb-false b 65 e), lt-leb b 90 (omega (arith, ltb-false b 91 f)))
+
+module _ (end : Bool) where
+  letters_other : (letters xs : List ℕ) → list_any differs (zip xs letters) ≡ true → full_tag end letters xs ≡ Tag.Open OpenTagKind.Short
   unfolding full_tag
-  full_tag_past r past e = rw (drop_of_length-le src past) e
+  letters_other letters [] e = absurd (false≢true e)
+  letters_other [] (b ∷ rest) e = absurd (false≢true e)
+  letters_other (a ∷ letters) (b ∷ rest) e =
+      rw (← lowered b) (go (eqb a (to_ascii_lowercase b)) e (letters_other letters rest))
+    where
+      go : (t : Bool) → (not t || list_any differs (zip rest letters)) ≡ true
+          → (list_any differs (zip rest letters) ≡ true → full_tag end letters rest ≡ Tag.Open OpenTagKind.Short)
+          → (if t then full_tag end letters rest else Tag.Open OpenTagKind.Short) ≡ Tag.Open OpenTagKind.Short
+      go true f later = later f
+      go false f later = refl
 
-  module _ (h : n < length src) (b : ℕ) (e : b ≡ lower (get_or src n 0)) where
-    pub full_tag_on : (r : Tag) → b ≡ a → r ≡ full_tag end letters (drop (n + 1) src) → r ≡ full_tag end (a ∷ letters) (drop n src)
-    unfolding full_tag
-    full_tag_on r f g = g ∙ rw (drop-one src n h, ← e, eq-eqb a b (sym f))
+  letters_cut : (letters xs : List ℕ) → list_any differs (zip xs letters) ≡ false → length xs < length letters
+      → full_tag end letters xs ≡ last_tag end
+  unfolding full_tag
+  letters_cut [] xs e h = absurd (omega arith)
+  letters_cut (a ∷ letters) [] e h = refl
+  letters_cut (a ∷ letters) (b ∷ rest) e h =
+      rw (← lowered b) (go (eqb a (to_ascii_lowercase b)) e (λ f. letters_cut letters rest f (omega arith)))
+    where
+      go : (t : Bool) → (not t || list_any differs (zip rest letters)) ≡ false
+          → (list_any differs (zip rest letters) ≡ false → full_tag end letters rest ≡ last_tag end)
+          → (if t then full_tag end letters rest else Tag.Open OpenTagKind.Short) ≡ last_tag end
+      go true f later = later f
+      go false f later = absurd (false≢true (sym f))
 
-    pub full_tag_other : (b ≡ a → ⊥) → Tag.Open OpenTagKind.Short ≡ full_tag end (a ∷ letters) (drop n src)
-    unfolding full_tag
-    full_tag_other f = rw (drop-one src n h, ← e, ne_eqb a b (λ z. f (sym z)))
+  letters_whole : (letters xs : List ℕ) → list_any differs (zip xs letters) ≡ false → length letters ≤ length xs
+      → full_tag end letters xs ≡ Tag.Open OpenTagKind.Full
+  unfolding full_tag
+  letters_whole [] xs e h = refl
+  letters_whole (a ∷ letters) [] e h = absurd (omega arith)
+  letters_whole (a ∷ letters) (b ∷ rest) e h =
+      rw (← lowered b) (go (eqb a (to_ascii_lowercase b)) e (λ f. letters_whole letters rest f (omega arith)))
+    where
+      go : (t : Bool) → (not t || list_any differs (zip rest letters)) ≡ false
+          → (list_any differs (zip rest letters) ≡ false → full_tag end letters rest ≡ Tag.Open OpenTagKind.Full)
+          → (if t then full_tag end letters rest else Tag.Open OpenTagKind.Short) ≡ Tag.Open OpenTagKind.Full
+      go true f later = later f
+      go false f later = absurd (false≢true (sym f))
 
-pub full_tag_whole : (end : Bool) (xs : List ℕ) → Tag.Open OpenTagKind.Full ≡ full_tag end [] xs
-unfolding full_tag
-full_tag_whole end xs = refl
+-- by what the code finds in the text after `<?`
+module _ (src : List ℕ) (n : ℕ) (end other : Bool)
+    (e : other ≡ list_any differs (zip (take (length src - n) (drop n src)) (codes "php"))) where
+  whole : take (length src - n) (drop n src) ≡ drop n src
+  whole = take_all (length src - n) (drop n src) (omega (arith, length-drop n src))
 
-pub ruleset full_tags = (full_tag_past, full_tag_on, full_tag_other, full_tag_whole)
+  pub full_tag-other : other ≡ true → Tag.Open OpenTagKind.Short ≡ full_tag end (bytes "php") (drop n src)
+  unfolding bytes
+  full_tag-other t = sym (letters_other end (codes "php") (drop n src) (rw whole at (sym e ∙ t)))
+
+  pub full_tag-cut : (r : Tag) → other ≡ false → length (take (length src - n) (drop n src)) < 3 → r ≡ last_tag end
+      → r ≡ full_tag end (bytes "php") (drop n src)
+  unfolding bytes
+  full_tag-cut r t h f = f ∙ sym (letters_cut end (codes "php") (drop n src) (rw whole at (sym e ∙ t)) (rw whole at h))
+
+  pub full_tag-whole : other ≡ false → 3 ≤ length (take (length src - n) (drop n src))
+      → Tag.Open OpenTagKind.Full ≡ full_tag end (bytes "php") (drop n src)
+  unfolding bytes
+  full_tag-whole t h = sym (letters_whole end (codes "php") (drop n src) (rw whole at (sym e ∙ t)) (rw whole at h))
+
+pub ruleset full_tags = (full_tag-other, full_tag-cut, full_tag-whole)
 
 module _ (src : List ℕ) (n : ℕ) (end : Bool) where
   pub open_tag_past : (r : Tag) → length src ≤ n → r ≡ last_tag end → r ≡ open_tag end (drop n src)
@@ -102,25 +147,38 @@ pub ruleset open_tags = (open_tag_past, open_tag-echo, open_tag-full)
 
 pub ruleset tags = (tag_end, tag_more, tag_open, tag_none)
 
--- the byte at n, and what stands at a `<`
-abbrev pub tag_from : List ℕ → ℕ → Bool → Tag
-tag_from src n end = if get_or src n 0 is "<" then tag end (drop (n + 1) src) else Tag.None
+-- a run stops at a byte that fails its test
+run_stops : (test : ℕ → Bool) (xs : List ℕ) → run test xs < length xs → test (get_or xs (run test xs) 0) ≡ false
+unfolding run
+run_stops test [] h = absurd (omega arith)
+run_stops test (b ∷ rest) h = go (test b) refl h (run_stops test rest)
+  where
+    go : (t : Bool) → test b ≡ t → (if t then suc (run test rest) else 0) < suc (length rest)
+        → (run test rest < length rest → test (get_or rest (run test rest) 0) ≡ false)
+        → test (get_or (b ∷ rest) (if t then suc (run test rest) else 0) 0) ≡ false
+    go true e k later = later (omega arith)
+    go false e k later = e
 
-module _ (src : List ℕ) (n : ℕ) (end : Bool) where
-  pub tag_from_less : (r : Tag) → get_or src n 0 ≡ 60 → r ≡ tag end (drop (n + 1) src) → r ≡ tag_from src n end
-  tag_from_less r b e = e ∙ rw b
+less_only : (b : ℕ) → is_no_less b ≡ false → b ≡ 60
+unfolding is_none_of
+less_only b e = go (eqb b 60) refl e
+  where
+    go : (t : Bool) → eqb b 60 ≡ t → (not t && not t && not t && not t) ≡ false → b ≡ 60
+    go true f g = eqb-true b 60 f
+    go false f g = absurd (false≢true (sym g))
 
-  pub tag_from_other : (get_or src n 0 ≡ 60 → ⊥) → Tag.None ≡ tag_from src n end
-  tag_from_other b = rw (ne_eqb (get_or src n 0) 60 b)
+-- the first `<` from a place on, where the code finds it
+module _ (src : List ℕ) (at n : ℕ) (p : RunEnd is_no_less src at n) where
+  pub less_none : length src ≤ n → RunEnd is_no_less src at (length src)
+  less_none h = let e : length src ≡ n = omega (arith, p.inside) in rw e p
 
-pub ruleset tag_froms = (tag_from_less, tag_from_other)
+  pub less_at : n < length src → LessAt src at n
+  less_at h =
+      let k = run is_no_less (drop at src) in
+      let few : k < length (drop at src) = rw length-drop (omega (arith, p.place)) in
+      record { first = p; inside = h; less = rw (p.place, ← get_or-drop at src k 0) (less_only (get_or (drop at src) k 0) (run_stops is_no_less (drop at src) few)) }
 
--- a byte that is no `<` leaves it to the rest, as a `<` without a tag does
-or_later_either : (less : Bool) (t : Tag) (n : ℕ) (later : Tagged)
-    → (if less then or_later t n later else later) ≡ or_later (if less then t else Tag.None) n later
-unfolding or_later
-or_later_either true t n later = refl
-or_later_either false t n later = refl
+pub ruleset less = (less_none, less_at)
 
 -- bytes that are no `<` leave it to the rest
 module _ (end : Bool) where
@@ -164,25 +222,32 @@ module _ (src : List ℕ) (end : Bool) (at : ℕ) where
         same = f.same ∙ tagged_run end i (drop i src) ∙ rw (size, drop-drop (n - i) i src, place);
       }
 
-  pub finding_first : at ≤ length src → (n : ℕ) → RunEnd is_no_less src at n → Finding src end at n
-  finding_first h = finding_run at (record { low = omega arith; inside = h; same = refl })
+  pub finding_first : at ≤ length src → Finding src end at at
+  finding_first h = record { low = omega arith; inside = h; same = refl }
 
-  module _ (i : ℕ) (f : Finding src end at i) where
-    pub finding_over : length src ≤ i → end ≡ true → Tagged.Over ≡ tagged end at (drop at src)
-    unfolding tagged
-    finding_over h t = sym (f.same ∙ rw (drop_of_length-le src h, t))
+  module _ (from : ℕ) (f : Finding src end at from) where
+    module _ (p : RunEnd is_no_less src from (length src)) where
+      done : Finding src end at (length src)
+      done = finding_run from f (length src) p
 
-    pub finding_more : length src ≤ i → end ≡ false → Tagged.Undecided ≡ tagged end at (drop at src)
-    unfolding tagged
-    finding_more h t = sym (f.same ∙ rw (drop_of_length-le src h, t))
+      ended : drop (length src) src ≡ []
+      ended = drop_of_length-le src (le_refl (length src))
 
-    module _ (h : i < length src) (t : Tag) (e : t ≡ tag_from src i end) where
+      pub finding_over : end ≡ true → Tagged.Over ≡ tagged end at (drop at src)
+      unfolding tagged
+      finding_over t = sym (done.same ∙ rw (ended, t))
+
+      pub finding_more : end ≡ false → Tagged.Undecided ≡ tagged end at (drop at src)
+      unfolding tagged
+      finding_more t = sym (done.same ∙ rw (ended, t))
+
+    module _ (i : ℕ) (p : LessAt src from i) (t : Tag) (e : t ≡ tag end (drop (i + 1) src)) where
+      there : Finding src end at i
+      there = finding_run from f i p.first
+
       turn : tagged end at (drop at src) ≡ or_later t i (tagged end (i + 1) (drop (i + 1) src))
       unfolding tagged
-      turn =
-          f.same
-          ∙ rw (drop-one src i h, e, add-one i)
-          (or_later_either (get_or src i 0 is "<") (tag end (drop (suc i) src)) i (tagged end (suc i) (drop (suc i) src)))
+      turn = there.same ∙ rw (drop-one src i p.inside, p.less, e, add-one i)
 
       pub finding_tag : (kind : OpenTagKind) → t ≡ Tag.Open kind → Tagged.At kind i ≡ tagged end at (drop at src)
       unfolding or_later
@@ -192,12 +257,9 @@ module _ (src : List ℕ) (end : Bool) (at : ℕ) where
       unfolding or_later
       finding_undecided g = sym (turn ∙ rw g)
 
-      past : t ≡ Tag.None → Finding src end at (i + 1)
+      pub finding_on : t ≡ Tag.None → Finding src end at (i + 1)
       unfolding or_later
-      past g = record { low = omega (arith, f.low); inside = omega arith; same = turn ∙ rw g }
-
-      pub finding_on : t ≡ Tag.None → (n : ℕ) → RunEnd is_no_less src (i + 1) n → Finding src end at n
-      finding_on g = finding_run (i + 1) (past g)
+      finding_on g = record { low = omega (arith, there.low); inside = omega (arith, p.inside); same = turn ∙ rw g }
 
 pub ruleset finding = (finding_first, finding_over, finding_more, finding_tag, finding_undecided, finding_on)
 

@@ -1,10 +1,12 @@
 -- The plans of the mode Initial, and what its search for a tag passes.
 --   is_no_less  a byte that begins no tag
+--   LessAt      the first `<` from a place on
 --   tag_plan    the text before a tag, if there is some, and the tag with its own span
 --   over_plan   the text that has no tag, up to its end
-use Rattle.std.specs.Prelude.{ℕ, ◌+◌, Bool, true}
+use Rattle.std.specs.Prelude.{ℕ, ◌+◌, ◌<◌, ◌≡◌, Bool, true, List, length, get_or}
 use Prim.Native.Char.{code}
 use Rattle.byte.specs.Bytes.{is_none_of}
+use Rattle.source.specs.Code.{RunEnd}
 use Rattle.state.specs.declared.Frame.{Frame}
 use Rattle.token.specs.Kinds.{inline_html}
 use Rattle.outcome.specs.declared.Change.{Change}
@@ -15,6 +17,12 @@ use Rattle.plan.specs.Code.{copied_draft, one_draft, parted_plan}
 
 abbrev pub is_no_less : ℕ → Bool
 is_no_less = is_none_of (code "<") (code "<") (code "<") (code "<")
+
+-- the first `<` from `at` on stands at n
+pub record LessAt (src : List ℕ) (at n : ℕ) : Type 0 where
+  pub first : RunEnd is_no_less src at n
+  pub inside : n < length src
+  pub less : get_or src n 0 ≡ code "<"
 
 abbrev pub tag_plan : ℕ → OpenTagKind → ℕ → Plan
 tag_plan at kind place =

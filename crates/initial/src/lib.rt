@@ -3,32 +3,22 @@
 // In order: the tag at a `<`; the first tag of a text; the plan.
 #![tactic(auto)]
 
-ghost use Rattle.std.specs.Prelude.{◌≡◌, ◌+◌, ◌≤◌, ◌<◌, length, get_or, drop, if◌then◌else◌};
-ghost use Rattle.byte.specs.Words.{◌is◌, bytes};
+ghost use Rattle.std.specs.Prelude.{◌≡◌, ◌+◌, ◌≤◌, ◌<◌, ◌==◌, not, length, drop, codes, zip, MatchOption, if◌then◌else◌};
+ghost use Rattle.std.specs.List.{list_any};
+ghost use Rattle.std.specs.Char.{to_ascii_lowercase};
+ghost use Rattle.byte.specs.Words.{bytes};
 ghost use Rattle.source.specs.Code.{RunEnd};
 ghost use Rattle.outcome.specs.declared.Tag.{Tag};
-ghost use Rattle.outcome.specs.Initials.{lower, full_tag, open_tag, tag, tagged, tag_kind, tag_length, initial};
+ghost use Rattle.outcome.specs.Initials.{full_tag, open_tag, tag, tagged, tag_kind, tag_length, initial};
 ghost use Rattle.plan.specs.Code.{Here, Plans};
-ghost use Rattle.initial.specs.Code.{is_no_less, tag_plan, over_plan};
+ghost use Rattle.initial.specs.Code.{is_no_less, LessAt, tag_plan, over_plan};
 
 use outcome::{Change, OpenTagKind, Tag, Tagged};
 use plan::{Plan, Work};
 use state::Frame;
 
-// A letter in lower case.
-fn lower(b: u8) -> u8
-    ensures { result ≡ lower b }
-{
-    if b < b'A' {
-        return b;
-    }
-    if b'Z' < b {
-        return b;
-    }
-    b + 32
-}
-
-// Nothing is left after `<?` or letters of the full tag.
+// The text ends after `<?` or letters of the full tag.
+#[tactic(auto, using(crate::proofs::Tags::last_tags))]
 fn last_tag(end: bool) -> Tag
     ensures { result ≡ if end then Tag.Open OpenTagKind.Short else Tag.Undecided }
 {
@@ -38,111 +28,83 @@ fn last_tag(end: bool) -> Tag
     Tag::Undecided
 }
 
-// After `<?ph`.
-fn third_letter(src: &[u8], at: usize, end: bool) -> Tag
-    ensures { result ≡ full_tag end (bytes "p") (drop at src.now) }
+// Whether a byte comes that is not its letter of `php`, in any case.
+fn is_other(rest: &[u8]) -> bool
+    ensures { result ≡ list_any (λ p. not (p.1 == to_ascii_lowercase p.0)) (zip rest.now (codes "php")) }
 {
-    if src.len() <= at {
-        return last_tag(end);
-    }
-    if lower(src[at]) == b'p' {
-        return Tag::Open(OpenTagKind::Full);
-    }
-    Tag::Open(OpenTagKind::Short)
-}
-
-// After `<?p`.
-fn second_letter(src: &[u8], at: usize, end: bool) -> Tag
-    ensures { result ≡ full_tag end (bytes "hp") (drop at src.now) }
-{
-    if src.len() <= at {
-        return last_tag(end);
-    }
-    if lower(src[at]) == b'h' {
-        return third_letter(src, at + 1, end);
-    }
-    Tag::Open(OpenTagKind::Short)
+    rest.iter()
+        .zip(b"php")
+        .any(|(b, letter)| *letter != b.to_ascii_lowercase())
 }
 
 // After `<?`, where no `=` stands.
+#[tactic(auto, using(crate::proofs::Tags::full_tags))]
 fn full_tag(src: &[u8], at: usize, end: bool) -> Tag
+    requires { at ≤ length src.now }
     ensures { result ≡ full_tag end (bytes "php") (drop at src.now) }
 {
-    if src.len() <= at {
+    let rest = &src[at..];
+    if is_other(rest) {
+        return Tag::Open(OpenTagKind::Short);
+    }
+    if rest.len() < 3 {
         return last_tag(end);
     }
-    if lower(src[at]) == b'p' {
-        return second_letter(src, at + 1, end);
-    }
-    Tag::Open(OpenTagKind::Short)
+    Tag::Open(OpenTagKind::Full)
 }
 
 // After `<?`.
+#[tactic(auto, using(crate::proofs::Tags::open_tags))]
 fn open_tag(src: &[u8], at: usize, end: bool) -> Tag
     ensures { result ≡ open_tag end (drop at src.now) }
 {
-    if src.len() <= at {
-        return last_tag(end);
+    match src.get(at) {
+        Some(b'=') => Tag::Open(OpenTagKind::Echo),
+        Some(_) => full_tag(src, at, end),
+        None => last_tag(end),
     }
-    if src[at] == b'=' {
-        return Tag::Open(OpenTagKind::Echo);
-    }
-    full_tag(src, at, end)
 }
 
 // After a `<`.
+#[tactic(auto, using(crate::proofs::Tags::tags))]
 fn tag_at(src: &[u8], at: usize, end: bool) -> Tag
     ensures { result ≡ tag end (drop at src.now) }
 {
-    if src.len() <= at {
-        if end {
-            return Tag::None;
-        }
-        return Tag::Undecided;
+    match src.get(at) {
+        Some(b'?') => open_tag(src, at + 1, end),
+        Some(_) => Tag::None,
+        None if end => Tag::None,
+        None => Tag::Undecided,
     }
-    if src[at] == b'?' {
-        return open_tag(src, at + 1, end);
-    }
-    Tag::None
 }
 
-// The tag that starts at n, if one does.
-fn tag_from(src: &[u8], n: usize, end: bool) -> Tag
-    requires { n < length src.now }
-    ensures { result ≡ if get_or src.now n 0 is "<" then tag end (drop (n + 1) src.now) else Tag.None }
-{
-    if src[n] == b'<' {
-        return tag_at(src, n + 1, end);
-    }
-    Tag::None
-}
-
-// The first `<` from `at` on; the end where there is none.
-fn next_less(src: &[u8], at: usize) -> usize
+// The first `<` from `at` on.
+#[tactic(auto, using(crate::proofs::Tags::less))]
+fn next_less(src: &[u8], at: usize) -> Option<usize>
     requires { at ≤ length src.now }
-    ensures { RunEnd is_no_less src.now at result }
+    ensures { MatchOption result (RunEnd is_no_less src.now at (length src.now)) (λ n. LessAt src.now at n) }
 {
-    source::stop_end(src, at, b'<', b'<', b'<', b'<')
+    let n = source::stop_end(src, at, b'<', b'<', b'<', b'<');
+    if n < src.len() {
+        return Some(n);
+    }
+    None
 }
 
 // The first tag from `at` on.
+#[tactic(auto, using(crate::proofs::Tags::finding))]
 fn find_tag(src: &[u8], at: usize, end: bool) -> Tagged
     requires { at ≤ length src.now }
     ensures { result ≡ tagged end at (drop at src.now) }
 {
-    let mut i = next_less(src, at);
-    while i < src.len() {
-        let t = tag_from(src, i, end);
-        match t {
-            Tag::Open(kind) => {
-                return Tagged::At { kind, place: i };
-            }
-            Tag::None => {}
-            Tag::Undecided => {
-                return Tagged::Undecided;
-            }
+    let mut from = at;
+    // A loop by hand: an iterator over the bytes would ask each of them, and the search for `<` passes eight at a time.
+    while let Some(i) = next_less(src, from) {
+        match tag_at(src, i + 1, end) {
+            Tag::Open(kind) => return Tagged::At { kind, place: i },
+            Tag::None => from = i + 1,
+            Tag::Undecided => return Tagged::Undecided,
         }
-        i = next_less(src, i + 1);
     }
     if end {
         return Tagged::Over;
@@ -150,7 +112,8 @@ fn find_tag(src: &[u8], at: usize, end: bool) -> Tagged
     Tagged::Undecided
 }
 
-// A tag's kind as a token.
+// A tag's kind as a token. This and the length are no methods: the type stands in the crate outcome, which holds no code.
+#[tactic(auto, using(crate::proofs::Tags::tag_kind_arm), unfolding(outcome::specs::Initials::tag_kind))]
 fn tag_kind(kind: OpenTagKind) -> u32
     ensures { result ≡ tag_kind kind }
 {
@@ -162,6 +125,7 @@ fn tag_kind(kind: OpenTagKind) -> u32
 }
 
 // How many bytes a tag has.
+#[tactic(auto, using(crate::proofs::Tags::tag_length_arm), unfolding(outcome::specs::Initials::tag_length))]
 fn tag_length(kind: OpenTagKind) -> usize
     ensures { (result ≡ tag_length kind) × (result ≤ 5) }
 {
@@ -173,6 +137,7 @@ fn tag_length(kind: OpenTagKind) -> usize
 }
 
 // The text from `at` up to the tag at `place`, if there is some, and the tag with its own span.
+#[tactic(auto, using(crate::proofs::Initials::plans))]
 fn tag_plan(at: usize, kind: OpenTagKind, place: usize) -> Plan
     requires { (at ≤ place) × (place ≤ 65536) }
     ensures { result ≡ tag_plan at kind place }
@@ -184,6 +149,7 @@ fn tag_plan(at: usize, kind: OpenTagKind, place: usize) -> Plan
 }
 
 // The text from `at` up to the end, which has no tag: it is written even when empty.
+#[tactic(auto, using(crate::proofs::Initials::plans))]
 fn over_plan(at: usize, hi: usize) -> Plan
     requires { at ≤ hi }
     ensures { result ≡ over_plan at hi }
@@ -198,12 +164,12 @@ fn over_plan(at: usize, hi: usize) -> Plan
 }
 
 // The step of the mode Initial.
+#[tactic(auto, using(crate::proofs::Initials::initials))]
 pub fn initial(src: &[u8], at: usize, end: bool) -> Plan
     requires { Here src.now at }
     ensures { Plans src.now end (initial end at (drop at src.now)) result }
 {
-    let found = find_tag(src, at, end);
-    match found {
+    match find_tag(src, at, end) {
         Tagged::At { kind, place } => tag_plan(at, kind, place),
         Tagged::Over => over_plan(at, src.len()),
         Tagged::Undecided => Plan::Wait,

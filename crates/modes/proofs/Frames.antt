@@ -1,5 +1,5 @@
 -- Scripting's table row by row, where no literal and no number starts. Assumes nothing.
-use Rattle.std.specs.Prelude.{if◌then◌else◌}
+use Rattle.std.specs.Prelude.{if◌then◌else◌, Option, Some, None}
 use Prim.Native.Nat.{ℕ, suc, ◌+◌, ◌<◌, ◌≤◌}
 use mathlib.Core.Path.{◌≡◌, refl}
 use mathlib.Core.Bool.{Bool, true, false}
@@ -14,7 +14,6 @@ use Rattle.byte.specs.declared.Octal.{Octal}
 use Rattle.byte.proofs.Words.{drop-one}
 use Rattle.state.specs.declared.Frame.{Frame}
 use Rattle.outcome.specs.declared.Change.{Change}
-use Rattle.outcome.specs.declared.Run.{Run}
 use Rattle.outcome.specs.Outcomes.{Outcome}
 use Rattle.outcome.specs.Lookings.{named}
 use Rattle.outcome.specs.Openings.{opening, opened}
@@ -57,13 +56,13 @@ module _ (src : List ℕ) (end : Bool) (at : ℕ) where
     unfolding close_tag
     close_tag_other b e = rw (drop-one src (at + 1) h, ne_eqb (get_or src (at + 1) 0) 62 b) (sign_plans src end at r e)
 
-  module _ (name : Run) (n : name ≡ named end 1 (drop (at + 1) src)) where
-    pub word_over : (k : ℕ) (r : Plan) → name ≡ Run.Over k → r ≡ goes_plan (at + k) Change.Keep
+  module _ (name : Option ℕ) (n : name ≡ named end 1 (drop (at + 1) src)) where
+    pub word_over : (k : ℕ) (r : Plan) → name ≡ Some k → r ≡ goes_plan (at + k) Change.Keep
         → Plans src end (word at (named end 1 (drop (at + 1) src))) r
     unfolding word
     word_over k r e p = rw (← n, e, p) (goes_plans src end (at + k) Change.Keep)
 
-    pub word_waits : name ≡ Run.Undecided → Plans src end (word at (named end 1 (drop (at + 1) src))) Plan.Wait
+    pub word_waits : name ≡ None → Plans src end (word at (named end 1 (drop (at + 1) src))) Plan.Wait
     unfolding word
     word_waits e = rw (← n, e) (wait_plans src end)
 

@@ -1,12 +1,13 @@
 -- LookingForVarname, LookingForProperty and VarOffset on each way through them, and runs of identifier bytes. Assumes nothing.
-use Rattle.std.specs.Prelude.{if◌then◌else◌}
+use Rattle.std.specs.Prelude.{if◌then◌else◌, ◌⊎◌, Option, Some, None}
+use mathlib.Core.Logic.{inl, inr}
 use Prim.Native.Nat.{ℕ, suc, ◌+◌, ◌-◌, ◌^◌, ◌<◌, ◌≤◌}
 use mathlib.Core.Path.{◌≡◌, sym, ◌∙◌}
-use mathlib.Core.Bool.{Bool, true, false, not, ◌||◌}
+use mathlib.Core.Bool.{Bool, true, false, not}
 use mathlib.Core.List.{List, [], ◌∷◌}
 use native.Mathlib.Omega.{arith}
 use native.Mathlib.Numerals.{add-one}
-use lib.Dec.{eqb, ltb, leb-suc-suc}
+use lib.Dec.{ltb, leb-suc-suc}
 use lib.ListN.{length, get_or, drop, length-drop, drop_of_length-le}
 use lib.Seq.{drop-drop}
 use borrow.Author.Tests.{ne_eqb, lt-ltb, le-ltb, not-true, not-false}
@@ -18,7 +19,6 @@ use Rattle.byte.proofs.Words.{drop-one}
 use Rattle.state.specs.declared.Frame.{Frame}
 use Rattle.token.specs.Kinds.{identifier, question_arrow, arrow}
 use Rattle.outcome.specs.declared.Change.{Change}
-use Rattle.outcome.specs.declared.Run.{Run}
 use Rattle.outcome.specs.Outcomes.{Outcome, goes, ending}
 use Rattle.outcome.specs.Lookings.{named, is_bracketed, varname, looking_for_varname, property, arrow_head, questioned, looking_for_property, var_offset}
 use Rattle.plan.specs.declared.Plan.{Plan}
@@ -28,8 +28,8 @@ use Rattle.plan.proofs.Plans.{token_plans, goes_plans, refused_plans, wait_plans
 -- ---- runs of identifier bytes
 
 pub named_run : (end : Bool) (k : ℕ) (xs : List ℕ)
-    → named end k xs ≡ (if ltb (run is_identifier xs) (length xs) then Run.Over (k + run is_identifier xs)
-    else if end then Run.Over (k + run is_identifier xs) else Run.Undecided)
+    → named end k xs ≡ (if ltb (run is_identifier xs) (length xs) then Some (k + run is_identifier xs)
+    else if end then Some (k + run is_identifier xs) else None)
 unfolding named run
 named_run end k [] =
     let z : k + 0 ≡ k = omega arith in
@@ -37,11 +37,11 @@ named_run end k [] =
 named_run end k (b ∷ rest) = go (is_identifier b) (named_run end (suc k) rest)
   where
     go : (t : Bool)
-        → named end (suc k) rest ≡ (if ltb (run is_identifier rest) (length rest) then Run.Over (suc k + run is_identifier rest)
-        else if end then Run.Over (suc k + run is_identifier rest) else Run.Undecided)
-        → (if t then named end (suc k) rest else Run.Over k)
-        ≡ (if ltb (if t then suc (run is_identifier rest) else 0) (suc (length rest)) then Run.Over (k + (if t then suc (run is_identifier rest) else 0))
-        else if end then Run.Over (k + (if t then suc (run is_identifier rest) else 0)) else Run.Undecided)
+        → named end (suc k) rest ≡ (if ltb (run is_identifier rest) (length rest) then Some (suc k + run is_identifier rest)
+        else if end then Some (suc k + run is_identifier rest) else None)
+        → (if t then named end (suc k) rest else Some k)
+        ≡ (if ltb (if t then suc (run is_identifier rest) else 0) (suc (length rest)) then Some (k + (if t then suc (run is_identifier rest) else 0))
+        else if end then Some (k + (if t then suc (run is_identifier rest) else 0)) else None)
     go true e =
         let n : suc k + run is_identifier rest ≡ k + suc (run is_identifier rest) = omega arith in
         e ∙ rw (leb-suc-suc (suc (run is_identifier rest)) (length rest), n)
@@ -53,7 +53,7 @@ module _ (src : List ℕ) (at : ℕ) (end : Bool) (here : Here src at) (n : ℕ)
   count : n - at + 1 ≡ 1 + run is_identifier (drop at src)
   count = omega (arith, e.place)
 
-  pub named_stops : n < length src → Run.Over (n - at + 1) ≡ named end 1 (drop at src)
+  pub named_stops : n < length src → Some (n - at + 1) ≡ named end 1 (drop at src)
   named_stops h =
       let inside : run is_identifier (drop at src) < length (drop at src) = rw (length-drop at src) (omega (arith, e.place)) in
       sym (named_run end 1 (drop at src) ∙ rw (lt-ltb (run is_identifier (drop at src)) (length (drop at src)) inside, ← count))
@@ -62,31 +62,31 @@ module _ (src : List ℕ) (at : ℕ) (end : Bool) (here : Here src at) (n : ℕ)
     whole : length (drop at src) ≤ run is_identifier (drop at src)
     whole = rw (length-drop at src) (omega (arith, e.place))
 
-    pub named_ends : end ≡ true → Run.Over (n - at + 1) ≡ named end 1 (drop at src)
+    pub named_ends : end ≡ true → Some (n - at + 1) ≡ named end 1 (drop at src)
     named_ends t = sym (named_run end 1 (drop at src) ∙ rw (le-ltb (run is_identifier (drop at src)) (length (drop at src)) whole, t, ← count))
 
-    pub named_waits : end ≡ false → Run.Undecided ≡ named end 1 (drop at src)
+    pub named_waits : end ≡ false → None ≡ named end 1 (drop at src)
     named_waits t = sym (named_run end 1 (drop at src) ∙ rw (le-ltb (run is_identifier (drop at src)) (length (drop at src)) whole, t))
 
 pub ruleset naming = (named_stops, named_ends, named_waits)
 
-named_inside : (end : Bool) (k j : ℕ) (xs : List ℕ) → Run.Over j ≡ named end k xs → j ≤ k + length xs
+named_inside : (end : Bool) (k j : ℕ) (xs : List ℕ) → Some j ≡ named end k xs → j ≤ k + length xs
 unfolding named
 named_inside end k j [] h = go end h
   where
-    go : (t : Bool) → Run.Over j ≡ (if t then Run.Over k else Run.Undecided) → j ≤ k + 0
-    go true e = let z : Run.Over j ≡ Run.Over k = e in let y : j ≡ k = cc in omega arith
-    go false e = let z : Run.Over j ≡ Run.Undecided = e in absurd (let y : ◌≡◌ {A = ℕ} 0 1 = cc in omega arith)
+    go : (t : Bool) → Some j ≡ (if t then Some k else None) → j ≤ k + 0
+    go true e = let z : Some j ≡ Some k = e in let y : j ≡ k = cc in omega arith
+    go false e = let z : Some j ≡ None = e in absurd (let y : ◌≡◌ {A = ℕ} 0 1 = cc in omega arith)
 named_inside end k j (b ∷ rest) h = go (is_identifier b) h (named_inside end (suc k) j rest)
   where
-    go : (t : Bool) → Run.Over j ≡ (if t then named end (suc k) rest else Run.Over k)
-        → (Run.Over j ≡ named end (suc k) rest → j ≤ suc k + length rest) → j ≤ k + suc (length rest)
+    go : (t : Bool) → Some j ≡ (if t then named end (suc k) rest else Some k)
+        → (Some j ≡ named end (suc k) rest → j ≤ suc k + length rest) → j ≤ k + suc (length rest)
     go true e f = omega (arith, f e)
-    go false e f = let z : Run.Over j ≡ Run.Over k = e in let y : j ≡ k = cc in omega arith
+    go false e f = let z : Some j ≡ Some k = e in let y : j ≡ k = cc in omega arith
 
 -- the run after the byte at a place lies within the source
-module _ (src : List ℕ) (end : Bool) (at : ℕ) (h : at < length src) (name : Run) (n : name ≡ named end 1 (drop (at + 1) src)) (k : ℕ)
-    (e : name ≡ Run.Over k) where
+module _ (src : List ℕ) (end : Bool) (at : ℕ) (h : at < length src) (name : Option ℕ) (n : name ≡ named end 1 (drop (at + 1) src)) (k : ℕ)
+    (e : name ≡ Some k) where
   pub name_inside : at + k ≤ length src
   name_inside =
       let size : length (drop (at + 1) src) ≡ length src - (at + 1) = length-drop (at + 1) src in
@@ -103,23 +103,29 @@ module _ (src : List ℕ) (at : ℕ) where
   unfolding is_bracketed
   is_bracketed_past h = rw (drop_of_length-le src h)
 
-  pub is_bracketed_here : at < length src → (eqb (get_or src at 0) 91 || eqb (get_or src at 0) 125) ≡ is_bracketed (drop at src)
-  unfolding is_bracketed
-  is_bracketed_here h = rw (drop-one src at h)
+  module _ (h : at < length src) where
+    pub is_bracketed_here : (get_or src at 0 ≡ 91) ⊎ (get_or src at 0 ≡ 125) → true ≡ is_bracketed (drop at src)
+    unfolding is_bracketed
+    is_bracketed_here (inl b) = rw (drop-one src at h, b)
+    is_bracketed_here (inr b) = rw (drop-one src at h, b)
 
-pub ruleset bracketed = (is_bracketed_past, is_bracketed_here)
+    pub is_bracketed_other : (get_or src at 0 ≡ 91 → ⊥) → (get_or src at 0 ≡ 125 → ⊥) → false ≡ is_bracketed (drop at src)
+    unfolding is_bracketed
+    is_bracketed_other b c = rw (drop-one src at h, ne_eqb (get_or src at 0) 91 b, ne_eqb (get_or src at 0) 125 c)
+
+pub ruleset bracketed = (is_bracketed_past, is_bracketed_here, is_bracketed_other)
 
 -- ---- LookingForVarname
 
 module _ (src : List ℕ) (end : Bool) (at k : ℕ) (flag : Bool) (f : flag ≡ is_bracketed (drop (at + k) src)) (r : Plan) where
   pub varname_token : at + k ≤ length src → flag ≡ true
       → r ≡ one_plan (copied_draft identifier 0 at at (at + k)) (at + k) (Change.Swap Frame.Scripting)
-      → Plans src end (varname at (drop at src) (Run.Over k)) r
+      → Plans src end (varname at (drop at src) (Some k)) r
   unfolding varname
   varname_token h t e = rw (drop-drop k at src, ← f, t, e) (token_plans src end identifier at k (Change.Swap Frame.Scripting) h)
 
   pub varname_goes : flag ≡ false → r ≡ goes_plan at (Change.Swap Frame.Scripting)
-      → Plans src end (varname at (drop at src) (Run.Over k)) r
+      → Plans src end (varname at (drop at src) (Some k)) r
   unfolding varname
   varname_goes t e = rw (drop-drop k at src, ← f, t, e) (goes_plans src end at (Change.Swap Frame.Scripting))
 
@@ -140,13 +146,13 @@ module _ (src : List ℕ) (end : Bool) (at : ℕ) where
     unfolding looking_for_varname
     looking_for_varname_other t r e = rw (drop-one src at h, ← f, not-true start t, e) (goes_plans src end at (Change.Swap Frame.Scripting))
 
-    module _ (t : not start ≡ false) (name : Run) (n : name ≡ named end 1 (drop (at + 1) src)) where
-      pub looking_for_varname_name : (k : ℕ) (r : Plan) → name ≡ Run.Over k → Plans src end (varname at (drop at src) (Run.Over k)) r
+    module _ (t : not start ≡ false) (name : Option ℕ) (n : name ≡ named end 1 (drop (at + 1) src)) where
+      pub looking_for_varname_name : (k : ℕ) (r : Plan) → name ≡ Some k → Plans src end (varname at (drop at src) (Some k)) r
           → Plans src end (looking_for_varname end at (drop at src)) r
       unfolding looking_for_varname
       looking_for_varname_name k r e p = rw (drop-one src at h, ← f, not-false start t, ← n, e) (rw (drop-one src at h) at p)
 
-      pub looking_for_varname_waits : name ≡ Run.Undecided → Plans src end (looking_for_varname end at (drop at src)) Plan.Wait
+      pub looking_for_varname_waits : name ≡ None → Plans src end (looking_for_varname end at (drop at src)) Plan.Wait
       unfolding looking_for_varname varname
       looking_for_varname_waits e = rw (drop-one src at h, ← f, not-false start t, ← n, e) (wait_plans src end)
 
@@ -217,8 +223,8 @@ module _ (src : List ℕ) (end : Bool) (at : ℕ) where
         rw (drop-one src at h, ne_eqb (get_or src at 0) 63 q, ne_eqb (get_or src at 0) 45 d, ← f, not-true start t, e)
         (refused_plans src end no_property at)
 
-    module _ (t : not start ≡ false) (name : Run) (n : name ≡ named end 1 (drop (at + 1) src)) where
-      pub looking_for_property_name : (k : ℕ) (r : Plan) → name ≡ Run.Over k
+    module _ (t : not start ≡ false) (name : Option ℕ) (n : name ≡ named end 1 (drop (at + 1) src)) where
+      pub looking_for_property_name : (k : ℕ) (r : Plan) → name ≡ Some k
           → r ≡ one_plan (copied_draft identifier 0 at at (at + k)) (at + k) Change.Leave
           → Plans src end (looking_for_property end at (drop at src)) r
       unfolding looking_for_property property
@@ -226,7 +232,7 @@ module _ (src : List ℕ) (end : Bool) (at : ℕ) where
           rw (drop-one src at h, ne_eqb (get_or src at 0) 63 q, ne_eqb (get_or src at 0) 45 d, ← f, not-false start t, ← n, e, p)
           (rw (drop-one src at h) at (token_plans src end identifier at k Change.Leave (name_inside src end at h name n k e)))
 
-      pub looking_for_property_waits : name ≡ Run.Undecided → Plans src end (looking_for_property end at (drop at src)) Plan.Wait
+      pub looking_for_property_waits : name ≡ None → Plans src end (looking_for_property end at (drop at src)) Plan.Wait
       unfolding looking_for_property property
       looking_for_property_waits e =
           rw (drop-one src at h, ne_eqb (get_or src at 0) 63 q, ne_eqb (get_or src at 0) 45 d, ← f, not-false start t, ← n, e) (wait_plans src end)

@@ -36,9 +36,6 @@ use Rattle.plan.specs.Code.{Here}
 use Rattle.modes.specs.Code.{is_step, is_other, quick_at, quick, PassesAt}
 use Rattle.modes.proofs.Looks.{named_run}
 
-pub is_scripting_arm : (f arm : Frame) (r : Bool) → f ≡ arm → r ≡ is_scripting arm → r ≡ is_scripting f
-is_scripting_arm f arm r e h = rw e h
-
 is_scripting_frame : (f : Frame) → is_scripting f ≡ true → f ≡ Frame.Scripting
 unfolding is_scripting
 is_scripting_frame Frame.Scripting e = refl
@@ -50,9 +47,6 @@ is_scripting_frame (Frame.Nowdoc label) e = absurd (false≢true e)
 is_scripting_frame Frame.LookingForVarname e = absurd (false≢true e)
 is_scripting_frame Frame.LookingForProperty e = absurd (false≢true e)
 is_scripting_frame Frame.VarOffset e = absurd (false≢true e)
-
-pub is_step_arm : (call arm : Call) (r : Bool) → call ≡ arm → r ≡ is_step arm → r ≡ is_step call
-is_step_arm call arm r e h = rw e h
 
 is_step_call : (call : Call) → is_step call ≡ true → call ≡ Call.Step
 unfolding is_step

@@ -76,8 +76,10 @@ module _ (call : Call) (src : List ℕ) (f : Frame) (p : Span) (most : ℕ) wher
               rw less
 
       pub running_stop : next.position ≡ span.position
-          → record { span = span; left = left } ≡ quick_on call src f p most
-      running_stop e = rw (eq-eqb _ _ e) at (sym one ∙ w.same)
+          → record { span = span; left = left - 1 + 1 } ≡ quick_on call src f p most
+      running_stop e =
+          let all : left - 1 + 1 ≡ left = omega arith in
+          rw all (rw (eq-eqb _ _ e) at (sym one ∙ w.same))
 
       pub running_on : (next.position ≡ span.position → ⊥) → Running call src f p most next (left - 1)
       running_on n =

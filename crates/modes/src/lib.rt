@@ -24,6 +24,7 @@ pub use passing::{is_scripting, pass_on};
 
 // The plan of a call with this frame on top, from a place on. Each routine is called here alone; a text fills the scratch
 // part.
+#[tactic(auto, using(crate::proofs::Calls::planned), unfolding(crate::specs::Code::way_outcome))]
 pub fn plan_of(
     call: Call,
     src: &[u8],

@@ -5,40 +5,36 @@ ghost use Rattle.byte.specs.Refusals.{no_property};
 ghost use Rattle.outcome.specs.Lookings.{named, is_bracketed, varname, looking_for_varname, arrow_head, questioned, looking_for_property, var_offset};
 ghost use Rattle.plan.specs.Code.{Here, Plans};
 
-use outcome::{Change, Run};
+use outcome::Change;
 use plan::Plan;
 use state::Frame;
 
-// How many identifier bytes come, with the one before `at`.
-pub fn named_at(src: &[u8], at: usize, end: bool) -> Run
+// How many identifier bytes come, with the one before `at`; none where the part may end within them.
+#[tactic(auto, using(crate::proofs::Looks::naming))]
+pub fn named_at(src: &[u8], at: usize, end: bool) -> Option<usize>
     requires { Here src.now at }
     ensures { result ≡ named end 1 (drop at src.now) }
 {
     let n = source::run_end(src, at);
-    if n < src.len() {
-        return Run::Over(n - at + 1);
+    if n < src.len() || end {
+        return Some(n - at + 1);
     }
-    if end {
-        return Run::Over(n - at + 1);
-    }
-    Run::Undecided
+    None
 }
 
 // Whether `[` or `}` stands at a place.
+#[tactic(auto, using(crate::proofs::Looks::bracketed))]
 fn is_bracketed(src: &[u8], at: usize) -> bool
     ensures { result ≡ is_bracketed (drop at src.now) }
 {
-    if src.len() <= at {
-        return false;
-    }
-    let b = src[at];
-    (b == b'[') | (b == b'}')
+    matches!(src.get(at), Some(b'[' | b'}'))
 }
 
 // A name of `k` bytes after `${`: before `[` or `}` it is an Identifier.
+#[tactic(auto, using(crate::proofs::Looks::varnames))]
 fn varname(src: &[u8], at: usize, k: usize, end: bool) -> Plan
     requires { (at + k ≤ length src.now) × (length src.now ≤ 65536) }
-    ensures { Plans src.now end (varname at (drop at src.now) (Run.Over k)) result }
+    ensures { Plans src.now end (varname at (drop at src.now) (Some k)) result }
 {
     if is_bracketed(src, at + k) {
         return plan::one_token(token::IDENTIFIER, at, k, Change::Swap(Frame::Scripting));
@@ -47,6 +43,7 @@ fn varname(src: &[u8], at: usize, k: usize, end: bool) -> Plan
 }
 
 // After `${`: a name before `[` or `}`; the top becomes Scripting in any case.
+#[tactic(auto, using(crate::proofs::Looks::looking_for_varnames))]
 pub fn looking_for_varname(src: &[u8], at: usize, end: bool) -> Plan
     requires { Here src.now at }
     ensures { Plans src.now end (looking_for_varname end at (drop at src.now)) result }
@@ -57,10 +54,9 @@ pub fn looking_for_varname(src: &[u8], at: usize, end: bool) -> Plan
     if !byte::is_start(src[at]) {
         return plan::goes(at, Change::Swap(Frame::Scripting));
     }
-    let run = named_at(src, at + 1, end);
-    match run {
-        Run::Over(k) => varname(src, at, k, end),
-        Run::Undecided => Plan::Wait,
+    match named_at(src, at + 1, end) {
+        Some(k) => varname(src, at, k, end),
+        None => Plan::Wait,
     }
 }
 
@@ -75,6 +71,7 @@ fn no_property(at: usize) -> Plan
 }
 
 // The `>` of an arrow at a place, of which `k` bytes stand before it.
+#[tactic(auto, using(crate::proofs::Looks::arrow_heads))]
 fn arrow_head(kind: u32, k: usize, src: &[u8], at: usize, end: bool) -> Plan
     requires { (at + k ≤ length src.now) × (length src.now ≤ 65536) }
     ensures { Plans src.now end (arrow_head kind k end at (drop at src.now) (drop (at + k) src.now)) result }
@@ -90,6 +87,7 @@ fn arrow_head(kind: u32, k: usize, src: &[u8], at: usize, end: bool) -> Plan
 }
 
 // After the `?` at a place.
+#[tactic(auto, using(crate::proofs::Looks::questions))]
 fn questioned(src: &[u8], at: usize, end: bool) -> Plan
     requires { (at < length src.now) × (length src.now ≤ 65536) }
     ensures { Plans src.now end (questioned end at (drop at src.now) (drop (at + 1) src.now)) result }
@@ -105,6 +103,7 @@ fn questioned(src: &[u8], at: usize, end: bool) -> Plan
 }
 
 // After a variable: `?->`, `->`, or a name, with which the frame is left.
+#[tactic(auto, using(crate::proofs::Looks::looking_for_properties))]
 pub fn looking_for_property(src: &[u8], at: usize, end: bool) -> Plan
     requires { Here src.now at }
     ensures { Plans src.now end (looking_for_property end at (drop at src.now)) result }
@@ -122,14 +121,14 @@ pub fn looking_for_property(src: &[u8], at: usize, end: bool) -> Plan
     if !byte::is_start(b) {
         return no_property(at);
     }
-    let run = named_at(src, at + 1, end);
-    match run {
-        Run::Over(k) => plan::one_token(token::IDENTIFIER, at, k, Change::Leave),
-        Run::Undecided => Plan::Wait,
+    match named_at(src, at + 1, end) {
+        Some(k) => plan::one_token(token::IDENTIFIER, at, k, Change::Leave),
+        None => Plan::Wait,
     }
 }
 
 // In `$a[..]`: one byte is passed, and at `]` the frame is left.
+#[tactic(auto, using(crate::proofs::Looks::var_offsets))]
 pub fn var_offset(src: &[u8], at: usize, end: bool) -> Plan
     requires { Here src.now at }
     ensures { Plans src.now end (var_offset end at (drop at src.now)) result }

@@ -10,54 +10,34 @@ use source::Span;
 use state::Frame;
 
 // Whether a call is a step.
+#[tactic(auto, unfolding(crate::specs::Code::is_step))]
 fn is_step(call: Call) -> bool
     ensures { result ≡ is_step call }
 {
-    match call {
-        Call::Step => true,
-        Call::Number => false,
-        Call::Single => false,
-        Call::Double => false,
-    }
+    matches!(call, Call::Step)
 }
 
 // Whether a frame is Scripting.
+#[tactic(auto, unfolding(state::specs::Bounds::is_scripting))]
 pub fn is_scripting(f: Frame) -> bool
     ensures { result ≡ is_scripting f }
 {
-    match f {
-        Frame::Initial => false,
-        Frame::Scripting => true,
-        Frame::DoubleQuote => false,
-        Frame::ShellExec => false,
-        Frame::Heredoc(_) => false,
-        Frame::Nowdoc(_) => false,
-        Frame::LookingForVarname => false,
-        Frame::LookingForProperty => false,
-        Frame::VarOffset => false,
-    }
+    matches!(f, Frame::Scripting)
 }
 
 // A byte of the table's last row, if no identifier starts with it: it is passed alone.
+#[tactic(auto, using(crate::proofs::Passes::others), unfolding(crate::specs::Code::is_other, byte::specs::Bytes::is_digit, byte::specs::Bytes::is_none_of))]
 fn is_other(b: u8) -> bool
     ensures { result ≡ is_other b }
 {
     match b {
-        b'\'' => false,
-        b'"' => false,
-        b'`' => false,
-        b'.' => false,
-        b'{' => false,
-        b'}' => false,
-        b'?' => false,
-        b'<' => false,
-        b'/' => false,
-        b'#' => false,
+        b'\'' | b'"' | b'`' | b'.' | b'{' | b'}' | b'?' | b'<' | b'/' | b'#' => false,
         _ => !byte::is_digit(b),
     }
 }
 
-// How many bytes such a step passes from a place on; 0 where the step is another, or would wait.
+// How many bytes such a step passes from a place on; 0 where the step is another, or would wait. No Option, for `PassesAt` says 0.
+#[tactic(auto, using(crate::proofs::Passes::passes_ats))]
 fn passed_at(src: &[u8], at: usize) -> usize
     requires { Here src.now at }
     ensures { PassesAt src.now at result }
@@ -80,6 +60,7 @@ fn passed_at(src: &[u8], at: usize) -> usize
 }
 
 // The place after such a step; the place itself where the call is another.
+#[tactic(auto, using(crate::proofs::Passes::quicks))]
 fn passed(call: Call, src: &[u8], f: Frame, p: Span) -> Span
     requires { Here src.now p.position × Reaches p (length src.now) }
     ensures { result ≡ quick call src.now f p }
@@ -91,8 +72,7 @@ fn passed(call: Call, src: &[u8], f: Frame, p: Span) -> Span
         return p;
     }
     let at = p.position as usize;
-    if at < src.len() {
-        let b = src[at];
+    if let Some(&b) = src.get(at) {
         if byte::is_alone(b) {
             return source::past_byte(p, b);
         }
@@ -119,19 +99,21 @@ pub struct PassedOn {
 }
 
 // Such steps in a row, at most `most` of them.
+#[tactic(auto, using(crate::proofs::Runs::running))]
 pub fn pass_on(call: Call, src: &[u8], f: Frame, p: Span, most: u32) -> PassedOn
     requires { Here src.now p.position × Near p }
     ensures { result ≡ quick_on call src.now f p most }
 {
     let mut span = p;
-    let mut left = most;
-    while 0 < left {
+    for left in (0..most).rev() {
         let next = passed(call, src, f, span);
         if next.position == span.position {
-            return PassedOn { span, left };
+            return PassedOn {
+                span,
+                left: left + 1,
+            };
         }
         span = next;
-        left -= 1;
     }
-    PassedOn { span, left }
+    PassedOn { span, left: 0 }
 }

@@ -10,7 +10,7 @@ use outcome::Call;
 use state::{Choices, Frame, Label, Reading};
 use unit::Mode;
 
-// The routine that is asked.
+// The routine that is asked: a number for it and no closure, so that each stands at one place of `plan_of` and goes into it.
 #[derive(Clone, Copy)]
 pub enum Way {
     Number,
@@ -37,6 +37,7 @@ pub struct Row {
 }
 
 // What has no label.
+#[tactic(auto, using(crate::proofs::Calls::plain_row_made))]
 fn plain(way: Way, mode: Mode, start: usize) -> Row
     ensures { result ≡ plain_row way mode start }
 {
@@ -48,30 +49,20 @@ fn plain(way: Way, mode: Mode, start: usize) -> Row
     }
 }
 
-// At Scripting: a digit begins a number.
-fn digit_way(b: u8) -> Way
-    ensures { result ≡ digit_way b }
-{
-    if byte::is_digit(b) {
-        return Way::Number;
-    }
-    Way::Scripting
-}
-
-// After a `.`: before a digit it begins a number.
-fn point_way(src: &[u8], i: usize) -> Way
+// At Scripting: a digit at a place begins a number, and so does a `.` before one.
+#[tactic(auto, using(crate::proofs::Calls::digit_ways))]
+fn digit_way(src: &[u8], i: usize) -> Way
     ensures { result ≡ digit_way (get_or src.now i 0) }
 {
-    if src.len() <= i {
-        return Way::Scripting;
+    match src.get(i) {
+        Some(b) if byte::is_digit(*b) => Way::Number,
+        Some(_) => Way::Scripting,
+        None => Way::Scripting,
     }
-    if byte::is_digit(src[i]) {
-        return Way::Number;
-    }
-    Way::Scripting
 }
 
 // At Scripting: a literal, a number, or another row of the table.
+#[tactic(auto, using(crate::proofs::Calls::script_rows))]
 fn script_row(octals: Octal, src: &[u8], at: usize) -> Row
     requires { Here src.now at }
     ensures { Reads (scripts octals src.now at) src.now at result }
@@ -83,12 +74,13 @@ fn script_row(octals: Octal, src: &[u8], at: usize) -> Row
     match b {
         b'\'' => plain(Way::Text, Mode::Single, at + 1),
         b'"' => plain(Way::Text, Mode::Double(octals), at + 1),
-        b'.' => plain(point_way(src, at + 1), Mode::Nowdoc, at),
-        _ => plain(digit_way(b), Mode::Nowdoc, at),
+        b'.' => plain(digit_way(src, at + 1), Mode::Nowdoc, at),
+        _ => plain(digit_way(src, at), Mode::Nowdoc, at),
     }
 }
 
 // A nowdoc block, as the session has it read.
+#[tactic(auto, using(crate::proofs::Calls::nowdoc_way_arm), unfolding(crate::specs::Code::nowdoc_way))]
 fn nowdoc_way(nowdocs: Reading) -> Way
     ensures { result ≡ nowdoc_way nowdocs }
 {
@@ -99,6 +91,7 @@ fn nowdoc_way(nowdocs: Reading) -> Way
 }
 
 // What a step reads.
+#[tactic(auto, using(crate::proofs::Calls::step_rows))]
 fn step_row(src: &[u8], f: Frame, choices: Choices, at: usize) -> Row
     requires { Here src.now at × (is_frame src.now f ≡ true) }
     ensures { Reads (steps f src.now choices at) src.now at result }
@@ -129,6 +122,7 @@ fn step_row(src: &[u8], f: Frame, choices: Choices, at: usize) -> Row
 }
 
 // What a reading reads, which wants Scripting on top.
+#[tactic(auto, using(crate::proofs::Calls::reading_rows))]
 fn reading_row(f: Frame, way: Way, mode: Mode, at: usize) -> Row
     ensures { result ≡ plain_row (if is_scripting f then way else Way.Refused) mode at }
 {
@@ -139,6 +133,7 @@ fn reading_row(f: Frame, way: Way, mode: Mode, at: usize) -> Row
 }
 
 // What a call reads with this frame on top.
+#[tactic(auto, using(crate::proofs::Calls::call_rows))]
 pub fn row_of(call: Call, src: &[u8], f: Frame, choices: Choices, at: usize) -> Row
     requires { Here src.now at × (is_frame src.now f ≡ true) }
     ensures { Reads (calls call f src.now choices at) src.now at result }

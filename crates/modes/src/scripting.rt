@@ -11,11 +11,12 @@ ghost use Rattle.plan.specs.Code.{Here, Plans};
 ghost use Rattle.modes.specs.Code.{finished_plan, NoLiteral};
 
 use crate::lookings;
-use outcome::{Change, Run};
+use outcome::Change;
 use plan::{Plan, Work};
 use state::Frame;
 
 // The `.` at a place, after which no digit stands: it is passed.
+#[tactic(auto, using(crate::proofs::Frames::points))]
 fn point(src: &[u8], at: usize, end: bool) -> Plan
     requires { (at < length src.now) × (length src.now ≤ 65536) × (is_digit (get_or src.now (at + 1) 0) ≡ false) }
     ensures { Plans src.now end (point end at (drop (at + 1) src.now)) result }
@@ -28,18 +29,19 @@ fn point(src: &[u8], at: usize, end: bool) -> Plan
 }
 
 // The identifier whose first byte stands at a place: the whole run is passed.
+#[tactic(auto, using(crate::proofs::Frames::words))]
 fn word(src: &[u8], at: usize, end: bool) -> Plan
     requires { (at < length src.now) × (length src.now ≤ 65536) }
     ensures { Plans src.now end (word at (named end 1 (drop (at + 1) src.now))) result }
 {
-    let run = lookings::named_at(src, at + 1, end);
-    match run {
-        Run::Over(k) => plan::goes(at + k, Change::Keep),
-        Run::Undecided => Plan::Wait,
+    match lookings::named_at(src, at + 1, end) {
+        Some(k) => plan::goes(at + k, Change::Keep),
+        None => Plan::Wait,
     }
 }
 
 // The `?` at a place: `?>` is passed, and the top becomes Initial.
+#[tactic(auto, using(crate::proofs::Frames::close_tags))]
 fn close_tag(src: &[u8], at: usize, end: bool) -> Plan
     requires { (at < length src.now) × (length src.now ≤ 65536) }
     ensures { Plans src.now end (close_tag end at (drop (at + 1) src.now)) result }
@@ -55,6 +57,7 @@ fn close_tag(src: &[u8], at: usize, end: bool) -> Plan
 }
 
 // What a `}` does: the frame is left, but the last one stays.
+#[tactic(auto, using(crate::proofs::Frames::braces))]
 fn brace_change(depth: u32) -> Change
     ensures { result ≡ (if ltb 1 depth then Change.Leave else Change.Keep) }
 {
@@ -65,6 +68,7 @@ fn brace_change(depth: u32) -> Change
 }
 
 // Nothing is left to read.
+#[tactic(auto, using(crate::proofs::Frames::finished_plan_made))]
 fn finished(at: usize) -> Plan
     ensures { result ≡ finished_plan at }
 {
@@ -78,6 +82,7 @@ fn finished(at: usize) -> Plan
 
 // The step of the mode Scripting in a session of this depth, where no literal and no number starts: so the choice for
 // octal escapes does not matter.
+#[tactic(auto, using(crate::proofs::Frames::scriptings))]
 pub fn scripting(src: &[u8], at: usize, end: bool, depth: u32) -> Plan
     requires { Here src.now at × NoLiteral src.now at }
     ensures { Plans src.now end (scripting Octal.Rust depth end at (drop at src.now)) result }

@@ -1,12 +1,19 @@
 -- Each look at the opening of a text block, on each way through it. Assumes nothing.
-use Prim.Native.Nat.{ℕ, ◌+◌, ◌<◌, ◌≤◌}
+use Prim.Native.Nat.{ℕ, zero, suc, ◌+◌, ◌-◌, ◌<◌, ◌≤◌}
 use mathlib.Core.Path.{◌≡◌, refl, sym, ◌∙◌}
 use mathlib.Core.Bool.{Bool, true, false, not}
-use mathlib.Core.List.{List}
+use mathlib.Core.List.{List, [], ◌∷◌}
 use native.Mathlib.Omega.{arith}
 use native.Mathlib.Numerals.{add-one}
-use lib.ListN.{length, get_or, drop, drop_of_length-le}
-use borrow.Author.Tests.{ne_eqb, lt-ltb, le-ltb, not-true, not-false}
+use lib.ListN.{length, get_or, take, drop, drop_of_length-le, length-drop}
+use lib.Seq.{take_all, drop-drop}
+use lib.Dec.{ltb}
+use native.Mathlib.Nat.{add-zero}
+use Rattle.std.specs.Prelude.{if◌then◌else◌, position, cond, Option, Some, None}
+use Rattle.std.specs.List.{position_or_len}
+use borrow.Author.Tests.{ne_eqb, lt-ltb, le-ltb, ltb-true, ltb-false}
+use Rattle.std.proofs.Common.{add_comm}
+use Rattle.std.proofs.lemmas.Option.{cond_some}
 use Rattle.byte.specs.Bytes.{is_start, is_identifier}
 use Rattle.byte.proofs.Words.{drop-one}
 use Rattle.outcome.specs.declared.DocStringKind.{DocStringKind}
@@ -83,41 +90,100 @@ pub ruleset doc_quotes = (doc_quote_past, doc_quote_here, doc_quote_other)
 
 pub ruleset doc_ends = (doc_end_heredoc, doc_end_nowdoc)
 
--- the label from its second byte on, which stands at n: what is left from i on decides, after len bytes
-pub record Naming (src : List ℕ) (n : ℕ) (end : Bool) (kind : DocStringKind) (start i len : ℕ) : Type 0 where
-  pub inside : i ≤ length src
-  pub short : len ≤ 64
-  pub same : doc_name kind start 1 end n (drop n src) ≡ doc_name kind start len end i (drop i src)
+-- the label from its second byte on, which stands at n: the first byte that ends it decides, of the m + 1 that are looked at
+abbrev ends_name : ℕ → Bool
+ends_name b = not (is_identifier b)
 
-module _ (src : List ℕ) (n : ℕ) (end : Bool) (kind : DocStringKind) (start : ℕ) where
-  pub naming_first : n ≤ length src → Naming src n end kind start n 1
-  naming_first h = record { inside = h; short = omega arith; same = refl }
+same_test : (a b : ℕ) → ltb (suc a) (suc b) ≡ ltb a b
+same_test a b = grind arith
 
-  module _ (i len : ℕ) (p : Naming src n end kind start i len) where
-    pub naming_past : (r : Opening) → length src ≤ i → r ≡ last_opening end → r ≡ doc_name kind start 1 end n (drop n src)
-    unfolding doc_name
-    naming_past r past e = e ∙ sym (p.same ∙ rw (drop_of_length-le src past))
+module _ (kind : DocStringKind) (start : ℕ) (end : Bool) where
+  name_ends : (len n m : ℕ) (xs : List ℕ) → len + m ≡ 64 → (k : ℕ) → k ≡ position_or_len ends_name (take (suc m) xs)
+      → k < length (take (suc m) xs) → doc_name kind start len end n xs ≡ doc_end kind start (len + k) end (n + k) (drop k xs)
+  unfolding doc_name
+  name_ends len n m [] h k e l = absurd (omega arith)
+  name_ends len n zero (b ∷ rest) h k e l = go (is_identifier b) refl e
+    where
+      go : (t : Bool) → is_identifier b ≡ t → k ≡ cond (not (not t)) 1 0
+          → doc_name kind start len end n (b ∷ rest) ≡ doc_end kind start (len + k) end (n + k) (drop k (b ∷ rest))
+      go true f g = absurd (omega arith)
+      go false f g = rw (f, g, add-zero len, add-zero n)
+  name_ends len n (suc m) (b ∷ rest) h k e l =
+      go (is_identifier b) (position_or_len ends_name (take (suc m) rest)) refl e
+      (λ g. name_ends (suc len) (suc n) m rest (omega arith) (position_or_len ends_name (take (suc m) rest)) refl g)
+    where
+      go : (t : Bool) (j : ℕ) → is_identifier b ≡ t → k ≡ cond (not (not t)) (1 + j) 0
+          → (j < length (take (suc m) rest)
+          → doc_name kind start (suc len) end (suc n) rest ≡ doc_end kind start (suc len + j) end (suc n + j) (drop j rest))
+          → doc_name kind start len end n (b ∷ rest) ≡ doc_end kind start (len + k) end (n + k) (drop k (b ∷ rest))
+      go true j f g later =
+          let more : len + k ≡ suc len + j = omega arith in
+          let place : n + k ≡ suc n + j = omega arith in
+          let size : k ≡ suc j = omega arith in
+          rw (f, lt-ltb len 64 (omega arith), more, place, size) (later (omega arith))
+      go false j f g later = rw (f, g, add-zero len, add-zero n)
 
-    module _ (h : i < length src) (flag : Bool) (f : flag ≡ is_identifier (get_or src i 0)) where
-      pub naming_end : (r : Opening) → not flag ≡ true → r ≡ doc_end kind start len end i (drop i src)
-          → r ≡ doc_name kind start 1 end n (drop n src)
-      unfolding doc_name
-      naming_end r t e = e ∙ sym (p.same ∙ rw (drop-one src i h, ← f, not-true flag t))
+  name_goes : (len n m : ℕ) (xs : List ℕ) → len + m ≡ 64 → length (take (suc m) xs) ≤ position_or_len ends_name (take (suc m) xs)
+      → doc_name kind start len end n xs ≡ (if ltb (length xs) (suc m) then last_opening end else Opening.Other)
+  unfolding doc_name
+  name_goes len n m [] h l = rw (lt-ltb 0 (suc m) (omega arith))
+  name_goes len n zero (b ∷ rest) h l = go (is_identifier b) refl l ∙ rw (le-ltb (length (b ∷ rest)) 1 (omega arith))
+    where
+      go : (t : Bool) → is_identifier b ≡ t → 1 ≤ cond (not (not t)) 1 0 → doc_name kind start len end n (b ∷ rest) ≡ Opening.Other
+      go true f g = rw (f, le-ltb len 64 (omega arith))
+      go false f g = absurd (omega arith)
+  name_goes len n (suc m) (b ∷ rest) h l =
+      rw (same_test (length rest) (suc m))
+      (go (is_identifier b) (position_or_len ends_name (take (suc m) rest)) refl l (λ g. name_goes (suc len) (suc n) m rest (omega arith) g))
+    where
+      go : (t : Bool) (j : ℕ) → is_identifier b ≡ t → suc (length (take (suc m) rest)) ≤ cond (not (not t)) (1 + j) 0
+          → (length (take (suc m) rest) ≤ j
+          → doc_name kind start (suc len) end (suc n) rest ≡ (if ltb (length rest) (suc m) then last_opening end else Opening.Other))
+          → doc_name kind start len end n (b ∷ rest) ≡ (if ltb (length rest) (suc m) then last_opening end else Opening.Other)
+      go true j f g later = rw (f, lt-ltb len 64 (omega arith)) (later (omega arith))
+      go false j f g later = absurd (omega arith)
 
-      pub naming_long : not flag ≡ false → 64 ≤ len → Opening.Other ≡ doc_name kind start 1 end n (drop n src)
-      unfolding doc_name
-      naming_long t l = sym (p.same ∙ rw (drop-one src i h, ← f, not-false flag t, le-ltb len 64 l))
+-- what a search for a byte says
+module _ (test : ℕ → Bool) (xs : List ℕ) where
+  found_at : (k : ℕ) → position test xs ≡ Some k → (k ≡ position_or_len test xs) × (k < length xs)
+  found_at k e =
+      let (t, p) = cond_some (ltb (position_or_len test xs) (length xs)) (position_or_len test xs) k e in
+      (sym p, omega (arith, p, ltb-true (position_or_len test xs) (length xs) t))
 
-      pub naming_on : not flag ≡ false → len < 64 → Naming src n end kind start (i + 1) (len + 1)
-      unfolding doc_name
-      naming_on t l =
-          record {
-            inside = omega arith;
-            short = omega arith;
-            same = p.same ∙ rw (drop-one src i h, ← f, not-false flag t, lt-ltb len 64 l, add-one len, add-one i);
-          }
+  found_none : position test xs ≡ None → length xs ≤ position_or_len test xs
+  found_none e = go (ltb (position_or_len test xs) (length xs)) refl e
+    where
+      go : (t : Bool) → ltb (position_or_len test xs) (length xs) ≡ t → cond t (Some (position_or_len test xs)) None ≡ None
+          → length xs ≤ position_or_len test xs
+      go true f g = absurd cc
+      go false f g = ltb-false (position_or_len test xs) (length xs) f
 
-pub ruleset naming = (naming_first, naming_past, naming_end, naming_long, naming_on)
+-- by what the code finds
+module _ (src : List ℕ) (n : ℕ) (end : Bool) (kind : DocStringKind) (start : ℕ) (found : Option ℕ)
+    (e : found ≡ position ends_name (take 64 (take (length src - n) (drop n src)))) where
+  whole : take (length src - n) (drop n src) ≡ drop n src
+  whole = take_all (length src - n) (drop n src) (omega (arith, length-drop n src))
+
+  pub name_end : (k : ℕ) (r : Opening) → found ≡ Some k → r ≡ doc_end kind start (k + 1) end (n + k) (drop (n + k) src)
+      → r ≡ doc_name kind start 1 end n (drop n src)
+  name_end k r f g =
+      let p = found_at ends_name (take 64 (drop n src)) k (rw whole at (sym e ∙ f)) in
+      g ∙ rw (add_comm k 1, ← drop-drop k n src) (sym (name_ends kind start end 1 n 63 (drop n src) refl k p.0 p.1))
+
+  pub name_cut : (r : Opening) → found ≡ None → length (take (length src - n) (drop n src)) < 64 → r ≡ last_opening end
+      → r ≡ doc_name kind start 1 end n (drop n src)
+  name_cut r f h g =
+      let p = found_none ends_name (take 64 (drop n src)) (rw whole at (sym e ∙ f)) in
+      let few : ltb (length (drop n src)) 64 ≡ true = lt-ltb (length (drop n src)) 64 (rw whole at h) in
+      g ∙ sym (name_goes kind start end 1 n 63 (drop n src) refl p ∙ rw few)
+
+  pub name_long : found ≡ None → 64 ≤ length (take (length src - n) (drop n src)) → Opening.Other ≡ doc_name kind start 1 end n (drop n src)
+  name_long f h =
+      let p = found_none ends_name (take 64 (drop n src)) (rw whole at (sym e ∙ f)) in
+      let many : ltb (length (drop n src)) 64 ≡ false = le-ltb (length (drop n src)) 64 (rw whole at h) in
+      sym (name_goes kind start end 1 n 63 (drop n src) refl p ∙ rw many)
+
+pub ruleset names = (name_end, name_cut, name_long)
 
 -- up to the label
 module _ (src : List ℕ) (n : ℕ) (end : Bool) where

@@ -1,7 +1,7 @@
 -- Demand 3 for runs of identifier bytes and for the modes LookingForVarname, LookingForProperty and VarOffset. Assumes nothing.
 --   named_stays, named_cut, named_told                                              a run that is told stays; one that is not goes on after the part; at the end it is told
 --   looking_for_varname_demands, looking_for_property_demands, var_offset_demands   the modes, from any position on
-use Rattle.std.specs.Prelude.{if◌then◌else◌}
+use Rattle.std.specs.Prelude.{if◌then◌else◌, Option, Some, None}
 use mathlib.Core.Path.{◌≡◌, refl, ap, ◌∙◌}
 use mathlib.Core.Bool.{Bool, true, false}
 use mathlib.Core.List.{List, [], ◌∷◌, ◌++◌}
@@ -18,7 +18,6 @@ use Rattle.token.specs.Kinds.{identifier, arrow, question_arrow}
 use Rattle.unit.proofs.Stays.{Stays, clash, if_stays}
 use Rattle.unit.proofs.Openings.{one_more}
 use Rattle.outcome.specs.declared.Change.{Change}
-use Rattle.outcome.specs.declared.Run.{Run}
 use Rattle.outcome.specs.Outcomes.{Outcome, goes, limited}
 use Rattle.outcome.specs.Lookings.{named, token, is_bracketed, varname, looking_for_varname, property, arrow_head, questioned}
 use Rattle.outcome.specs.Lookings.{looking_for_property, var_offset}
@@ -27,39 +26,39 @@ use Rattle.outcome.proofs.Demand.{told_waits, refused_waits, after_apart, pieces
 
 -- ---- runs
 
-pub over_told : {A : Type 0} {k : ℕ} → Run.Over k ≡ Run.Undecided → A
+pub over_told : {A : Type 0} {k : ℕ} → Some k ≡ None → A
 over_told e = clash cc
 
-pub named_stays : (k : ℕ) (xs more : List ℕ) → Stays Run.Undecided (named false k xs) (named true k (xs ++ more))
+pub named_stays : (k : ℕ) (xs more : List ℕ) → Stays None (named false k xs) (named true k (xs ++ more))
 unfolding named
 named_stays k [] more h = absurd (h refl)
 named_stays k (b ∷ xs) more h = if_stays (is_identifier b) (named_stays (suc k) xs more) (λ z. refl) h
 
-pub named_cut : (k : ℕ) (xs : List ℕ) → named false k xs ≡ Run.Undecided
+pub named_cut : (k : ℕ) (xs : List ℕ) → named false k xs ≡ None
     → (c : List ℕ) → named true k (xs ++ c) ≡ named true (k + length xs) c
 unfolding named
 named_cut k [] h c = ap (λ i. named true i c) (omega arith)
 named_cut k (b ∷ xs) h c = go (is_identifier b) (named_cut (suc k) xs) h
   where
     go : (t : Bool)
-        → (named false (suc k) xs ≡ Run.Undecided → (c : List ℕ) → named true (suc k) (xs ++ c) ≡ named true (suc k + length xs) c)
-        → (if t then named false (suc k) xs else Run.Over k) ≡ Run.Undecided
-        → (if t then named true (suc k) (xs ++ c) else Run.Over k) ≡ named true (k + suc (length xs)) c
+        → (named false (suc k) xs ≡ None → (c : List ℕ) → named true (suc k) (xs ++ c) ≡ named true (suc k + length xs) c)
+        → (if t then named false (suc k) xs else Some k) ≡ None
+        → (if t then named true (suc k) (xs ++ c) else Some k) ≡ named true (k + suc (length xs)) c
     go true ih z =
         let e : suc k + length xs ≡ k + suc (length xs) = omega arith in
         ih z c ∙ ap (λ i. named true i c) e
     go false ih z = over_told z
 
-pub named_told : (k : ℕ) (xs : List ℕ) → named true k xs ≡ Run.Undecided → ⊥
+pub named_told : (k : ℕ) (xs : List ℕ) → named true k xs ≡ None → ⊥
 unfolding named
 named_told k [] e = over_told e
 named_told k (b ∷ xs) e =
-    choice (λ r. r ≡ Run.Undecided → ⊥) (is_identifier b) _ _ (λ t. named_told (suc k) xs) (λ t. over_told) e
+    choice (λ r. r ≡ None → ⊥) (is_identifier b) _ _ (λ t. named_told (suc k) xs) (λ t. over_told) e
 
 -- a run that is told ends before the part does
-abbrev RunInside : ℕ → Run → Type 0
-RunInside hi (Run.Over k) = k < hi
-RunInside hi Run.Undecided = Unit {0}
+abbrev RunInside : ℕ → Option ℕ → Type 0
+RunInside hi (Some k) = k < hi
+RunInside hi None = Unit {0}
 
 named_inside : (k hi : ℕ) (xs : List ℕ) → k + length xs ≤ hi → RunInside hi (named false k xs)
 unfolding named
@@ -68,7 +67,7 @@ named_inside k hi (b ∷ xs) h =
     choice (RunInside hi) (is_identifier b) _ _ (λ t. named_inside (suc k) hi xs (omega arith)) (λ t. omega arith)
 
 -- the run from the head of ys on, where all of ys is of it
-named_whole : (b : ℕ) (xs : List ℕ) → named false 1 xs ≡ Run.Undecided → (c : List ℕ)
+named_whole : (b : ℕ) (xs : List ℕ) → named false 1 xs ≡ None → (c : List ℕ)
     → named true 1 (xs ++ c) ≡ named true (length (b ∷ xs)) c
 named_whole b xs h c =
     let e : 1 + length xs ≡ length (b ∷ xs) = omega arith in
@@ -81,19 +80,19 @@ unfolding is_bracketed
 bracketed_append [] rest h = absurd (omega arith)
 bracketed_append (b ∷ ys) rest h = refl
 
-varname_wait : (n : ℕ) (xs : List ℕ) (r : Run) → varname n xs r ≡ Outcome.Wait → r ≡ Run.Undecided
+varname_wait : (n : ℕ) (xs : List ℕ) (r : Option ℕ) → varname n xs r ≡ Outcome.Wait → r ≡ None
 unfolding varname
-varname_wait n xs (Run.Over k) e =
-    choice (λ o. o ≡ Outcome.Wait → Run.Over k ≡ Run.Undecided) (is_bracketed (drop k xs)) _ _ (λ t. told_waits) (λ t. told_waits) e
-varname_wait n xs Run.Undecided e = refl
+varname_wait n xs (Some k) e =
+    choice (λ o. o ≡ Outcome.Wait → Some k ≡ None) (is_bracketed (drop k xs)) _ _ (λ t. told_waits) (λ t. told_waits) e
+varname_wait n xs None e = refl
 
-varname_append : (n : ℕ) (part rest : List ℕ) (r : Run) → RunInside (length part) r → varname n (part ++ rest) r ≡ varname n part r
+varname_append : (n : ℕ) (part rest : List ℕ) (r : Option ℕ) → RunInside (length part) r → varname n (part ++ rest) r ≡ varname n part r
 unfolding varname
-varname_append n part rest (Run.Over k) h =
+varname_append n part rest (Some k) h =
     let a : k ≤ length part = omega arith in
     let b : 0 < length (drop k part) = omega (arith, length-drop k part) in
     rw (drop-append-le k part rest a, bracketed_append (drop k part) rest b, take-append-le k part rest a)
-varname_append n part rest Run.Undecided h = refl
+varname_append n part rest None h = refl
 
 -- the name as it stands, or a brace after it
 varname_answers : (p n b : ℕ) (xs : List ℕ)
@@ -130,17 +129,17 @@ looking_for_varname_demands n p = answers_demands p (λ end. looking_for_varname
 
 -- ---- LookingForProperty
 
-property_wait : (n : ℕ) (xs : List ℕ) (r : Run) → property n xs r ≡ Outcome.Wait → r ≡ Run.Undecided
+property_wait : (n : ℕ) (xs : List ℕ) (r : Option ℕ) → property n xs r ≡ Outcome.Wait → r ≡ None
 unfolding property
-property_wait n xs (Run.Over k) e = told_waits e
-property_wait n xs Run.Undecided e = refl
+property_wait n xs (Some k) e = told_waits e
+property_wait n xs None e = refl
 
-property_append : (n : ℕ) (part rest : List ℕ) (r : Run) → RunInside (length part) r → property n (part ++ rest) r ≡ property n part r
+property_append : (n : ℕ) (part rest : List ℕ) (r : Option ℕ) → RunInside (length part) r → property n (part ++ rest) r ≡ property n part r
 unfolding property
-property_append n part rest (Run.Over k) h =
+property_append n part rest (Some k) h =
     let a : k ≤ length part = omega arith in
     rw (take-append-le k part rest a)
-property_append n part rest Run.Undecided h = refl
+property_append n part rest None h = refl
 
 -- the name as it stands, or one byte more
 property_answers : (p n b : ℕ) (xs : List ℕ)

@@ -1,7 +1,7 @@
 -- What tells no literal and no comment: the frames but Scripting. Each law is its definition again. Assumes nothing.
 --   NoLiteral, TellsNone   no piece is a literal or a comment
 --   texted_none, initial_none, looking_for_varname_none, looking_for_property_none, var_offset_none
-use Rattle.std.specs.Prelude.{if◌then◌else◌}
+use Rattle.std.specs.Prelude.{if◌then◌else◌, Option, Some, None}
 use Prim.Native.Nat.{ℕ}
 use mathlib.Core.Path.{◌≡◌, refl}
 use mathlib.Core.Bool.{Bool, true, false, not}
@@ -17,7 +17,6 @@ use Rattle.unit.specs.declared.Mode.{Mode}
 use Rattle.unit.specs.declared.Stop.{Stop}
 use Rattle.unit.specs.Readings as unit
 use Rattle.outcome.specs.declared.OpenTagKind.{OpenTagKind}
-use Rattle.outcome.specs.declared.Run.{Run}
 use Rattle.outcome.specs.declared.Tagged.{Tagged}
 use Rattle.outcome.specs.Outcomes.{Piece, Outcome, unless_empty}
 use Rattle.outcome.specs.Initials.{tagged, tag_kind, inlined, initial}
@@ -83,20 +82,20 @@ module _ (end : Bool) (n : ℕ) where
       go Tagged.Over = refl
       go Tagged.Undecided = tt
 
-  varname_none : (xs : List ℕ) (r : Run) → TellsNone (varname n xs r)
+  varname_none : (xs : List ℕ) (r : Option ℕ) → TellsNone (varname n xs r)
   unfolding varname every is_literal is_among
-  varname_none xs (Run.Over k) = if_none (is_bracketed (drop k xs)) _ _ refl refl
-  varname_none xs Run.Undecided = tt
+  varname_none xs (Some k) = if_none (is_bracketed (drop k xs)) _ _ refl refl
+  varname_none xs None = tt
 
   pub looking_for_varname_none : (xs : List ℕ) → TellsNone (looking_for_varname end n xs)
   unfolding looking_for_varname every
   looking_for_varname_none [] = if_none end _ _ refl tt
   looking_for_varname_none (b ∷ xs) = if_none (is_start b) _ _ (varname_none (b ∷ xs) (named end 1 xs)) refl
 
-  property_none : (xs : List ℕ) (r : Run) → TellsNone (property n xs r)
+  property_none : (xs : List ℕ) (r : Option ℕ) → TellsNone (property n xs r)
   unfolding property every is_literal is_among
-  property_none xs (Run.Over k) = refl
-  property_none xs Run.Undecided = tt
+  property_none xs (Some k) = refl
+  property_none xs None = tt
 
   arrow_head_none : (kind k : ℕ) → is_literal kind ≡ false → (xs ys : List ℕ) → TellsNone (arrow_head kind k end n xs ys)
   unfolding arrow_head every

@@ -1,4 +1,5 @@
 -- Demand 3 for the mode Scripting: `scripting_demands`, from any position on, at each depth. Row by row. Assumes nothing.
+use Rattle.std.specs.Prelude.{Option, Some, None}
 use mathlib.Core.Path.{◌≡◌, refl, ap}
 use mathlib.Core.Bool.{true, false}
 use mathlib.Core.List.{List, [], ◌∷◌, ◌++◌}
@@ -16,7 +17,6 @@ use Rattle.unit.proofs.Openings.{one_more}
 use Rattle.number.specs.Numbers.{Reading, number_at}
 use Rattle.number.proofs.Values.{number_at_ends}
 use Rattle.outcome.specs.declared.Change.{Change}
-use Rattle.outcome.specs.declared.Run.{Run}
 use Rattle.outcome.specs.Outcomes.{Outcome, goes, limited}
 use Rattle.outcome.specs.Lookings.{named}
 use Rattle.outcome.specs.Texts.{numbered}
@@ -34,10 +34,10 @@ unfolding numbered limited
 numbered_some p place after (Reading.Number literal value to) h e = pieces_apart e
 numbered_some p place after Reading.Wait h e = h refl
 
-word_wait : (n : ℕ) (r : Run) → word n r ≡ Outcome.Wait → r ≡ Run.Undecided
+word_wait : (n : ℕ) (r : Option ℕ) → word n r ≡ Outcome.Wait → r ≡ None
 unfolding word
-word_wait n (Run.Over k) e = told_waits e
-word_wait n Run.Undecided e = refl
+word_wait n (Some k) e = told_waits e
+word_wait n None e = refl
 
 module _ (n p : ℕ) where
   -- the `.`, or a number

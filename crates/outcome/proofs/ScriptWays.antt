@@ -1,6 +1,6 @@
 -- The outcomes of inline text and of Scripting's table, row by row: each lies within the source, leaves the stack good
 -- and goes on (Ways). Assumes nothing.
-use Rattle.std.specs.Prelude.{if◌then◌else◌}
+use Rattle.std.specs.Prelude.{if◌then◌else◌, Option, Some, None}
 use Prim.Native.Nat.{ℕ, suc, ◌+◌, ◌-◌, ◌≤◌, ◌<◌}
 use Prim.Native.Char.{code}
 use mathlib.Core.Path.{◌≡◌, refl, sym, ap, ◌∙◌}
@@ -31,7 +31,6 @@ use Rattle.outcome.specs.declared.CommentKind.{CommentKind}
 use Rattle.outcome.specs.declared.DocStringKind.{DocStringKind}
 use Rattle.outcome.specs.declared.Opening.{Opening}
 use Rattle.outcome.specs.declared.OpenTagKind.{OpenTagKind}
-use Rattle.outcome.specs.declared.Run.{Run}
 use Rattle.outcome.specs.declared.Tagged.{Tagged}
 use Rattle.outcome.specs.Outcomes.{Outcome}
 use Rattle.outcome.specs.Initials.{tagged, tag_length, inlined, initial}
@@ -124,10 +123,10 @@ module _ {src : List ℕ} {n : ℕ} (a : Asked src n) (top : is_scripting a.top 
       if_ways a (is_digit b) _ _ (numbered_ways a end (code "." ∷ b ∷ xs) (omega arith) (λ g. point_passes end n b xs))
       (sign (omega arith))
 
-  word_ways : (r : Run) (size : ℕ) → n + size ≤ length src → RunInside 1 size r → Way (word n r)
+  word_ways : (r : Option ℕ) (size : ℕ) → n + size ≤ length src → RunInside 1 size r → Way (word n r)
   unfolding word
-  word_ways (Run.Over k) size y x = goes_ways a (omega (arith, x.0)) (omega (arith, x.1)) (λ g. tt)
-  word_ways Run.Undecided size y x = waits a
+  word_ways (Some k) size y x = goes_ways a (omega (arith, x.0)) (omega (arith, x.1)) (λ g. tt)
+  word_ways None size y x = waits a
 
   close_tag_ways : (xs : List ℕ) → suc n + length xs ≤ length src → Way (close_tag end n xs)
   unfolding close_tag is_frame is_bottom is_scripting

@@ -11,7 +11,7 @@
 --                                  and what may be refused
 --   Ways                           of an outcome from the place n on
 -- Assumes nothing.
-use Rattle.std.specs.Prelude.{if◌then◌else◌}
+use Rattle.std.specs.Prelude.{if◌then◌else◌, Option, Some, None}
 use Prim.Native.Nat.{ℕ, suc, ◌+◌, ◌-◌, ◌≤◌, ◌<◌}
 use mathlib.Core.Path.{◌≡◌, refl, sym}
 use mathlib.Core.Bool.{Bool, true, false, not, ◌||◌, false≢true}
@@ -38,7 +38,6 @@ use Rattle.unit.proofs.Stands.{faults, is_interpolation}
 use Rattle.number.specs.Numbers as number
 use Rattle.number.proofs.Values.{Passes, number_at_inside, number_at_shorter}
 use Rattle.outcome.specs.declared.Change.{Change}
-use Rattle.outcome.specs.declared.Run.{Run}
 use Rattle.outcome.specs.Outcomes.{Piece, Outcome, piece}
 use Rattle.outcome.specs.Insides.{ToldInside, Inside}
 use Rattle.outcome.specs.Texts.{slice, stop_detail, variable_change, stop_change, texted, is_left, literal}
@@ -284,9 +283,9 @@ module _ {src : List ℕ} {n : ℕ} (a : Asked src n) where
 
 -- ---- runs of identifier bytes: k of them were passed before xs
 
-abbrev pub RunInside : ℕ → ℕ → Run → Type 0
-RunInside k hi (Run.Over j) = (k ≤ j) × (j ≤ hi)
-RunInside k hi Run.Undecided = Unit {0}
+abbrev pub RunInside : ℕ → ℕ → Option ℕ → Type 0
+RunInside k hi (Some j) = (k ≤ j) × (j ≤ hi)
+RunInside k hi None = Unit {0}
 
 pub named_inside : (end : Bool) (k hi : ℕ) (xs : List ℕ) → k + length xs ≤ hi → RunInside k hi (named end k xs)
 unfolding named
@@ -296,9 +295,9 @@ named_inside end k hi (b ∷ xs) h =
     (λ e. go (named end (suc k) xs) (named_inside end (suc k) hi xs (omega arith)))
     (λ e. (omega arith, omega arith))
   where
-    go : (r : Run) → RunInside (suc k) hi r → RunInside k hi r
-    go (Run.Over j) x = (omega (arith, x.0), x.1)
-    go Run.Undecided x = tt
+    go : (r : Option ℕ) → RunInside (suc k) hi r → RunInside k hi r
+    go (Some j) x = (omega (arith, x.0), x.1)
+    go None x = tt
 
 -- ---- the modes that look for a name or an offset
 
@@ -320,14 +319,14 @@ module _ {src : List ℕ} {n : ℕ} (a : Asked src n) (end : Bool) where
           numbers = tt;
         }
 
-    varname_ways : (xs : List ℕ) (r : Run) → n + length xs ≤ length src → RunInside 1 (length xs) r
+    varname_ways : (xs : List ℕ) (r : Option ℕ) → n + length xs ≤ length src → RunInside 1 (length xs) r
         → Ways a (varname n xs r)
     unfolding varname
-    varname_ways xs (Run.Over k) h x =
+    varname_ways xs (Some k) h x =
         if_ways a (is_bracketed (drop k xs)) _ _
         (token_ways a identifier k xs x.0 (omega (arith, x.1)) (λ g. scripting_in src a.top other))
         stays_ways
-    varname_ways xs Run.Undecided h x = waits a
+    varname_ways xs None h x = waits a
 
     pub looking_for_varname_ways : (xs : List ℕ) → n + length xs ≤ length src → Ways a (looking_for_varname end n xs)
     unfolding looking_for_varname
@@ -356,12 +355,12 @@ module _ {src : List ℕ} {n : ℕ} (a : Asked src n) (end : Bool) where
     questioned_ways xs (b ∷ ys) h y =
         if_ways a (b is "-") _ _ (arrow_head_ways question_arrow 2 xs ys (omega arith) y) none_ways
 
-    property_ways : (a.Good → 2 ≤ a.depth) → (xs : List ℕ) (r : Run) → n + length xs ≤ length src
+    property_ways : (a.Good → 2 ≤ a.depth) → (xs : List ℕ) (r : Option ℕ) → n + length xs ≤ length src
         → RunInside 1 (length xs) r
         → Ways a (property n xs r)
     unfolding property
-    property_ways deep xs (Run.Over k) y x = token_ways a identifier k xs x.0 (omega (arith, x.1)) deep
-    property_ways deep xs Run.Undecided y x = waits a
+    property_ways deep xs (Some k) y x = token_ways a identifier k xs x.0 (omega (arith, x.1)) deep
+    property_ways deep xs None y x = waits a
 
     pub looking_for_property_ways : (a.Good → 2 ≤ a.depth) → (xs : List ℕ) → n + length xs ≤ length src
         → Ways a (looking_for_property end n xs)

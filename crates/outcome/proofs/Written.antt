@@ -5,7 +5,7 @@
 --   framed_written             any frame
 --   call_written               the step and the three readings
 --   outcome_written            in a session, with the limit of 64 frames
-use Rattle.std.specs.Prelude.{if◌then◌else◌}
+use Rattle.std.specs.Prelude.{if◌then◌else◌, Option, Some, None}
 use Prim.Native.Nat.{ℕ, suc, ◌-◌, ◌≤◌, ◌<◌}
 use Prim.Native.Char.{code}
 use mathlib.Core.Path.{◌≡◌, refl}
@@ -33,7 +33,6 @@ use Rattle.sheet.specs.Sheets.{sheet_at}
 use Rattle.outcome.specs.declared.Call.{Call}
 use Rattle.outcome.specs.declared.CommentKind.{CommentKind}
 use Rattle.outcome.specs.declared.Opening.{Opening}
-use Rattle.outcome.specs.declared.Run.{Run}
 use Rattle.outcome.specs.Outcomes.{Outcome}
 use Rattle.outcome.specs.Initials.{initial}
 use Rattle.outcome.specs.Openings.{opening, opened}
@@ -124,10 +123,10 @@ module _ (octals : Octal) (end : Bool) (n : ℕ) where
       rw z (point_row octals depth b (take (after - suc (suc n)) rest) f)))
       (λ f. tt)
 
-  word_written : (xs : List ℕ) (r : Run) → Step xs (word n r)
+  word_written : (xs : List ℕ) (r : Option ℕ) → Step xs (word n r)
   unfolding word
-  word_written xs (Run.Over k) = tt
-  word_written xs Run.Undecided = tt
+  word_written xs (Some k) = tt
+  word_written xs None = tt
 
   close_tag_written : (xs rest : List ℕ) → Step xs (close_tag end n rest)
   unfolding close_tag

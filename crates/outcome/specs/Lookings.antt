@@ -5,19 +5,18 @@
 --                          cursor
 --   var_offset   in `$a[..]`: one byte is passed, and at `]` the frame is left; nothing left is 1
 -- n is the position of the text's head, `end` says that the text is all there.
-use Rattle.std.specs.Prelude.{ℕ, suc, ◌+◌, Bool, false, ◌||◌, List, [], ◌∷◌, take, drop, if◌then◌else◌}
+use Rattle.std.specs.Prelude.{ℕ, suc, ◌+◌, Bool, false, ◌||◌, List, [], ◌∷◌, take, drop, if◌then◌else◌, Option, Some, None}
 use Rattle.byte.specs.Words.{◌is◌}
 use Rattle.byte.specs.Bytes.{is_start, is_identifier}
 use Rattle.byte.specs.Refusals.{unexpected_end_of_file, no_property}
 use Rattle.state.specs.declared.Frame.{Frame}
 use Rattle.token.specs.Kinds.{identifier, question_arrow, arrow}
 use Rattle.outcome.specs.declared.Change.{Change}
-use Rattle.outcome.specs.declared.Run.{Run}
 use Rattle.outcome.specs.Outcomes.{Outcome, piece, goes, ending}
 
-unfoldable pub named : Bool → ℕ → List ℕ → Run
-named end k [] = if end then Run.Over k else Run.Undecided
-named end k (b ∷ rest) = if is_identifier b then named end (suc k) rest else Run.Over k
+unfoldable pub named : Bool → ℕ → List ℕ → Option ℕ
+named end k [] = if end then Some k else None
+named end k (b ∷ rest) = if is_identifier b then named end (suc k) rest else Some k
 
 -- the first k bytes of xs, which starts at n, as a token
 abbrev pub token : ℕ → ℕ → List ℕ → ℕ → Change → Outcome
@@ -27,19 +26,19 @@ unfoldable pub is_bracketed : List ℕ → Bool
 is_bracketed [] = false
 is_bracketed (b ∷ rest) = b is "[" || b is "}"
 
-unfoldable pub varname : ℕ → List ℕ → Run → Outcome
-varname n xs (Run.Over k) =
+unfoldable pub varname : ℕ → List ℕ → Option ℕ → Outcome
+varname n xs (Some k) =
     if is_bracketed (drop k xs) then token identifier n xs k (Change.Swap Frame.Scripting) else goes n (Change.Swap Frame.Scripting)
-varname n xs Run.Undecided = Outcome.Wait
+varname n xs None = Outcome.Wait
 
 unfoldable pub looking_for_varname : Bool → ℕ → List ℕ → Outcome
 looking_for_varname end n [] = ending end (goes n (Change.Swap Frame.Scripting))
 looking_for_varname end n (b ∷ rest) =
     if is_start b then varname n (b ∷ rest) (named end 1 rest) else goes n (Change.Swap Frame.Scripting)
 
-unfoldable pub property : ℕ → List ℕ → Run → Outcome
-property n xs (Run.Over k) = token identifier n xs k Change.Leave
-property n xs Run.Undecided = Outcome.Wait
+unfoldable pub property : ℕ → List ℕ → Option ℕ → Outcome
+property n xs (Some k) = token identifier n xs k Change.Leave
+property n xs None = Outcome.Wait
 
 -- the `>` of an arrow of this kind, of which so many bytes stand before it
 unfoldable pub arrow_head : ℕ → ℕ → Bool → ℕ → List ℕ → List ℕ → Outcome

@@ -4,7 +4,7 @@
 --   word        an identifier start: the whole run is passed
 --   close_tag   `?>`: passed, and the top becomes Initial
 --   scripting   what contracts cite
-use Rattle.std.specs.Prelude.{ℕ, suc, ◌+◌, Bool, true, List, [], ◌∷◌, ltb, if◌then◌else◌}
+use Rattle.std.specs.Prelude.{ℕ, suc, ◌+◌, Bool, true, List, [], ◌∷◌, ltb, if◌then◌else◌, Option, Some, None}
 use Prim.Native.Char.{code}
 use Rattle.byte.specs.Words.{◌is◌}
 use Rattle.byte.specs.Bytes.{is_digit, is_start}
@@ -15,7 +15,6 @@ use Rattle.unit.specs.declared.Mode.{Mode}
 use Rattle.unit.specs.Readings.{text_at}
 use Rattle.number.specs.Numbers.{number_at}
 use Rattle.outcome.specs.declared.Change.{Change}
-use Rattle.outcome.specs.declared.Run.{Run}
 use Rattle.outcome.specs.Outcomes.{Outcome, goes, ending}
 use Rattle.outcome.specs.Openings.{opening, opened}
 use Rattle.outcome.specs.Texts.{literal, numbered}
@@ -27,9 +26,9 @@ point end n [] = ending end (goes (suc n) Change.Keep)
 point end n (b ∷ rest) =
     if is_digit b then numbered n (number_at end n (code "." ∷ b ∷ rest)) else goes (suc n) Change.Keep
 
-unfoldable pub word : ℕ → Run → Outcome
-word n (Run.Over k) = goes (n + k) Change.Keep
-word n Run.Undecided = Outcome.Wait
+unfoldable pub word : ℕ → Option ℕ → Outcome
+word n (Some k) = goes (n + k) Change.Keep
+word n None = Outcome.Wait
 
 unfoldable pub close_tag : Bool → ℕ → List ℕ → Outcome
 close_tag end n [] = ending end (goes (suc n) Change.Keep)

@@ -36,7 +36,7 @@ pub enum OpenTagKind {
     Short,
 }
 
-// What stands at a `<` of inline text.
+// What stands at a `<` of inline text. Three answers with names: an Option of an Option would be no plainer.
 #[derive(Clone, Copy)]
 pub enum Tag {
     Open(OpenTagKind),
@@ -45,7 +45,7 @@ pub enum Tag {
     Undecided,
 }
 
-// The first tag of inline text.
+// The first tag of inline text: three answers with names, as above.
 #[derive(Clone, Copy)]
 pub enum Tagged {
     At { kind: OpenTagKind, place: usize },
@@ -62,6 +62,7 @@ pub enum DocStringKind {
 }
 
 // What stands at a `<` of a script: a block opens, with its label's range and the place after its break; or it is another byte.
+// Three answers with names.
 #[derive(Clone, Copy)]
 pub enum Opening {
     Block {
@@ -74,13 +75,6 @@ pub enum Opening {
     Undecided,
 }
 
-// How many identifier bytes come, if the part does not end with them.
-#[derive(Clone, Copy)]
-pub enum Run {
-    Over(usize),
-    Undecided,
-}
-
 // The comments: `//` and `#` begin one of a single line, `/*` one that may have many.
 #[derive(Clone, Copy)]
 pub enum CommentKind {
@@ -88,7 +82,7 @@ pub enum CommentKind {
     MultiLine,
 }
 
-// How many bytes of a comment come before its end.
+// How many bytes of a comment come before its end. Three answers with names.
 #[derive(Clone, Copy)]
 pub enum CommentEnd {
     At(usize),

@@ -5,7 +5,7 @@ use Rattle.initial.proofs.Tags.{Finding}
 use Rattle.initial.proofs.find_tag.Given as goal
 
 abbrev pub invariant-loop-i : goal.invariant-loop-i
-invariant-loop-i l = Finding l.src l.end l.at l.i
+invariant-loop-i l = Finding l.src l.end l.at l.from
 
 abbrev pub decreases-loop-i : goal.decreases-loop-i
-decreases-loop-i l = length l.src - l.i
+decreases-loop-i l = length l.src - l.from

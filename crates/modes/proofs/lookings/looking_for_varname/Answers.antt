@@ -1,0 +1,15 @@
+-- `modes::lookings::looking_for_varname` meets its contract: each of these returns is a law of `Looks`. Assumes nothing.
+use Rattle.modes.proofs.Looks.{looking_for_varnames}
+use Rattle.modes.proofs.lookings.looking_for_varname.Goals as goal
+
+pub returns-then-src-at : goal.returns-then-src-at
+returns-then-src-at c = search looking_for_varnames
+
+pub returns-then-not-is_start : goal.returns-then-not-is_start
+returns-then-not-is_start c = search looking_for_varnames
+
+pub returns-in-Some : goal.returns-in-Some
+returns-in-Some c = search looking_for_varnames
+
+pub returns-in-None : goal.returns-in-None
+returns-in-None c = search looking_for_varnames
