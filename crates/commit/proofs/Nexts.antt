@@ -22,7 +22,7 @@ use Rattle.commit.specs.declared.Mark.{Mark}
 use Rattle.commit.specs.Records.{span_at, answer_of, room_for, stays, reached}
 use Rattle.commit.specs.Code.{total_of, Ahead, DraftsFit, DraftsPut, is_full, advanced, Advances, Commits, Works, Committed}
 use Rattle.commit.proofs.Spans.{span_at_here}
-use Rattle.commit.proofs.Records.{length-pieces, length_drafts_of, length-values}
+use Rattle.commit.proofs.Records.{length-pieces, length-values}
 use Rattle.commit.proofs.Putting.{room_facts}
 
 -- an arm of a match on a change
@@ -53,20 +53,21 @@ module _ (src : List ℕ) (end : Bool) (scratch : List ℕ) (m : Mark) (w : Work
   work_values : length (values (pieces_of src end w.drafts)) ≡ total_of (drafts_of w.drafts)
   work_values = length-values src end scratch (drafts_of w.drafts) f.ready.all
 
-  work_count : length (pieces_of src end w.drafts) ≡ w.drafts.count
-  work_count = length-pieces src end (drafts_of w.drafts) ∙ length_drafts_of w.drafts f.ready.few
+  work_count : length (pieces_of src end w.drafts) ≡ length (drafts_of w.drafts)
+  work_count = length-pieces src end (drafts_of w.drafts)
 
   work_narrow : total_of (drafts_of w.drafts) ≤ length src
   work_narrow = omega (arith, work_values, f.inside.narrow, f.inside.inside)
 
-  pub work_total : (w.drafts.count ≤ 2) × (total_of (drafts_of w.drafts) ≤ 65536)
-  work_total = (f.ready.few, omega (arith, work_narrow, f.marked.cursor.short))
+  pub work_total : total_of (drafts_of w.drafts) ≤ 65536
+  work_total = omega (arith, work_narrow, f.marked.cursor.short)
 
   module _ (total : ℕ) (t : total ≡ total_of (drafts_of w.drafts)) where
     pub work_len : Fits w32 total
-    work_len = record { fits = omega (arith, work_total.1) }
+    work_len = record { fits = omega (arith, work_total) }
 
-    module _ (number : ℕ) (e : number ≡ room_refusal (length l) (length q) m.tokens m.bytes w.drafts.count total) where
+    module _ (number : ℕ)
+        (e : number ≡ room_refusal (length l) (length q) m.tokens m.bytes (length (drafts_of w.drafts)) total) where
       room_pieces : number ≡ room_for m (record { list = l; pool = q }) (pieces_of src end w.drafts)
       room_pieces = e ∙ rw (t, work_count, work_values)
 
@@ -80,13 +81,13 @@ module _ (src : List ℕ) (end : Bool) (scratch : List ℕ) (m : Mark) (w : Work
       }
 
       module _ (z : number ≡ 0) where
-        room_open : (m.tokens + w.drafts.count ≤ length l / 8) × (m.bytes + total ≤ length q)
-        room_open = room_facts (length l) (length q) m.tokens m.bytes w.drafts.count total (sym e ∙ z)
+        room_open : (m.tokens + length (drafts_of w.drafts) ≤ length l / 8) × (m.bytes + total ≤ length q)
+        room_open = room_facts (length l) (length q) m.tokens m.bytes (length (drafts_of w.drafts)) total (sym e ∙ z)
 
-        pub work_fits : DraftsFit src end scratch m w (length l) (length q)
+        pub work_fits : DraftsFit src end scratch w.after m w.drafts (length l) (length q)
         work_fits = record {
           marked = f.marked;
-          ready = f.ready;
+          ready = f.ready.all;
           all = all_inside_wide _ _ f.inside.inside m.span.position (pieces_of src end w.drafts) f.inside.all;
           after = f.inside.inside;
           narrow = work_narrow;
@@ -94,7 +95,7 @@ module _ (src : List ℕ) (end : Bool) (scratch : List ℕ) (m : Mark) (w : Work
           room = rw (← t) room_open.1;
         }
 
-        pub work_advances : Advances src m w w.drafts.count total
+        pub work_advances : Advances src m w (length (drafts_of w.drafts)) total
         work_advances = record {
           ahead = record { cursor = f.marked.cursor; low = f.inside.order; high = f.inside.inside };
           places = omega (arith, room_open.0, f.marked.places);
@@ -103,7 +104,7 @@ module _ (src : List ℕ) (end : Bool) (scratch : List ℕ) (m : Mark) (w : Work
 
         pub work_written : (r : Next) (l' q' : List ℕ)
             → DraftsPut src w.after m (pieces_of src end w.drafts) l q l' q'
-            → r ≡ advanced src m w w.drafts.count total → Committed src m l q (outcome_of src end (Plan.Told w)) r l' q'
+            → r ≡ advanced src m w (length (drafts_of w.drafts)) total → Committed src m l q (outcome_of src end (Plan.Told w)) r l' q'
         unfolding outcome_of reached
         work_written r l' q' p h =
             let same : room_for m (record { list = l; pool = q }) (pieces_of src end w.drafts) ≡ 0 = sym room_pieces ∙ z in
