@@ -1,19 +1,14 @@
 -- Counting drafts, and writing their records and values one after another. Assumes nothing.
 --   Putting   the drafts that are left fit from the marks on: one of them is put, and then the others
 --   putting   none, one or two drafts
-use Prim.Native.Nat.{ℕ, zero, suc, ◌+◌, ◌*◌, ◌/◌, ◌≤◌, ◌<◌}
-use mathlib.Core.Path.{◌≡◌, refl, sym, ap, subst, ◌∙◌}
+use Prim.Native.Nat.{ℕ, suc, ◌+◌, ◌*◌, ◌/◌, ◌≤◌}
+use mathlib.Core.Path.{◌≡◌, refl, sym, ap, ◌∙◌}
 use mathlib.Core.Bool.{Bool}
 use mathlib.Core.List.{List, [], ◌∷◌}
 use native.Mathlib.Omega.{arith}
-use lib.ListN.{length, drop, length-append, length-take, drop_of_length-le}
-use borrow.Author.Tests.{eq-eqb, ne_eqb}
-use mir.Syntax.{w32, w64}
-use mir.Val.{Fits}
+use lib.ListN.{length, length-append}
 use Rattle.byte.specs.Laid.{laid}
 use Rattle.byte.proofs.Laid.{length_laid}
-use Rattle.source.specs.declared.Span.{Span}
-use Rattle.token.specs.declared.Token.{Token}
 use Rattle.token.specs.Records.{record_of}
 use Rattle.outcome.specs.Outcomes.{values}
 use Rattle.outcome.specs.Insides.{AllInside}
@@ -21,7 +16,7 @@ use Rattle.plan.specs.declared.Draft.{Draft}
 use Rattle.plan.specs.declared.Drafts.{Drafts}
 use Rattle.plan.specs.Code.{made, piece_of, pieces, pieces_of, drafts_of, AllReady}
 use Rattle.commit.specs.declared.Mark.{Mark}
-use Rattle.commit.specs.Records.{span_at, Tables, put}
+use Rattle.commit.specs.Records.{Tables, put}
 use Rattle.commit.specs.Code.{total_of, Marked, draft_token, DraftFits, DraftPut, past_draft, DraftsFit, DraftsPut}
 
 -- ---- how many
@@ -42,18 +37,6 @@ length-values src end scratch (d ∷ more) r =
     rw (length-append (made src end d) (values (pieces src end more)), r.0.size, later)
 
 -- ---- one draft
-
-pub draft_token_made : (src : List ℕ) (after : ℕ) (m : Mark) (d : Draft) (span : Span)
-    → span ≡ span_at src m.span d.place
-    → record { kind = d.kind; detail = d.detail; span = span; start = m.bytes; len = d.len; end = after }
-    ≡ draft_token src after m d
-draft_token_made src after m d span e = rw e
-
-pub record_put : (src : List ℕ) (after : ℕ) (m : Mark) (d : Draft) (l l' : List ℕ) (t : Token)
-    → t ≡ draft_token src after m d
-    → l' ≡ laid l (m.tokens * 8) (record_of t)
-    → l' ≡ laid l (m.tokens * 8) (record_of (draft_token src after m d))
-record_put src after m d l l' t e h = h ∙ rw e
 
 -- a draft's value and record
 module _ (src : List ℕ) (end : Bool) (scratch : List ℕ) (after : ℕ) (m : Mark) (d : Draft) (l q : List ℕ)
@@ -83,7 +66,7 @@ pub record Putting (src : List ℕ) (end : Bool) (scratch : List ℕ) (after : �
   pub low : ℕ
   pub lower : at.span.position ≤ low
   pub all : AllInside low (length src) (pieces src end rest)
-  pub after : after ≤ length src
+  pub ends : after ≤ length src
   pub narrow : total_of rest ≤ length src
   pub places : at.tokens + length rest ≤ list / 8
   pub room : at.bytes + total_of rest ≤ pool
@@ -97,7 +80,7 @@ module _ (src : List ℕ) (end : Bool) (scratch : List ℕ) (after : ℕ) where
     low = m.span.position;
     lower = omega arith;
     all = f.all;
-    after = f.after;
+    ends = f.ends;
     narrow = f.narrow;
     places = f.places;
     room = f.room;
@@ -119,7 +102,7 @@ module _ (src : List ℕ) (end : Bool) (scratch : List ℕ) (after : ℕ) where
             };
             detail = a.detail;
             len = omega (arith, g.narrow);
-            end = g.after;
+            end = g.ends;
           };
           ready = g.ready.0;
           places = omega (arith, g.places);
@@ -149,7 +132,7 @@ module _ (src : List ℕ) (end : Bool) (scratch : List ℕ) (after : ℕ) where
             low = d.place;
             lower = omega (arith, g.lower, g.all.0.low);
             all = g.all.1;
-            after = g.after;
+            ends = g.ends;
             narrow = omega (arith, g.narrow);
             places = omega (arith, g.places);
             room = omega (arith, g.room);
@@ -163,7 +146,7 @@ module _ (src : List ℕ) (end : Bool) (scratch : List ℕ) (after : ℕ) where
 -- none, one and two drafts
 module _ (src : List ℕ) (end : Bool) (scratch : List ℕ) (after : ℕ) (m : Mark) (ds : Drafts) (l q : List ℕ)
     (f : DraftsFit src end scratch after m ds (length l) (length q)) where
-  put_none : ds ≡ Drafts.None → DraftsPut src after m (pieces_of src end ds) l q l q
+  pub put_none : ds ≡ Drafts.None → DraftsPut src after m (pieces_of src end ds) l q l q
   unfolding put pieces
   put_none e = rw e (record { list = refl; pool = refl })
 
@@ -171,10 +154,10 @@ module _ (src : List ℕ) (end : Bool) (scratch : List ℕ) (after : ℕ) (m : M
     one_putting : Putting src end scratch after m (d ∷ []) (length l) (length q)
     one_putting = putting_first src end scratch after m (Drafts.One d) (length l) (length q) (rw e at f)
 
-    one_fits : DraftFits src end scratch after m d (length l) (length q)
+    pub one_fits : DraftFits src end scratch after m d (length l) (length q)
     one_fits = putting_fits src end scratch after m d [] l q one_putting
 
-    put_one : (r : Mark) (l' q' : List ℕ) → DraftPut src after m d (piece_of src end d) l q r l' q'
+    pub put_one : (r : Mark) (l' q' : List ℕ) → DraftPut src after m d (piece_of src end d) l q r l' q'
         → DraftsPut src after m (pieces_of src end ds) l q l' q'
     unfolding put pieces
     put_one r l' q' p =
@@ -185,17 +168,17 @@ module _ (src : List ℕ) (end : Bool) (scratch : List ℕ) (after : ℕ) (m : M
     two_putting : Putting src end scratch after m (d ∷ d' ∷ []) (length l) (length q)
     two_putting = putting_first src end scratch after m (Drafts.Two d d') (length l) (length q) (rw e at f)
 
-    two_fits : DraftFits src end scratch after m d (length l) (length q)
+    pub two_fits : DraftFits src end scratch after m d (length l) (length q)
     two_fits = putting_fits src end scratch after m d (d' ∷ []) l q two_putting
 
     module _ (r : Mark) (l' q' : List ℕ) (p : DraftPut src after m d (piece_of src end d) l q r l' q') where
       second_putting : Putting src end scratch after r (d' ∷ []) (length l') (length q')
       second_putting = putting_on src end scratch after m d (d' ∷ []) l q two_putting r l' q' p
 
-      second_fits : DraftFits src end scratch after r d' (length l') (length q')
+      pub second_fits : DraftFits src end scratch after r d' (length l') (length q')
       second_fits = putting_fits src end scratch after r d' [] l' q' second_putting
 
-      put_two : (r' : Mark) (l'' q'' : List ℕ) → DraftPut src after r d' (piece_of src end d') l' q' r' l'' q''
+      pub put_two : (r' : Mark) (l'' q'' : List ℕ) → DraftPut src after r d' (piece_of src end d') l' q' r' l'' q''
           → DraftsPut src after m (pieces_of src end ds) l q l'' q''
       unfolding put pieces
       put_two r' l'' q'' p' =

@@ -10,7 +10,7 @@
 --   advanced, Advances     the numbers after so many tokens and value bytes, and that they fit
 --   Commits, Works         what `commit` asks of its plan, and of what the plan tells
 --   Committed              what it gives
-use Rattle.std.specs.Prelude.{ℕ, ◌+◌, ◌*◌, ◌/◌, ◌≤◌, Bool, false, List, [], ◌∷◌, ◌≡◌, eqb, leb, length, if◌then◌else◌}
+use Rattle.std.specs.Prelude.{ℕ, ◌+◌, ◌*◌, ◌/◌, ◌≤◌, Bool, false, List, [], ◌∷◌, ◌≡◌, leb, length}
 use Rattle.source.specs.declared.Span.{Span}
 use Rattle.token.specs.declared.Token.{Token}
 use Rattle.outcome.specs.declared.Change.{Change}
@@ -101,7 +101,7 @@ pub record DraftsFit (src : List ℕ) (end : Bool) (scratch : List ℕ) (after :
   pub marked : Marked src m list pool
   pub ready : AllReady (drafts_of ds) src end scratch
   pub all : AllInside m.span.position (length src) (pieces_of src end ds)
-  pub after : after ≤ length src
+  pub ends : after ≤ length src
   pub narrow : total_of (drafts_of ds) ≤ length src
   pub places : m.tokens + length (drafts_of ds) ≤ list / 8
   pub room : m.bytes + total_of (drafts_of ds) ≤ pool

@@ -45,6 +45,7 @@ struct Step<'a> {
 }
 
 // The span of a place from the cursor on.
+#[tactic(auto, using(crate::proofs::Spans::span_at_stays))]
 pub fn span_at(src: &[u8], p: Span, place: usize) -> Span
     requires { Ahead src.now p place }
     ensures { result ≡ span_at src.now p place }
@@ -68,9 +69,10 @@ fn stay(number: u32, span: Span, m: Mark) -> Next
 }
 
 // The value of a draft, in the pool from the mark on.
+#[tactic(auto, using(crate::proofs::Values::writing))]
 fn write_value(step: Step, d: Draft, pool: &mut [u8], mark: usize)
     requires { Writes step.src.now step.end step.scratch.now d (length pool.old) mark }
-    ensures { pool.new ≡ laid pool.old mark (made step.src.now step.end d) }
+    ensures { pool.new ≡ laid pool.old mark (made step.entry.src.now step.entry.end d) }
 {
     let src = step.src;
     let from = d.from;
@@ -82,7 +84,7 @@ fn write_value(step: Step, d: Draft, pool: &mut [u8], mark: usize)
         Making::Text { mode, label } => {
             let name = plan::label_bytes(src, label);
             let part = &mut pool[mark..mark + len];
-            let again = text::read_text(mode, src, name, from, step.end, part);
+            text::read_text(mode, src, name, from, step.end, part);
         }
         Making::Number => number::write_number(src, from, to, &mut pool[mark..]),
         Making::Sheet { blank, width } => {
@@ -109,7 +111,7 @@ fn token_of(src: &[u8], after: usize, m: Mark, d: Draft) -> Token
 // A draft's record, at its place in the list.
 fn put_record(step: Step, m: Mark, d: Draft, list: &mut [u32])
     requires { Drawn step.src.now step.after m.span d × (m.tokens * 8 + 8 ≤ length list.old) }
-    ensures { list.new ≡ laid list.old (m.tokens * 8) (record_of (draft_token step.src.now step.after m d)) }
+    ensures { list.new ≡ laid list.old (m.tokens * 8) (record_of (draft_token step.entry.src.now step.entry.after m d)) }
 {
     let token = token_of(step.src, step.after, m, d);
     token::put_token(list, m.tokens as usize, token);
@@ -129,9 +131,10 @@ fn past_draft(m: Mark, d: Draft) -> Mark
 }
 
 // A draft's value and record, from the marks on, and the marks after it.
+#[tactic(auto, using(crate::proofs::Records::draft_put))]
 fn put_draft(step: Step, m: Mark, d: Draft, list: &mut [u32], pool: &mut [u8]) -> Mark
     requires { DraftFits step.src.now step.end step.scratch.now step.after m d (length list.old) (length pool.old) }
-    ensures { DraftPut step.src.now step.after m d (piece_of step.src.now step.end d) list.old pool.old result list.new pool.new }
+    ensures { DraftPut step.entry.src.now step.entry.after m d (piece_of step.entry.src.now step.entry.end d) list.old pool.old result list.new pool.new }
 {
     write_value(step, d, pool, m.bytes as usize);
     put_record(step, m, d, list);
@@ -150,6 +153,7 @@ fn count_of(ds: Drafts) -> u32
 }
 
 // How many value bytes drafts have.
+#[tactic(auto, unfolding(crate::specs::Code::total_of))]
 fn total(ds: Drafts) -> usize
     requires { total_of (drafts_of ds) ≤ 65536 }
     ensures { result ≡ total_of (drafts_of ds) }
@@ -162,9 +166,10 @@ fn total(ds: Drafts) -> usize
 }
 
 // The values and records of drafts, one after another, from the marks on.
+#[tactic(auto, using(crate::proofs::Records::putting))]
 fn put_drafts(step: Step, m: Mark, ds: Drafts, list: &mut [u32], pool: &mut [u8])
     requires { DraftsFit step.src.now step.end step.scratch.now step.after m ds (length list.old) (length pool.old) }
-    ensures { DraftsPut step.src.now step.after m (pieces_of step.src.now step.end ds) list.old pool.old list.new pool.new }
+    ensures { DraftsPut step.entry.src.now step.entry.after m (pieces_of step.entry.src.now step.entry.end ds) list.old pool.old list.new pool.new }
 {
     match ds {
         Drafts::None => {}
@@ -179,6 +184,7 @@ fn put_drafts(step: Step, m: Mark, ds: Drafts, list: &mut [u32], pool: &mut [u8]
 }
 
 // Whether a frame would be the 65th.
+#[tactic(auto, unfolding(crate::specs::Code::is_full))]
 fn is_full(change: Change, depth: u32) -> bool
     ensures { result ≡ is_full change depth }
 {
@@ -189,7 +195,11 @@ fn is_full(change: Change, depth: u32) -> bool
 fn answer_of(finished: bool) -> Answer
     ensures { result ≡ answer_of finished }
 {
-    if finished { Answer::Finished } else { Answer::Done }
+    if finished {
+        Answer::Finished
+    } else {
+        Answer::Done
+    }
 }
 
 // The numbers after `count` tokens with `len` value bytes.
@@ -213,10 +223,11 @@ fn advance(src: &[u8], m: Mark, w: Work, count: u32, len: u32) -> Next
 }
 
 // What a plan tells, where no frame is the 65th: refused where there is no room, else written.
+#[tactic(auto, using(crate::proofs::Nexts::works))]
 fn write_work(step: Step, m: Mark, w: Work, list: &mut [u32], pool: &mut [u8]) -> Next
-    requires { Works step.src.now step.end step.scratch.now m w (length list.old) (length pool.old) }
+    requires works { Works step.src.now step.end step.scratch.now m w (length list.old) (length pool.old) }
     requires ends { step.after ≡ w.after }
-    ensures { Committed step.src.now m list.old pool.old (outcome_of step.src.now step.end (Plan.Told w)) result list.new pool.new }
+    ensures { Committed step.entry.src.now m list.old pool.old (outcome_of step.entry.src.now step.entry.end (Plan.Told w)) result list.new pool.new }
 {
     let drafts = w.drafts;
     let count = count_of(drafts);
@@ -231,6 +242,7 @@ fn write_work(step: Step, m: Mark, w: Work, list: &mut [u32], pool: &mut [u8]) -
 
 // A plan becomes numbers, records and value bytes, or a refusal. Order: what the plan refuses, 9, 7, 8.
 // A value that is held stands in the scratch part.
+#[tactic(auto, using(crate::proofs::Nexts::commits))]
 pub fn commit(
     src: &[u8],
     end: bool,
@@ -251,7 +263,12 @@ pub fn commit(
                 return stay(byte::STACK_FULL, m.span, m);
             }
             let after = w.after;
-            let step = Step { src, end, scratch, after };
+            let step = Step {
+                src,
+                end,
+                scratch,
+                after,
+            };
             write_work(step, m, w, list, pool)
         }
         Plan::Refused { number, place } => {
