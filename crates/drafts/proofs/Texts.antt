@@ -12,7 +12,7 @@ use native.Mathlib.Omega.{arith}
 use lib.Dec.{eqb}
 use lib.ListN.{length, take, drop, length-take}
 use lib.Seq.{take-take, take-append-le}
-use borrow.Author.Tests.{leb-true, eqb-true, eqb-false, eq-eqb, ne_eqb}
+use borrow.Author.Tests.{leb-true, eqb-true}
 use Rattle.byte.specs.Laid.{laid}
 use Rattle.byte.proofs.Tests.{choice}
 use Rattle.byte.proofs.Laid.{length_laid}
@@ -35,67 +35,12 @@ use Rattle.outcome.specs.Texts.{texted, is_left, literal, text_read}
 use Rattle.plan.specs.declared.Making.{Making}
 use Rattle.plan.specs.declared.Draft.{Draft}
 use Rattle.plan.specs.declared.Plan.{Plan}
-use Rattle.plan.specs.Code.{made_by, Here, Named, Block, PlansIn, copied_draft, one_plan}
+use Rattle.plan.specs.Code.{made_by, Here, Named, Block, PlansIn, one_plan}
 use Rattle.drafts.specs.Code.{made_draft, is_held, text_making, text_draft, text_plan, text_work, Placed}
 use Rattle.drafts.specs.Code.{literal_kind, literal_plan, text_read_plan, read_plan}
 use Rattle.plan.proofs.Plans.{named_short, refused_plans, wait_plans}
 use Rattle.drafts.proofs.Drafts.{Makes, copied_makes, made_makes, piece_plans}
 use Rattle.drafts.proofs.Works.{all_left, read-plans}
-
--- ---- how its value comes about
-
-pub is_held_arm : (mode arm : Mode) (len room : ℕ) (r : Bool) → mode ≡ arm → r ≡ is_held arm len room
-    → r ≡ is_held mode len room
-is_held_arm mode arm len room r e h = rw e h
-
-module _ (mode : Mode) (label : Label) (held : Bool) where
-  pub text_making_held : held ≡ true → Making.Held mode label ≡ text_making mode label held
-  unfolding text_making
-  text_making_held t = rw t
-
-  pub text_making_read : held ≡ false → Making.Text mode label ≡ text_making mode label held
-  unfolding text_making
-  text_making_read t = rw t
-
-pub ruleset text_makings = (text_making_held, text_making_read)
-
-module _ (kind place : ℕ) (making : Making) (at len : ℕ) (stop : Stop) (from to : ℕ) (t : to ≡ unit.text_end stop from)
-    (d : Draft) where
-  pub text_draft_copied : at + len ≡ to → d ≡ copied_draft kind 0 place at (at + len)
-      → d ≡ text_draft kind place making at len stop from
-  unfolding text_draft
-  text_draft_copied e h = h ∙ rw (eq-eqb (at + len) (unit.text_end stop from) (e ∙ t))
-
-  pub text_draft_made : (at + len ≡ to → ⊥) → d ≡ made_draft kind place making at from len
-      → d ≡ text_draft kind place making at len stop from
-  unfolding text_draft
-  text_draft_made e h = h ∙ rw (ne_eqb (at + len) (unit.text_end stop from) (λ f. e (f ∙ sym t)))
-
-pub gap_fits : (at len : ℕ) (stop : Stop) (from : ℕ) → at + len + unit.gap stop ≤ from → unit.gap stop ≤ from
-gap_fits at len stop from h = omega arith
-
-pub ruleset text_drafts = (text_draft_copied, text_draft_made, gap_fits)
-
-module _ (kind : ℕ) (left : Bool) where
-  pub value_kind_left : left ≡ true → string_part ≡ (if left then string_part else kind)
-  value_kind_left t = rw t
-
-  pub value_kind_closed : left ≡ false → kind ≡ (if left then string_part else kind)
-  value_kind_closed t = rw t
-
-pub ruleset value_kinds = (value_kind_left, value_kind_closed)
-
-module _ (d : Draft) (left : Bool) (after : ℕ) (r : Plan) where
-  pub literal_plan_left : left ≡ true → r ≡ one_plan d after (Change.Swap Frame.DoubleQuote)
-      → r ≡ literal_plan d left after
-  unfolding literal_plan
-  literal_plan_left t e = e ∙ rw t
-
-  pub literal_plan_closed : left ≡ false → r ≡ one_plan d after Change.Keep → r ≡ literal_plan d left after
-  unfolding literal_plan
-  literal_plan_closed t e = e ∙ rw t
-
-pub ruleset literal_plans = (literal_plan_left, literal_plan_closed)
 
 -- ---- the plan of a text that was measured
 

@@ -145,7 +145,7 @@ fn text_making(mode: Mode, label: Label, held: bool) -> Making
 }
 
 // A text's value of `len` bytes: where nothing was escaped it is the source's own bytes.
-#[tactic(auto, using(crate::proofs::Texts::text_drafts))]
+#[tactic(auto, unfolding(crate::specs::Code::text_draft))]
 fn text_draft(
     kind: u32,
     place: usize,
@@ -165,7 +165,7 @@ fn text_draft(
 }
 
 // A sheet's value of `len` bytes: its rows up to the closing line. Without an indentation it is the source's own bytes.
-#[tactic(auto, using(crate::proofs::Works::sheet_drafts))]
+#[tactic(auto, unfolding(crate::specs::Code::sheet_draft))]
 fn sheet_draft(at: usize, len: usize, stop: Stop, from: usize) -> Draft
     requires { at + len + stop_detail stop ≤ from }
     ensures { result ≡ sheet_draft at len stop from }
