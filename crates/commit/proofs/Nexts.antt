@@ -9,7 +9,6 @@ use mir.Syntax.{w32}
 use mir.Val.{Fits}
 use borrow.Author.Tests.{leb-true, leb-false, ne_eqb, le-ltb, lt-ltb}
 use Rattle.source.specs.declared.Span.{Span}
-use Rattle.state.specs.declared.Answer.{Answer}
 use Rattle.token.specs.Records.{room_refusal}
 use Rattle.outcome.specs.declared.Change.{Change}
 use Rattle.outcome.specs.Outcomes.{Piece, Outcome, values, limited}
@@ -19,25 +18,11 @@ use Rattle.plan.specs.declared.Plan.{Plan}
 use Rattle.plan.specs.Code.{drafts_of, pieces_of, outcome_of}
 use Rattle.commit.specs.declared.Next.{Next}
 use Rattle.commit.specs.declared.Mark.{Mark}
-use Rattle.commit.specs.Records.{span_at, answer_of, room_for, stays, reached}
+use Rattle.commit.specs.Records.{span_at, room_for, stays, reached}
 use Rattle.commit.specs.Code.{total_of, Ahead, DraftsFit, DraftsPut, is_full, advanced, Advances, Commits, Works, Committed}
 use Rattle.commit.proofs.Spans.{span_at_here}
-use Rattle.commit.proofs.Records.{length-pieces, length_drafts_of, length-values}
+use Rattle.commit.proofs.Records.{length-pieces, length-values}
 use Rattle.commit.proofs.Putting.{room_facts}
-
--- an arm of a match on a change
-pub is_full_arm : (change arm : Change) (depth : ℕ) (r : Bool) → change ≡ arm → r ≡ is_full arm depth
-    → r ≡ is_full change depth
-is_full_arm change arm depth r e h = rw e h
-
-pub advanced_made : (src : List ℕ) (m : Mark) (w : Work) (count len : ℕ) (answer : Answer) (span : Span)
-    → answer ≡ answer_of w.finished → span ≡ span_at src m.span w.after
-    → record {
-      answer = answer;
-      mark = record { span = span; tokens = m.tokens + count; bytes = m.bytes + len };
-      change = w.change;
-    } ≡ advanced src m w count len
-advanced_made src m w count len answer span a p = rw (a, p)
 
 -- pieces up to a place lie up to any after it
 all_inside_wide : (after hi : ℕ) → after ≤ hi → (n : ℕ) (pieces : List Piece) → AllInside n after pieces
@@ -53,22 +38,23 @@ module _ (src : List ℕ) (end : Bool) (scratch : List ℕ) (m : Mark) (w : Work
   work_values : length (values (pieces_of src end w.drafts)) ≡ total_of (drafts_of w.drafts)
   work_values = length-values src end scratch (drafts_of w.drafts) f.ready.all
 
-  work_count : length (pieces_of src end w.drafts) ≡ w.drafts.count
-  work_count = length-pieces src end (drafts_of w.drafts) ∙ length_drafts_of w.drafts f.ready.few
+  work_count : length (pieces_of src end w.drafts) ≡ length (drafts_of w.drafts)
+  work_count = length-pieces src end (drafts_of w.drafts)
 
   work_narrow : total_of (drafts_of w.drafts) ≤ length src
   work_narrow = omega (arith, work_values, f.inside.narrow, f.inside.inside)
 
-  pub work_total : (w.drafts.count ≤ 2) × (total_of (drafts_of w.drafts) ≤ 65536)
-  work_total = (f.ready.few, omega (arith, work_narrow, f.marked.cursor.short))
+  pub work_total : total_of (drafts_of w.drafts) ≤ 65536
+  work_total = omega (arith, work_narrow, f.marked.cursor.short)
 
   module _ (total : ℕ) (t : total ≡ total_of (drafts_of w.drafts)) where
     pub work_len : Fits w32 total
-    work_len = record { fits = omega (arith, work_total.1) }
+    work_len = record { fits = omega (arith, work_total) }
 
-    module _ (number : ℕ) (e : number ≡ room_refusal (length l) (length q) m.tokens m.bytes w.drafts.count total) where
+    module _ (count : ℕ) (k : count ≡ length (drafts_of w.drafts)) (number : ℕ)
+        (e : number ≡ room_refusal (length l) (length q) m.tokens m.bytes count total) where
       room_pieces : number ≡ room_for m (record { list = l; pool = q }) (pieces_of src end w.drafts)
-      room_pieces = e ∙ rw (t, work_count, work_values)
+      room_pieces = e ∙ rw (k, t, work_count, work_values)
 
       pub work_refused : (r : Next) → (number ≡ 0 → ⊥) → r ≡ stays number m.span m
           → Committed src m l q (outcome_of src end (Plan.Told w)) r l q
@@ -80,37 +66,38 @@ module _ (src : List ℕ) (end : Bool) (scratch : List ℕ) (m : Mark) (w : Work
       }
 
       module _ (z : number ≡ 0) where
-        room_open : (m.tokens + w.drafts.count ≤ length l / 8) × (m.bytes + total ≤ length q)
-        room_open = room_facts (length l) (length q) m.tokens m.bytes w.drafts.count total (sym e ∙ z)
+        room_open : (m.tokens + count ≤ length l / 8) × (m.bytes + total ≤ length q)
+        room_open = room_facts (length l) (length q) m.tokens m.bytes count total (sym e ∙ z)
 
-        pub work_fits : DraftsFit src end scratch m w (length l) (length q)
-        work_fits = record {
+        pub work_fits : (after : ℕ) → after ≡ w.after
+            → DraftsFit src end scratch after m w.drafts (length l) (length q)
+        work_fits after a = rw a (record {
           marked = f.marked;
-          ready = f.ready;
+          ready = f.ready.all;
           all = all_inside_wide _ _ f.inside.inside m.span.position (pieces_of src end w.drafts) f.inside.all;
-          after = f.inside.inside;
+          ends = f.inside.inside;
           narrow = work_narrow;
-          places = room_open.0;
+          places = rw (← k) room_open.0;
           room = rw (← t) room_open.1;
-        }
+        })
 
-        pub work_advances : Advances src m w w.drafts.count total
+        pub work_advances : Advances src m w count total
         work_advances = record {
           ahead = record { cursor = f.marked.cursor; low = f.inside.order; high = f.inside.inside };
           places = omega (arith, room_open.0, f.marked.places);
           room = omega (arith, room_open.1, f.marked.room);
         }
 
-        pub work_written : (r : Next) (l' q' : List ℕ)
-            → DraftsPut src w.after m (pieces_of src end w.drafts) l q l' q'
-            → r ≡ advanced src m w w.drafts.count total → Committed src m l q (outcome_of src end (Plan.Told w)) r l' q'
+        pub work_written : (after : ℕ) → after ≡ w.after → (r : Next) (l' q' : List ℕ)
+            → DraftsPut src after m (pieces_of src end w.drafts) l q l' q'
+            → r ≡ advanced src m w count total → Committed src m l q (outcome_of src end (Plan.Told w)) r l' q'
         unfolding outcome_of reached
-        work_written r l' q' p h =
+        work_written after a r l' q' p h =
             let same : room_for m (record { list = l; pool = q }) (pieces_of src end w.drafts) ≡ 0 = sym room_pieces ∙ z in
             record {
-              next = h ∙ rw (t, same, work_count, work_values);
-              list = p.list ∙ rw same;
-              pool = p.pool ∙ rw same;
+              next = h ∙ rw (k, t, same, work_count, work_values);
+              list = p.list ∙ rw (a, same);
+              pool = p.pool ∙ rw (a, same);
             }
 
 pub ruleset works = (work_total, work_len, work_refused, work_fits, work_advances, work_written)

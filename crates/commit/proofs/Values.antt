@@ -80,14 +80,11 @@ module _ (src : List ℕ) (end : Bool) (scratch : List ℕ) (d : Draft) (q : Lis
     pub held_count : length (take d.len scratch) ≡ d.len
     held_count = length-take-le d.len scratch held_inside
 
-    pub held_fits : length (take d.len scratch) ≤ length (take (length q - mark) (drop mark q))
-    held_fits = rw (length_free q mark, held_count) (omega (arith, w.fits))
+    pub held_fits : mark + length (take d.len scratch) ≤ length q
+    held_fits = rw held_count w.fits
 
-    pub held_written : (rest : List ℕ) → rest ≡ laid (take (length q - mark) (drop mark q)) 0 (take d.len scratch)
-        → take mark q ++ (rest ++ drop (length q - mark) (drop mark q)) ≡ laid q mark (made src end d)
-    held_written rest f =
-        laid_rest q rest mark _ (rw (← w.ready.size) w.fits)
-        (f ∙ ap (laid (take (length q - mark) (drop mark q)) 0) held_same)
+    pub held_written : (q' : List ℕ) → q' ≡ laid q mark (take d.len scratch) → q' ≡ laid q mark (made src end d)
+    held_written q' h = h ∙ ap (laid q mark) held_same
 
   -- a text that is read again
   module _ (mode : Mode) (label : Label) (e : d.making ≡ Making.Text mode label) where
@@ -179,12 +176,25 @@ module _ (src : List ℕ) (end : Bool) (scratch : List ℕ) (d : Draft) (q : Lis
         → take mark q ++ (rest ++ drop (length q - mark) (drop mark q)) ≡ laid q mark (made src end d)
     sheet_written rest f = laid_rest q rest mark _ (rw (← w.ready.size) w.fits) (f ∙ rw sheet_value)
 
-pub ruleset copies = (copied_order, copied_inside, copied_fits, copied_written)
-
-pub ruleset helds = (held_inside, held_count, held_fits, held_written)
-
-pub ruleset texts = (named_short, text_named, text_start, text_written)
-
-pub ruleset numbers = (number_order, number_inside, number_fits, number-written)
-
-pub ruleset sheets = (sheet_inside, sheet_count, sheet_left, sheet_written)
+pub ruleset writing = (
+  copied_order,
+  copied_inside,
+  copied_fits,
+  copied_written,
+  held_inside,
+  held_count,
+  held_fits,
+  held_written,
+  named_short,
+  text_named,
+  text_start,
+  text_written,
+  number_order,
+  number_inside,
+  number_fits,
+  number-written,
+  sheet_inside,
+  sheet_count,
+  sheet_left,
+  sheet_written,
+)

@@ -1,5 +1,5 @@
 -- A step as the code has it: over drafts and numbers and the top frame, without the session.
---   total_of, draft_at     how many value bytes drafts have; one of them
+--   total_of               how many value bytes drafts have
 --   Cursor, Ahead          a cursor within a source that is not too long, and a place from it on
 --   Writes                 a value can be written from a mark on, with the scratch part that it may be held in
 --   Marked                 the cursor and the marks are within their bounds
@@ -10,7 +10,7 @@
 --   advanced, Advances     the numbers after so many tokens and value bytes, and that they fit
 --   Commits, Works         what `commit` asks of its plan, and of what the plan tells
 --   Committed              what it gives
-use Rattle.std.specs.Prelude.{ℕ, ◌+◌, ◌*◌, ◌/◌, ◌≤◌, Bool, false, List, [], ◌∷◌, ◌≡◌, eqb, leb, length, if◌then◌else◌}
+use Rattle.std.specs.Prelude.{ℕ, ◌+◌, ◌*◌, ◌/◌, ◌≤◌, Bool, false, List, [], ◌∷◌, ◌≡◌, leb, length}
 use Rattle.source.specs.declared.Span.{Span}
 use Rattle.token.specs.declared.Token.{Token}
 use Rattle.outcome.specs.declared.Change.{Change}
@@ -20,7 +20,7 @@ use Rattle.plan.specs.declared.Draft.{Draft}
 use Rattle.plan.specs.declared.Drafts.{Drafts}
 use Rattle.plan.specs.declared.Work.{Work}
 use Rattle.plan.specs.declared.Plan.{Plan}
-use Rattle.plan.specs.Code.{drafts_of, pieces_of, Ready, DraftsReady, outcome_of, PlanReady}
+use Rattle.plan.specs.Code.{drafts_of, pieces_of, Ready, AllReady, DraftsReady, outcome_of, PlanReady}
 use Rattle.commit.specs.declared.Mark.{Mark}
 use Rattle.commit.specs.declared.Next.{Next}
 use Rattle.commit.specs.Records.{span_at, put_piece, put, answer_of, reached}
@@ -28,10 +28,6 @@ use Rattle.commit.specs.Records.{span_at, put_piece, put, answer_of, reached}
 unfoldable pub total_of : List Draft → ℕ
 total_of [] = 0
 total_of (d ∷ more) = d.len + total_of more
-
--- the draft with this number; from 1 on the second
-unfoldable pub draft_at : Drafts → ℕ → Draft
-draft_at ds i = if eqb i 0 then ds.first else ds.second
 
 pub record Cursor (src : List ℕ) (p : Span) : Type 0 where
   pub short : length src ≤ 65536
@@ -99,16 +95,16 @@ pub record DraftPut (src : List ℕ) (after : ℕ) (m : Mark) (d : Draft) (piece
   pub list : l' ≡ (put_piece src after m (record { list = l; pool = q }) piece).list
   pub pool : q' ≡ (put_piece src after m (record { list = l; pool = q }) piece).pool
 
--- the drafts of a work fit from the marks on
-pub record DraftsFit (src : List ℕ) (end : Bool) (scratch : List ℕ) (m : Mark) (w : Work)
+-- the drafts of a step that ends at `after` fit from the marks on
+pub record DraftsFit (src : List ℕ) (end : Bool) (scratch : List ℕ) (after : ℕ) (m : Mark) (ds : Drafts)
     (list pool : ℕ) : Type 0 where
   pub marked : Marked src m list pool
-  pub ready : DraftsReady w.drafts src end scratch
-  pub all : AllInside m.span.position (length src) (pieces_of src end w.drafts)
-  pub after : w.after ≤ length src
-  pub narrow : total_of (drafts_of w.drafts) ≤ length src
-  pub places : m.tokens + w.drafts.count ≤ list / 8
-  pub room : m.bytes + total_of (drafts_of w.drafts) ≤ pool
+  pub ready : AllReady (drafts_of ds) src end scratch
+  pub all : AllInside m.span.position (length src) (pieces_of src end ds)
+  pub ends : after ≤ length src
+  pub narrow : total_of (drafts_of ds) ≤ length src
+  pub places : m.tokens + length (drafts_of ds) ≤ list / 8
+  pub room : m.bytes + total_of (drafts_of ds) ≤ pool
 
 -- the tables with their records and values from the marks on
 pub record DraftsPut (src : List ℕ) (after : ℕ) (m : Mark) (pieces : List Piece) (l q l' q' : List ℕ) : Type 0 where

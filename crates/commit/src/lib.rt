@@ -9,7 +9,7 @@ ghost use Rattle.outcome.specs.Outcomes.{limited};
 ghost use Rattle.plan.specs.declared.Plan.{Plan};
 ghost use Rattle.plan.specs.Code.{made, piece_of, drafts_of, pieces_of, outcome_of};
 ghost use Rattle.commit.specs.Records.{span_at, answer_of, stays};
-ghost use Rattle.commit.specs.Code.{draft_token, draft_at, total_of, Ahead, Writes, Drawn, DraftFits, DraftPut, past_draft, PastFits};
+ghost use Rattle.commit.specs.Code.{draft_token, total_of, Ahead, Writes, Drawn, DraftFits, DraftPut, past_draft, PastFits};
 ghost use Rattle.commit.specs.Code.{DraftsFit, DraftsPut, is_full, advanced, Advances, Works, Commits, Committed};
 
 use outcome::Change;
@@ -35,7 +35,17 @@ pub struct Next {
     pub change: Change,
 }
 
+// What a step is written from: the source and whether its end is announced, the scratch part, and the place where the step ends.
+#[derive(Clone, Copy)]
+struct Step<'a> {
+    src: &'a [u8],
+    end: bool,
+    scratch: &'a [u8],
+    after: usize,
+}
+
 // The span of a place from the cursor on.
+#[tactic(auto, using(crate::proofs::Spans::span_at_stays))]
 pub fn span_at(src: &[u8], p: Span, place: usize) -> Span
     requires { Ahead src.now p place }
     ensures { result ≡ span_at src.now p place }
@@ -58,39 +68,27 @@ fn stay(number: u32, span: Span, m: Mark) -> Next
     }
 }
 
-// A short value at the start of a part, byte by byte.
-fn put_short(part: &[u8], rest: &mut [u8])
-    requires { length part.now ≤ length rest.old }
-    ensures { rest.new ≡ laid rest.old 0 part.now }
-{
-    let mut i = 0;
-    while i < part.len() {
-        rest[i] = part[i];
-        i += 1;
-    }
-}
-
 // The value of a draft, in the pool from the mark on.
-fn write_value(src: &[u8], end: bool, d: Draft, scratch: &[u8], pool: &mut [u8], mark: usize)
-    requires { Writes src.now end scratch.now d (length pool.old) mark }
-    ensures { pool.new ≡ laid pool.old mark (made src.now end d) }
+#[tactic(auto, using(crate::proofs::Values::writing))]
+fn write_value(step: Step, d: Draft, pool: &mut [u8], mark: usize)
+    requires { Writes step.src.now step.end step.scratch.now d (length pool.old) mark }
+    ensures { pool.new ≡ laid pool.old mark (made step.entry.src.now step.entry.end d) }
 {
-    let making = d.making;
+    let src = step.src;
     let from = d.from;
     let to = d.to;
     let len = d.len;
-    match making {
+    match d.making {
         Making::Copied => token::put_value(&src[from..to], pool, mark),
-        Making::Held { mode: _, label: _ } => put_short(&scratch[..len], &mut pool[mark..]),
+        Making::Held { .. } => token::put_value(&step.scratch[..len], pool, mark),
         Making::Text { mode, label } => {
             let name = plan::label_bytes(src, label);
-            let after = mark + len;
-            let again = text::read_text(mode, src, name, from, end, &mut pool[mark..after]);
+            let part = &mut pool[mark..mark + len];
+            text::read_text(mode, src, name, from, step.end, part);
         }
         Making::Number => number::write_number(src, from, to, &mut pool[mark..]),
         Making::Sheet { blank, width } => {
-            let body = &src[..to];
-            sheet::write_sheet(body, from, blank, width, len, &mut pool[mark..]);
+            sheet::write_sheet(&src[..to], from, blank, width, len, &mut pool[mark..]);
         }
     }
 }
@@ -111,11 +109,12 @@ fn token_of(src: &[u8], after: usize, m: Mark, d: Draft) -> Token
 }
 
 // A draft's record, at its place in the list.
-fn put_record(src: &[u8], after: usize, m: Mark, d: Draft, list: &mut [u32])
-    requires { Drawn src.now after m.span d × (m.tokens * 8 + 8 ≤ length list.old) }
-    ensures { list.new ≡ laid list.old (m.tokens * 8) (record_of (draft_token src.now after m d)) }
+fn put_record(step: Step, m: Mark, d: Draft, list: &mut [u32])
+    requires { Drawn step.src.now step.after m.span d × (m.tokens * 8 + 8 ≤ length list.old) }
+    ensures { list.new ≡ laid list.old (m.tokens * 8) (record_of (draft_token step.entry.src.now step.entry.after m d)) }
 {
-    token::put_token(list, m.tokens as usize, token_of(src, after, m, d));
+    let token = token_of(step.src, step.after, m, d);
+    token::put_token(list, m.tokens as usize, token);
 }
 
 // The marks after a draft.
@@ -131,106 +130,65 @@ fn past_draft(m: Mark, d: Draft) -> Mark
     }
 }
 
-// A draft's value and record, from the marks on, and the marks after it. The step ends at `after`.
-fn put_draft(
-    src: &[u8],
-    end: bool,
-    after: usize,
-    m: Mark,
-    d: Draft,
-    scratch: &[u8],
-    list: &mut [u32],
-    pool: &mut [u8],
-) -> Mark
-    requires { DraftFits src.now end scratch.now after m d (length list.old) (length pool.old) }
-    ensures { DraftPut src.now after m d (piece_of src.now end d) list.old pool.old result list.new pool.new }
+// A draft's value and record, from the marks on, and the marks after it.
+#[tactic(auto, using(crate::proofs::Records::draft_put))]
+fn put_draft(step: Step, m: Mark, d: Draft, list: &mut [u32], pool: &mut [u8]) -> Mark
+    requires { DraftFits step.src.now step.end step.scratch.now step.after m d (length list.old) (length pool.old) }
+    ensures { DraftPut step.entry.src.now step.entry.after m d (piece_of step.entry.src.now step.entry.end d) list.old pool.old result list.new pool.new }
 {
-    write_value(src, end, d, scratch, pool, m.bytes as usize);
-    put_record(src, after, m, d, list);
+    write_value(step, d, pool, m.bytes as usize);
+    put_record(step, m, d, list);
     past_draft(m, d)
 }
 
-// The draft with this number.
-fn draft_at(ds: Drafts, i: u32) -> Draft
-    ensures { result ≡ draft_at ds i }
+// How many drafts there are.
+fn count_of(ds: Drafts) -> u32
+    ensures { result ≡ length (drafts_of ds) }
 {
-    if i == 0 {
-        return ds.first;
+    match ds {
+        Drafts::None => 0,
+        Drafts::One(_) => 1,
+        Drafts::Two(_, _) => 2,
     }
-    ds.second
-}
-
-// The draft with this number, as `put_draft` puts it: each bears the end of the work, not its own.
-fn put_nth(
-    src: &[u8],
-    end: bool,
-    m: Mark,
-    w: Work,
-    i: u32,
-    scratch: &[u8],
-    list: &mut [u32],
-    pool: &mut [u8],
-) -> Mark
-    requires { DraftFits src.now end scratch.now w.after m (draft_at w.drafts i) (length list.old) (length pool.old) }
-    ensures { DraftPut src.now w.after m (draft_at w.drafts i) (piece_of src.now end (draft_at w.drafts i)) list.old pool.old result list.new pool.new }
-{
-    put_draft(
-        src,
-        end,
-        w.after,
-        m,
-        draft_at(w.drafts, i),
-        scratch,
-        list,
-        pool,
-    )
 }
 
 // How many value bytes drafts have.
+#[tactic(auto, unfolding(crate::specs::Code::total_of))]
 fn total(ds: Drafts) -> usize
-    requires { (ds.count ≤ 2) × (total_of (drafts_of ds) ≤ 65536) }
+    requires { total_of (drafts_of ds) ≤ 65536 }
     ensures { result ≡ total_of (drafts_of ds) }
 {
-    if ds.count == 0 {
-        return 0;
+    match ds {
+        Drafts::None => 0,
+        Drafts::One(d) => d.len,
+        Drafts::Two(d, e) => d.len + e.len,
     }
-    if ds.count == 1 {
-        return ds.first.len;
-    }
-    ds.first.len + ds.second.len
 }
 
-// The values and records of a work's drafts, one after another, from the marks on.
-fn put_drafts(
-    src: &[u8],
-    end: bool,
-    m: Mark,
-    w: Work,
-    scratch: &[u8],
-    list: &mut [u32],
-    pool: &mut [u8],
-)
-    requires { DraftsFit src.now end scratch.now m w (length list.old) (length pool.old) }
-    ensures { DraftsPut src.now w.after m (pieces_of src.now end w.drafts) list.old pool.old list.new pool.new }
+// The values and records of drafts, one after another, from the marks on.
+#[tactic(auto, using(crate::proofs::Records::putting))]
+fn put_drafts(step: Step, m: Mark, ds: Drafts, list: &mut [u32], pool: &mut [u8])
+    requires { DraftsFit step.src.now step.end step.scratch.now step.after m ds (length list.old) (length pool.old) }
+    ensures { DraftsPut step.entry.src.now step.entry.after m (pieces_of step.entry.src.now step.entry.end ds) list.old pool.old list.new pool.new }
 {
-    let mut at = m;
-    let mut i = 0;
-    while i < w.drafts.count {
-        at = put_nth(src, end, at, w, i, scratch, list, pool);
-        i += 1;
+    match ds {
+        Drafts::None => {}
+        Drafts::One(d) => {
+            put_draft(step, m, d, list, pool);
+        }
+        Drafts::Two(d, e) => {
+            let next = put_draft(step, m, d, list, pool);
+            put_draft(step, next, e, list, pool);
+        }
     }
 }
 
 // Whether a frame would be the 65th.
+#[tactic(auto, unfolding(crate::specs::Code::is_full))]
 fn is_full(change: Change, depth: u32) -> bool
     ensures { result ≡ is_full change depth }
 {
-    match change {
-        Change::Keep => false,
-        Change::Swap(_) => false,
-        Change::Enter(_) => 64 <= depth,
-        Change::Leave => false,
-    }
+    matches!(change, Change::Enter(_)) && 64 <= depth
 }
 
 // Done, or nothing is left to read.
@@ -238,9 +196,10 @@ fn answer_of(finished: bool) -> Answer
     ensures { result ≡ answer_of finished }
 {
     if finished {
-        return Answer::Finished;
+        Answer::Finished
+    } else {
+        Answer::Done
     }
-    Answer::Done
 }
 
 // The numbers after `count` tokens with `len` value bytes.
@@ -264,31 +223,26 @@ fn advance(src: &[u8], m: Mark, w: Work, count: u32, len: u32) -> Next
 }
 
 // What a plan tells, where no frame is the 65th: refused where there is no room, else written.
-fn write_work(
-    src: &[u8],
-    end: bool,
-    m: Mark,
-    w: Work,
-    scratch: &[u8],
-    list: &mut [u32],
-    pool: &mut [u8],
-) -> Next
-    requires { Works src.now end scratch.now m w (length list.old) (length pool.old) }
-    ensures { Committed src.now m list.old pool.old (outcome_of src.now end (Plan.Told w)) result list.new pool.new }
+#[tactic(auto, using(crate::proofs::Nexts::works))]
+fn write_work(step: Step, m: Mark, w: Work, list: &mut [u32], pool: &mut [u8]) -> Next
+    requires works { Works step.src.now step.end step.scratch.now m w (length list.old) (length pool.old) }
+    requires ends { step.after ≡ w.after }
+    ensures { Committed step.entry.src.now m list.old pool.old (outcome_of step.entry.src.now step.entry.end (Plan.Told w)) result list.new pool.new }
 {
     let drafts = w.drafts;
-    let count = drafts.count;
+    let count = count_of(drafts);
     let len = total(drafts) as u32;
     let number = token::room(list.len(), pool.len(), m.tokens, m.bytes, count, len);
     if number != 0 {
         return stay(number, m.span, m);
     }
-    put_drafts(src, end, m, w, scratch, list, pool);
-    advance(src, m, w, count, len)
+    put_drafts(step, m, drafts, list, pool);
+    advance(step.src, m, w, count, len)
 }
 
 // A plan becomes numbers, records and value bytes, or a refusal. Order: what the plan refuses, 9, 7, 8.
 // A value that is held stands in the scratch part.
+#[tactic(auto, using(crate::proofs::Nexts::commits))]
 pub fn commit(
     src: &[u8],
     end: bool,
@@ -308,7 +262,14 @@ pub fn commit(
             if is_full(change, depth) {
                 return stay(byte::STACK_FULL, m.span, m);
             }
-            write_work(src, end, m, w, scratch, list, pool)
+            let after = w.after;
+            let step = Step {
+                src,
+                end,
+                scratch,
+                after,
+            };
+            write_work(step, m, w, list, pool)
         }
         Plan::Refused { number, place } => {
             let span = span_at(src, m.span, place);

@@ -1,4 +1,3 @@
-pub mod Arms
 pub mod Drafts
 pub mod Works
 pub mod Texts

@@ -3,7 +3,7 @@
 --   held_value     the scratch part begins with the value
 --   text_plans     the plan of a text that was measured makes its outcome
 --   text_planned   the same of what the scan answered
-use Rattle.std.specs.Prelude.{if◌then◌else◌}
+use Rattle.std.specs.Prelude.{if◌then◌else◌, Option, None, Some}
 use Prim.Native.Nat.{ℕ, ◌+◌, ◌≤◌}
 use mathlib.Core.Path.{◌≡◌, refl, sym, ap, ◌∙◌}
 use mathlib.Core.Bool.{Bool, true, false, false≢true}
@@ -12,7 +12,7 @@ use native.Mathlib.Omega.{arith}
 use lib.Dec.{eqb}
 use lib.ListN.{length, take, drop, length-take}
 use lib.Seq.{take-take, take-append-le}
-use borrow.Author.Tests.{leb-true, eqb-true, eqb-false, eq-eqb, ne_eqb}
+use borrow.Author.Tests.{leb-true, eqb-true}
 use Rattle.byte.specs.Laid.{laid}
 use Rattle.byte.proofs.Tests.{choice}
 use Rattle.byte.proofs.Laid.{length_laid}
@@ -35,67 +35,12 @@ use Rattle.outcome.specs.Texts.{texted, is_left, literal, text_read}
 use Rattle.plan.specs.declared.Making.{Making}
 use Rattle.plan.specs.declared.Draft.{Draft}
 use Rattle.plan.specs.declared.Plan.{Plan}
-use Rattle.plan.specs.Code.{made_by, Here, Named, Block, PlansIn, copied_draft, one_plan}
+use Rattle.plan.specs.Code.{made_by, Here, Named, Block, PlansIn, one_plan}
 use Rattle.drafts.specs.Code.{made_draft, is_held, text_making, text_draft, text_plan, text_work, Placed}
-use Rattle.drafts.specs.Code.{literal_kind, literal_plan, read_plan}
+use Rattle.drafts.specs.Code.{literal_kind, literal_plan, text_read_plan, read_plan}
 use Rattle.plan.proofs.Plans.{named_short, refused_plans, wait_plans}
 use Rattle.drafts.proofs.Drafts.{Makes, copied_makes, made_makes, piece_plans}
 use Rattle.drafts.proofs.Works.{all_left, read-plans}
-
--- ---- how its value comes about
-
-pub is_held_arm : (mode arm : Mode) (len room : ℕ) (r : Bool) → mode ≡ arm → r ≡ is_held arm len room
-    → r ≡ is_held mode len room
-is_held_arm mode arm len room r e h = rw e h
-
-module _ (mode : Mode) (label : Label) (held : Bool) where
-  pub text_making_held : held ≡ true → Making.Held mode label ≡ text_making mode label held
-  unfolding text_making
-  text_making_held t = rw t
-
-  pub text_making_read : held ≡ false → Making.Text mode label ≡ text_making mode label held
-  unfolding text_making
-  text_making_read t = rw t
-
-pub ruleset text_makings = (text_making_held, text_making_read)
-
-module _ (kind place : ℕ) (making : Making) (at len : ℕ) (stop : Stop) (from to : ℕ) (t : to ≡ unit.text_end stop from)
-    (d : Draft) where
-  pub text_draft_copied : at + len ≡ to → d ≡ copied_draft kind 0 place at (at + len)
-      → d ≡ text_draft kind place making at len stop from
-  unfolding text_draft
-  text_draft_copied e h = h ∙ rw (eq-eqb (at + len) (unit.text_end stop from) (e ∙ t))
-
-  pub text_draft_made : (at + len ≡ to → ⊥) → d ≡ made_draft kind place making at from len
-      → d ≡ text_draft kind place making at len stop from
-  unfolding text_draft
-  text_draft_made e h = h ∙ rw (ne_eqb (at + len) (unit.text_end stop from) (λ f. e (f ∙ sym t)))
-
-pub gap_fits : (at len : ℕ) (stop : Stop) (from : ℕ) → at + len + unit.gap stop ≤ from → unit.gap stop ≤ from
-gap_fits at len stop from h = omega arith
-
-pub ruleset text_drafts = (text_draft_copied, text_draft_made, gap_fits)
-
-module _ (kind : ℕ) (left : Bool) where
-  pub value_kind_left : left ≡ true → string_part ≡ (if left then string_part else kind)
-  value_kind_left t = rw t
-
-  pub value_kind_closed : left ≡ false → kind ≡ (if left then string_part else kind)
-  value_kind_closed t = rw t
-
-pub ruleset value_kinds = (value_kind_left, value_kind_closed)
-
-module _ (d : Draft) (left : Bool) (after : ℕ) (r : Plan) where
-  pub literal_plan_left : left ≡ true → r ≡ one_plan d after (Change.Swap Frame.DoubleQuote)
-      → r ≡ literal_plan d left after
-  unfolding literal_plan
-  literal_plan_left t e = e ∙ rw t
-
-  pub literal_plan_closed : left ≡ false → r ≡ one_plan d after Change.Keep → r ≡ literal_plan d left after
-  unfolding literal_plan
-  literal_plan_closed t e = e ∙ rw t
-
-pub ruleset literal_plans = (literal_plan_left, literal_plan_closed)
 
 -- ---- the plan of a text that was measured
 
@@ -118,45 +63,35 @@ module _ (mode : Mode) (place : ℕ) (label : Label) (at room : ℕ) (scan : Sca
 
   module _ (len : ℕ) (stop : Stop) (from after : ℕ) (d : Draft) (r : Plan)
       (a : scan ≡ Scanned.Text len stop from after) (held : Bool) (h : held ≡ is_held mode len room)
-      (making : Making) (g : making ≡ text_making mode label held) (kind : ℕ) (k : kind ≡ literal_kind mode) where
-    pub read_plan_parted : kind ≡ 0 → d ≡ text_draft string_part at making at len stop from
+      (making : Making) (g : making ≡ text_making mode label held) (found : Option ℕ)
+      (k : found ≡ literal_kind mode) where
+    pub read_plan_parted : found ≡ None → d ≡ text_draft string_part at making at len stop from
         → r ≡ text_plan mode d stop from after → r ≡ read_plan mode place label at room scan
-    unfolding read_plan
-    read_plan_parted z m e =
-        let none : eqb (literal_kind mode) 0 ≡ true = eq-eqb (literal_kind mode) 0 (sym k ∙ z) in
-        e ∙ rw (a, m, g, h, none)
+    unfolding read_plan text_read_plan
+    read_plan_parted z m e = e ∙ rw (a, m, g, h, ← k, z)
 
-    pub read_plan_literal : (left : Bool) (value : ℕ) → (kind ≡ 0 → ⊥) → left ≡ is_left stop
+    pub read_plan_literal : (kind : ℕ) (left : Bool) (value : ℕ) → found ≡ Some kind → left ≡ is_left stop
         → value ≡ (if left then string_part else kind) → d ≡ text_draft value place making at len stop from
         → r ≡ literal_plan d left after → r ≡ read_plan mode place label at room scan
-    unfolding read_plan
-    read_plan_literal left value z l v m e =
-        let some : eqb (literal_kind mode) 0 ≡ false = ne_eqb (literal_kind mode) 0 (λ n. z (k ∙ n)) in
-        e ∙ rw (a, m, g, h, v, some, ← l, k)
+    unfolding read_plan text_read_plan
+    read_plan_literal kind left value z l v m e = e ∙ rw (a, m, g, h, v, ← k, z, ← l)
 
 pub ruleset read_plans = (placed_fits, placed_order, read_plan_arm, read_plan_parted, read_plan_literal)
 
 -- a text is a mode's or a literal's
 module _ (place n : ℕ) (xs : List ℕ) where
-  text_read_mode : (mode : Mode) (r : unit.Reading) → literal_kind mode ≡ 0
-      → text_read mode place n xs r ≡ texted mode n xs r
-  unfolding literal_kind text_read
-  text_read_mode Mode.Single r z = absurd (omega arith)
-  text_read_mode (Mode.Double octals) r z = absurd (omega arith)
-  text_read_mode (Mode.DoubleQuote octals) r z = refl
-  text_read_mode Mode.ShellExec r z = refl
-  text_read_mode (Mode.Heredoc octals) r z = refl
-  text_read_mode Mode.Nowdoc r z = refl
+  read_as : Option ℕ → Mode → unit.Reading → Outcome
+  read_as None mode r = texted mode n xs r
+  read_as (Some kind) mode r = literal kind place r
 
-  text_read_literal : (mode : Mode) (r : unit.Reading) → (literal_kind mode ≡ 0 → ⊥)
-      → text_read mode place n xs r ≡ literal (literal_kind mode) place r
-  unfolding literal_kind text_read
-  text_read_literal Mode.Single r z = refl
-  text_read_literal (Mode.Double octals) r z = refl
-  text_read_literal (Mode.DoubleQuote octals) r z = absurd (z refl)
-  text_read_literal Mode.ShellExec r z = absurd (z refl)
-  text_read_literal (Mode.Heredoc octals) r z = absurd (z refl)
-  text_read_literal Mode.Nowdoc r z = absurd (z refl)
+  text_read_as : (mode : Mode) (r : unit.Reading) → text_read mode place n xs r ≡ read_as (literal_kind mode) mode r
+  unfolding literal_kind text_read read_as
+  text_read_as Mode.Single r = refl
+  text_read_as (Mode.Double octals) r = refl
+  text_read_as (Mode.DoubleQuote octals) r = refl
+  text_read_as Mode.ShellExec r = refl
+  text_read_as (Mode.Heredoc octals) r = refl
+  text_read_as Mode.Nowdoc r = refl
 
   text_read_refused : (mode : Mode) (number fault : ℕ)
       → text_read mode place n xs (unit.Refused number fault) ≡ Outcome.Refused number fault
@@ -302,23 +237,30 @@ module _ (mode : Mode) (src : List ℕ) (label : Label) (end : Bool) (at : ℕ) 
       literal-plans kind false from after stop value l e =
           rw (← l) (literal_one kind from after stop Change.Keep value e)
 
+      -- a mode's text, or a literal of a kind
+      read_plans_as : (kind : Option ℕ) (from after : ℕ) (stop : Stop) (value : List ℕ)
+          → unit.text_at mode (label_bytes src label) end at (drop at src) ≡ unit.Text value stop from after
+          → PlansIn src end scratch (read_as place at (drop at src) kind mode (unit.Text value stop from after))
+          (text_read_plan kind mode place (making_of value) at (length value) stop from after)
+      unfolding text_read_plan text_work text-scans.measured read_as
+      read_plans_as None from after stop value e =
+          let xs = drop at src in
+          let whole = unit.text_at mode (label_bytes src label) end at xs in
+          let found = unit.Text value stop from after in
+          let within = unit-inside.text_inside mode (label_bytes src label) end at xs in
+          read-plans mode src end at
+          (λ len. text_draft string_part at (text_making mode label (is_held mode len (length scratch))) at len) whole
+          (text_makes string_part at) (faults mode) found e (rw e at (rw (all_left src at here.inside) at within))
+      read_plans_as (Some kind) from after stop value e = literal-plans kind (is_left stop) from after stop value refl e
+
       text_plans : (r : unit.Reading) → unit.text_at mode (label_bytes src label) end at (drop at src) ≡ r
           → PlansIn src end scratch (text_read mode place at (drop at src) r)
           (read_plan mode place label at (length scratch) (text-scans.measured r))
       unfolding read_plan text_work text-scans.measured
       text_plans (unit.Text value stop from after) e =
           let xs = drop at src in
-          let whole = unit.text_at mode (label_bytes src label) end at xs in
           let found = unit.Text value stop from after in
-          let kind = literal_kind mode in
-          let within = unit-inside.text_inside mode (label_bytes src label) end at xs in
-          choice (PlansIn src end scratch (text_read mode place at xs found)) (eqb kind 0) _ _
-          (λ t. rw (text_read_mode place at xs mode found (eqb-true kind 0 t))
-          (read-plans mode src end at
-          (λ len. text_draft string_part at (text_making mode label (is_held mode len (length scratch))) at len) whole
-          (text_makes string_part at) (faults mode) found e (rw e at (rw (all_left src at here.inside) at within))))
-          (λ t. rw (text_read_literal place at xs mode found (eqb-false kind 0 t))
-          (literal-plans kind (is_left stop) from after stop value refl e))
+          rw (text_read_as place at xs mode found) (read_plans_as (literal_kind mode) from after stop value e)
       text_plans (unit.Refused number fault) e =
           rw (text_read_refused place at (drop at src) mode number fault) (refused_plans src end number fault)
       text_plans unit.Wait e = rw (text_read_waits place at (drop at src) mode) (wait_plans src end)

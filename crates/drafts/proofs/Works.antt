@@ -10,7 +10,7 @@ use native.Mathlib.Omega.{arith}
 use lib.Dec.{eqb}
 use lib.ListN.{length, take, drop, length-drop}
 use lib.Seq.{drop-drop}
-use borrow.Author.Tests.{eqb-true, eq-eqb, ne_eqb}
+use borrow.Author.Tests.{eqb-true}
 use Rattle.byte.proofs.Tests.{choice}
 use Rattle.state.specs.declared.Label.{Label}
 use Rattle.state.specs.declared.Reading as session
@@ -38,7 +38,7 @@ use Rattle.outcome.specs.Steps.{nowdoc}
 use Rattle.plan.specs.declared.Making.{Making}
 use Rattle.plan.specs.declared.Draft.{Draft}
 use Rattle.plan.specs.declared.Plan.{Plan}
-use Rattle.plan.specs.Code.{made_by, outcome_of, Here, PlansIn, Plans, copied_draft, one_plan, parted_plan}
+use Rattle.plan.specs.Code.{made_by, outcome_of, Here, PlansIn, Plans, copied_draft, one_plan}
 use Rattle.drafts.specs.Code.{made_draft, sheet_draft, text_plan, text_work}
 use Rattle.drafts.specs.Code.{number_plan, number_work}
 use Rattle.plan.proofs.Plans.{named_short, copied_ready}
@@ -53,13 +53,6 @@ slice_source src at from after low =
 
 pub all_left : (src : List ℕ) (at : ℕ) → at ≤ length src → at + length (drop at src) ≡ length src
 all_left src at h = rw (length-drop at src) (omega arith)
-
-pub text_plan_made : (mode : Mode) (part : Draft) (stop : Stop) (from after : ℕ) (closing : Draft) (kind detail : ℕ) (change : Change)
-    (r : Plan)
-    → kind ≡ stop_kind mode stop → detail ≡ stop_detail stop → closing ≡ copied_draft kind detail part.place from after
-    → change ≡ stop_change stop → r ≡ parted_plan part closing after change → r ≡ text_plan mode part stop from after
-unfolding text_plan
-text_plan_made mode part stop from after closing kind detail change r k d l c e = e ∙ rw (l, k, d, c)
 
 -- the text that a scan measured
 pub record Measures (r : unit.Reading) (len : ℕ) (stop : Stop) (from after : ℕ) : Type 0 where
@@ -110,22 +103,6 @@ module _ {scratch : List ℕ} (mode : Mode) (src : List ℕ) (end : Bool) (at : 
       rw work (read-plans read refl i)
 
 -- ---- sheets
-
-module _ (at len : ℕ) (stop : Stop) (from width : ℕ) (w : width ≡ stop_detail stop) (d : Draft) where
-  pub sheet_draft_copied : width ≡ 0 → d ≡ copied_draft string_part 0 at at (at + len) → d ≡ sheet_draft at len stop from
-  unfolding sheet_draft
-  sheet_draft_copied z e = e ∙ rw (← w, eq-eqb width 0 z)
-
-  pub sheet_draft_made : (blank : ℕ) → (width ≡ 0 → ⊥) → blank ≡ blank_of stop
-      → d ≡ made_draft string_part at (Making.Sheet blank width) at (from - width) len → d ≡ sheet_draft at len stop from
-  unfolding sheet_draft
-  sheet_draft_made blank z b e = e ∙ rw (b, ← w, ne_eqb width 0 z)
-
-pub sheet_draft_fits : (at len : ℕ) (stop : Stop) (from width : ℕ) → width ≡ stop_detail stop
-    → at + len + stop_detail stop ≤ from → width ≤ from
-sheet_draft_fits at len stop from width w h = omega arith
-
-pub ruleset sheet_drafts = (sheet_draft_copied, sheet_draft_made, sheet_draft_fits)
 
 module _ (src : List ℕ) (label : Label) (end : Bool) (at : ℕ) (here : Here src at) where
   sheet_read : StandsSheet (length (label_bytes src label)) at (length src) (drop at src)

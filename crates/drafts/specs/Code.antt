@@ -8,9 +8,10 @@
 --   sheet_draft                         a sheet's value: its rows up to the closing line, by the closing line's
 --                                       indentation
 --   text_plan                           a mode's text: its part, if it is not empty, and the token after it
---   literal_kind                        the kind of a literal; 0 for a mode
+--   literal_kind                        the kind of a literal; none for a mode
 --   literal_plan, number_plan           a quoted string; a number
 --   Placed                              a text that was measured lies before what ends it
+--   text_read_plan                      a mode's text, or a literal
 --   text_work, read_plan, number_work   a scan: found, refused, or wait
 use Rattle.std.specs.Prelude.{ℕ, Option, Some, None, ◌+◌, ◌-◌, ◌≤◌, Bool, false, eqb, leb, if◌then◌else◌}
 use Rattle.state.specs.declared.Frame.{Frame}
@@ -69,13 +70,13 @@ text_work mode draft (Scanned.Text len stop from after) = text_plan mode (draft 
 text_work mode draft (Scanned.Refused number place) = Plan.Refused number place
 text_work mode draft Scanned.Wait = Plan.Wait
 
-unfoldable pub literal_kind : Mode → ℕ
-literal_kind Mode.Single = literal_single_quoted_string
-literal_kind (Mode.Double octals) = literal_double_quoted_string
-literal_kind (Mode.DoubleQuote octals) = 0
-literal_kind Mode.ShellExec = 0
-literal_kind (Mode.Heredoc octals) = 0
-literal_kind Mode.Nowdoc = 0
+unfoldable pub literal_kind : Mode → Option ℕ
+literal_kind Mode.Single = Some literal_single_quoted_string
+literal_kind (Mode.Double octals) = Some literal_double_quoted_string
+literal_kind (Mode.DoubleQuote octals) = None
+literal_kind Mode.ShellExec = None
+literal_kind (Mode.Heredoc octals) = None
+literal_kind Mode.Nowdoc = None
 
 -- before an interpolation, which is left, it is a part
 unfoldable pub literal_plan : Draft → Bool → ℕ → Plan
@@ -86,15 +87,18 @@ Placed at (Scanned.Text len stop from after) = (at + len + gap stop ≤ from) ×
 Placed at (Scanned.Refused number place) = Unit {0}
 Placed at Scanned.Wait = Unit {0}
 
+-- a mode's text, or a literal of a kind
+unfoldable pub text_read_plan : Option ℕ → Mode → ℕ → Making → ℕ → ℕ → Stop → ℕ → ℕ → Plan
+text_read_plan None mode place making at len stop from after =
+    text_plan mode (text_draft string_part at making at len stop from) stop from after
+text_read_plan (Some kind) mode place making at len stop from after =
+    literal_plan (text_draft (if is_left stop then string_part else kind) place making at len stop from) (is_left stop) after
+
 -- the text starts at `at`; a literal's token bears the span of `place`; the scratch part has `room` bytes
 unfoldable pub read_plan : Mode → ℕ → Label → ℕ → ℕ → Scanned → Plan
 read_plan mode place label at room (Scanned.Text len stop from after) =
     let making = text_making mode label (is_held mode len room) in
-    if eqb (literal_kind mode) 0 then text_plan mode (text_draft string_part at making at len stop from) stop from after
-    else literal_plan
-    (text_draft (if is_left stop then string_part else literal_kind mode) place making at len stop from)
-    (is_left stop)
-    after
+    text_read_plan (literal_kind mode) mode place making at len stop from after
 read_plan mode place label at room (Scanned.Refused number fault) = Plan.Refused number fault
 read_plan mode place label at room Scanned.Wait = Plan.Wait
 

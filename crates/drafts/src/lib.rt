@@ -22,32 +22,30 @@ use text::Scanned;
 use unit::{Follow, Indentation, Mode, Stop};
 
 // The kind of an EndDocString by its indentation, which is never mixed.
+#[tactic(auto, unfolding(outcome::specs::Texts::doc_kind))]
 fn doc_kind(ind: Indentation) -> u32
     ensures { result ≡ doc_kind ind }
 {
     match ind {
-        Indentation::None => token::END_DOC_STRING_NONE,
         Indentation::Space => token::END_DOC_STRING_SPACE,
         Indentation::Tab => token::END_DOC_STRING_TAB,
-        Indentation::Mixed => token::END_DOC_STRING_NONE,
+        Indentation::None | Indentation::Mixed => token::END_DOC_STRING_NONE,
     }
 }
 
 // The kind of a closing quote.
+#[tactic(auto, unfolding(outcome::specs::Texts::quote_kind))]
 fn quote_kind(mode: Mode) -> u32
     ensures { result ≡ quote_kind mode }
 {
     match mode {
-        Mode::Single => token::DOUBLE_QUOTE,
-        Mode::Double(_) => token::DOUBLE_QUOTE,
-        Mode::DoubleQuote(_) => token::DOUBLE_QUOTE,
         Mode::ShellExec => token::BACKTICK,
-        Mode::Heredoc(_) => token::DOUBLE_QUOTE,
-        Mode::Nowdoc => token::DOUBLE_QUOTE,
+        _ => token::DOUBLE_QUOTE,
     }
 }
 
 // The kind of the token that ends a text.
+#[tactic(auto, unfolding(outcome::specs::Texts::stop_kind))]
 fn stop_kind(mode: Mode, stop: Stop) -> u32
     ensures { result ≡ stop_kind mode stop }
 {
@@ -57,31 +55,23 @@ fn stop_kind(mode: Mode, stop: Stop) -> u32
         Stop::DollarLeftBrace => token::DOLLAR_LEFT_BRACE,
         Stop::LeftBrace => token::LEFT_BRACE,
         Stop::Variable(_) => token::VARIABLE,
-        Stop::Label {
-            indentation,
-            amount: _,
-        } => doc_kind(indentation),
+        Stop::Label { indentation, .. } => doc_kind(indentation),
     }
 }
 
 // The indentation amount for EndDocString, else 0.
+#[tactic(auto, unfolding(outcome::specs::Texts::stop_detail))]
 fn stop_detail(stop: Stop) -> usize
     ensures { result ≡ stop_detail stop }
 {
     match stop {
-        Stop::Quote => 0,
-        Stop::Interpolation => 0,
-        Stop::DollarLeftBrace => 0,
-        Stop::LeftBrace => 0,
-        Stop::Variable(_) => 0,
-        Stop::Label {
-            indentation: _,
-            amount,
-        } => amount,
+        Stop::Label { amount, .. } => amount,
+        _ => 0,
     }
 }
 
 // The frame that comes on top after a variable.
+#[tactic(auto, unfolding(outcome::specs::Texts::variable_change))]
 fn variable_change(f: Follow) -> Change
     ensures { result ≡ variable_change f }
 {
@@ -93,19 +83,16 @@ fn variable_change(f: Follow) -> Change
 }
 
 // What the token that ends a text does to the mode stack.
+#[tactic(auto, unfolding(outcome::specs::Texts::stop_change))]
 fn stop_change(stop: Stop) -> Change
     ensures { result ≡ stop_change stop }
 {
     match stop {
-        Stop::Quote => Change::Swap(Frame::Scripting),
         Stop::Interpolation => Change::Swap(Frame::DoubleQuote),
         Stop::DollarLeftBrace => Change::Enter(Frame::LookingForVarname),
         Stop::LeftBrace => Change::Enter(Frame::Scripting),
         Stop::Variable(f) => variable_change(f),
-        Stop::Label {
-            indentation: _,
-            amount: _,
-        } => Change::Swap(Frame::Scripting),
+        Stop::Quote | Stop::Label { .. } => Change::Swap(Frame::Scripting),
     }
 }
 
@@ -125,49 +112,40 @@ fn made_draft(kind: u32, place: usize, making: Making, from: usize, to: usize, l
 }
 
 // Where a text ends that has this stop: before the break and the blanks of a closing line.
+#[tactic(auto, unfolding(unit::specs::Readings::gap, unit::specs::Readings::text_end))]
 fn text_end(stop: Stop, from: usize) -> usize
     requires { gap stop ≤ from }
     ensures { result ≡ text_end stop from }
 {
     match stop {
-        Stop::Quote => from,
-        Stop::Interpolation => from,
-        Stop::DollarLeftBrace => from,
-        Stop::LeftBrace => from,
-        Stop::Variable(_) => from,
-        Stop::Label {
-            indentation: _,
-            amount,
-        } => from - amount - 1,
+        Stop::Label { amount, .. } => from - amount - 1,
+        _ => from,
     }
 }
 
 // Whether a text's value of `len` bytes stands in a scratch part of `room` bytes. A nowdoc's does not: its label is looked
 // for, and nothing is written.
+#[tactic(auto, unfolding(crate::specs::Code::is_held))]
 fn is_held(mode: Mode, len: usize, room: usize) -> bool
     ensures { result ≡ is_held mode len room }
 {
-    match mode {
-        Mode::Single => len <= room,
-        Mode::Double(_) => len <= room,
-        Mode::DoubleQuote(_) => len <= room,
-        Mode::ShellExec => len <= room,
-        Mode::Heredoc(_) => len <= room,
-        Mode::Nowdoc => false,
-    }
+    !matches!(mode, Mode::Nowdoc) && len <= room
 }
 
 // How a text's value comes about that is not the source's own bytes.
+#[tactic(auto, unfolding(crate::specs::Code::text_making))]
 fn text_making(mode: Mode, label: Label, held: bool) -> Making
     ensures { result ≡ text_making mode label held }
 {
     if held {
-        return Making::Held { mode, label };
+        Making::Held { mode, label }
+    } else {
+        Making::Text { mode, label }
     }
-    Making::Text { mode, label }
 }
 
 // A text's value of `len` bytes: where nothing was escaped it is the source's own bytes.
+#[tactic(auto, unfolding(crate::specs::Code::text_draft))]
 fn text_draft(
     kind: u32,
     place: usize,
@@ -187,6 +165,7 @@ fn text_draft(
 }
 
 // A sheet's value of `len` bytes: its rows up to the closing line. Without an indentation it is the source's own bytes.
+#[tactic(auto, unfolding(crate::specs::Code::sheet_draft))]
 fn sheet_draft(at: usize, len: usize, stop: Stop, from: usize) -> Draft
     requires { at + len + stop_detail stop ≤ from }
     ensures { result ≡ sheet_draft at len stop from }
@@ -201,6 +180,7 @@ fn sheet_draft(at: usize, len: usize, stop: Stop, from: usize) -> Draft
 }
 
 // A mode's text, and what ends it. Both tokens bear the span where the call began.
+#[tactic(auto, unfolding(crate::specs::Code::text_plan))]
 fn text_plan(mode: Mode, part: Draft, stop: Stop, from: usize, after: usize) -> Plan
     requires { from ≤ after }
     ensures { result ≡ text_plan mode part stop from after }
@@ -211,6 +191,7 @@ fn text_plan(mode: Mode, part: Draft, stop: Stop, from: usize, after: usize) -> 
 }
 
 // A nowdoc block read as a sheet.
+#[tactic(auto, using(crate::proofs::Works::sheeting))]
 pub fn sheet_mode(src: &[u8], label: Label, at: usize, end: bool) -> Plan
     requires { Here src.now at × Named src.now label }
     ensures { Plans src.now end (nowdoc Reading.Sheet (label_bytes src.now label) end at (drop at src.now)) result }
@@ -232,33 +213,22 @@ pub fn sheet_mode(src: &[u8], label: Label, at: usize, end: bool) -> Plan
 }
 
 // Whether a stop is an interpolation, which is left to `double_quote`.
+#[tactic(auto, unfolding(outcome::specs::Texts::is_left))]
 fn is_left(stop: Stop) -> bool
     ensures { result ≡ is_left stop }
 {
-    match stop {
-        Stop::Quote => false,
-        Stop::Interpolation => true,
-        Stop::DollarLeftBrace => false,
-        Stop::LeftBrace => false,
-        Stop::Variable(_) => false,
-        Stop::Label {
-            indentation: _,
-            amount: _,
-        } => false,
-    }
+    matches!(stop, Stop::Interpolation)
 }
 
-// The kind of a literal; 0 for a mode.
-fn literal_kind(mode: Mode) -> u32
+// The kind of a literal; none for a mode.
+#[tactic(auto, unfolding(crate::specs::Code::literal_kind))]
+fn literal_kind(mode: Mode) -> Option<u32>
     ensures { result ≡ literal_kind mode }
 {
     match mode {
-        Mode::Single => token::LITERAL_SINGLE_QUOTED_STRING,
-        Mode::Double(_) => token::LITERAL_DOUBLE_QUOTED_STRING,
-        Mode::DoubleQuote(_) => 0,
-        Mode::ShellExec => 0,
-        Mode::Heredoc(_) => 0,
-        Mode::Nowdoc => 0,
+        Mode::Single => Some(token::LITERAL_SINGLE_QUOTED_STRING),
+        Mode::Double(_) => Some(token::LITERAL_DOUBLE_QUOTED_STRING),
+        _ => None,
     }
 }
 
@@ -266,24 +236,25 @@ fn literal_kind(mode: Mode) -> u32
 fn value_kind(kind: u32, left: bool) -> u32
     ensures { result ≡ (if left then string_part else kind) }
 {
-    if left {
-        return token::STRING_PART;
-    }
-    kind
+    if left { token::STRING_PART } else { kind }
 }
 
 // A literal: one token; before an interpolation its part.
+#[tactic(auto, unfolding(crate::specs::Code::literal_plan))]
 fn literal_plan(draft: Draft, left: bool, after: usize) -> Plan
     ensures { result ≡ literal_plan draft left after }
 {
-    if left {
-        return plan::one(draft, after, Change::Swap(Frame::DoubleQuote));
-    }
-    plan::one(draft, after, Change::Keep)
+    let change = if left {
+        Change::Swap(Frame::DoubleQuote)
+    } else {
+        Change::Keep
+    };
+    plan::one(draft, after, change)
 }
 
 // The plan of a text that was measured: a literal, which bears the span of `place`, or a mode's. The scratch part has
 // `room` bytes.
+#[tactic(auto, using(crate::proofs::Texts::read_plans))]
 fn read_plan(mode: Mode, place: usize, label: Label, at: usize, room: usize, scan: Scanned) -> Plan
     requires { Placed at scan }
     ensures { result ≡ read_plan mode place label at room scan }
@@ -296,14 +267,18 @@ fn read_plan(mode: Mode, place: usize, label: Label, at: usize, room: usize, sca
             after,
         } => {
             let making = text_making(mode, label, is_held(mode, len, room));
-            let kind = literal_kind(mode);
-            if kind == 0 {
-                let part = text_draft(token::STRING_PART, at, making, at, len, stop, from);
-                return text_plan(mode, part, stop, from, after);
+            match literal_kind(mode) {
+                None => {
+                    let part = text_draft(token::STRING_PART, at, making, at, len, stop, from);
+                    text_plan(mode, part, stop, from, after)
+                }
+                Some(kind) => {
+                    let left = is_left(stop);
+                    let kind = value_kind(kind, left);
+                    let value = text_draft(kind, place, making, at, len, stop, from);
+                    literal_plan(value, left, after)
+                }
             }
-            let left = is_left(stop);
-            let value = text_draft(value_kind(kind, left), place, making, at, len, stop, from);
-            literal_plan(value, left, after)
         }
         Scanned::Refused { number, place } => Plan::Refused { number, place },
         Scanned::Wait => Plan::Wait,
@@ -312,6 +287,7 @@ fn read_plan(mode: Mode, place: usize, label: Label, at: usize, room: usize, sca
 
 // The text from `at` on, up to what ends it. A value that is not the source's own bytes stays in the scratch part, if it
 // fits there.
+#[tactic(auto, using(crate::proofs::Texts::texts))]
 pub fn text(
     mode: Mode,
     src: &[u8],
@@ -329,6 +305,7 @@ pub fn text(
 }
 
 // The kind of a number's token.
+#[tactic(auto, unfolding(outcome::specs::Texts::number_kind))]
 fn number_kind(literal: Literal) -> u32
     ensures { result ≡ number_kind literal }
 {

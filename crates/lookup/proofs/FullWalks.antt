@@ -8,7 +8,7 @@ use native.Mathlib.Omega.{arith}
 use lib.Dec.{leb}
 use borrow.Author.Tests.{le-leb, lt-leb, leb-true, leb-false}
 use Rattle.byte.proofs.Tests.{choice}
-use Rattle.lookup.specs.declared.Found.{Found}
+use Rattle.std.specs.Prelude.{Option, None, Some}
 use Rattle.lookup.specs.Lookups.{Search, look, searched, record_before}
 use Rattle.lookup.specs.FullWalks.{last_before, IsLast, NeverFalls}
 use Rattle.lookup.proofs.Searches.{by_rest, searched_over, searched_on}
@@ -21,10 +21,10 @@ module _ (position : ℕ → ℕ) (byte : ℕ) where
   same_place i j e h = subst (λ (k : ℕ). byte < position k) e h
 
   -- a record after the byte changes nothing
-  last_more : (i : ℕ) (found : Found) → byte < position i → IsLast position byte i found
+  last_more : (i : ℕ) (found : Option ℕ) → byte < position i → IsLast position byte i found
       → IsLast position byte (suc i) found
-  last_more i Found.Nothing h k = λ j g. by_rest j i (λ le. same_place i j (omega arith) h) (λ lt. k j lt)
-  last_more i (Found.Record n) h k =
+  last_more i None h k = λ j g. by_rest j i (λ le. same_place i j (omega arith) h) (λ lt. k j lt)
+  last_more i (Some n) h k =
       (omega (arith, k.0), k.1, λ j f g. by_rest j i (λ le. same_place i j (omega arith) h) (λ lt. k.2 j f lt))
 
   pub last_before_last : (count : ℕ) → IsLast position byte count (last_before position byte count)
@@ -36,14 +36,14 @@ module _ (position : ℕ → ℕ) (byte : ℕ) where
       (λ e. last_more i (last_before position byte i) (leb-false (position i) byte e) (last_before_last i))
 
   -- and no other answer is the last
-  pub last_one : (count : ℕ) (found found' : Found) → IsLast position byte count found
+  pub last_one : (count : ℕ) (found found' : Option ℕ) → IsLast position byte count found
       → IsLast position byte count found'
       → found ≡ found'
-  last_one count Found.Nothing Found.Nothing h k = refl
-  last_one count Found.Nothing (Found.Record i) h k = absurd (omega (arith, h i k.0, k.1))
-  last_one count (Found.Record i) Found.Nothing h k = absurd (omega (arith, k i h.0, h.1))
-  last_one count (Found.Record i) (Found.Record j) h k =
-      ap Found.Record
+  last_one count None None h k = refl
+  last_one count None (Some i) h k = absurd (omega (arith, h i k.0, k.1))
+  last_one count (Some i) None h k = absurd (omega (arith, k i h.0, h.1))
+  last_one count (Some i) (Some j) h k =
+      ap Some
       (by_rest i j (λ le. by_rest j i (λ ge. omega arith) (λ gt. absurd (omega (arith, k.2 i gt h.0, h.1))))
       (λ lt. absurd (omega (arith, h.2 j lt k.0, k.1))))
 

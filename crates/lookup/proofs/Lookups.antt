@@ -11,18 +11,18 @@ use mir.Val.{Fits}
 use borrow.Author.Tests.{le-leb, lt-leb, leb-true, ne_eqb}
 use Rattle.source.specs.Cursor.{origin}
 use Rattle.byte.proofs.Tests.{unrefused}
-use Rattle.lookup.specs.declared.Found.{Found}
+use Rattle.std.specs.Prelude.{Option, None, Some, SomeIff}
 use Rattle.lookup.specs.declared.Lookup.{Lookup}
 use Rattle.lookup.specs.Lookups.{Search, position_in, end_in, record_before, look, searched, told}
 use Rattle.lookup.specs.Lookups.{find_refusal, looked_up}
 use Rattle.lookup.proofs.Searches.{searched_over, searched_on}
 
 -- what a search finds that goes on after so many looks, and the looks of all of it
-abbrev after_looks : ℕ → Search → Found × ℕ
+abbrev after_looks : ℕ → Search → Option ℕ × ℕ
 after_looks looks s = (s.found, looks + length s.trail)
 
 -- the same of a whole search
-abbrev wholly : Search → Found × ℕ
+abbrev wholly : Search → Option ℕ × ℕ
 wholly s = (s.found, length s.trail)
 
 -- what is left of the search
@@ -41,16 +41,16 @@ module _ (position : ℕ → ℕ) (byte count : ℕ) where
         → (low ≤ 65537) × (low * 8 ≤ length list)
     searching_room list fits h = (omega (arith, s.order, s.room, fits.0), omega (arith, s.order, s.room, fits.1))
 
-    pub searching_end : (list : List ℕ) (found : Found) (end : ℕ) → high ≤ low → found ≡ record_before low
+    pub searching_end : (list : List ℕ) (found : Option ℕ) (end : ℕ) → high ≤ low → found ≡ record_before low
         → end ≡ end_in list (record_before low)
         → Lookup.Told found looks end ≡ told list (searched position byte 0 count)
     searching_end list found end h e f =
         let none : looks ≡ looks + 0 = omega arith in
-        let all : ◌≡◌ {A = Found × ℕ} (record_before low, looks) (wholly (searched position byte 0 count)) =
+        let all : ◌≡◌ {A = Option ℕ × ℕ} (record_before low, looks) (wholly (searched position byte 0 count)) =
         ap (λ (n : ℕ). (record_before low, n)) none
         ∙ sym (ap (after_looks looks) (searched_over position byte low high h))
         ∙ s.same in
-        rw (e, f) (ap (λ (p : Found × ℕ). Lookup.Told p.0 p.1 (end_in list p.0)) all)
+        rw (e, f) (ap (λ (p : Option ℕ × ℕ). Lookup.Told p.0 p.1 (end_in list p.0)) all)
 
     -- a look at the middle one, whose position is v
     module _ (v : ℕ) (h : low < high) (f : v ≡ position ((low + high) / 2)) where
@@ -83,53 +83,35 @@ module _ (position : ℕ → ℕ) (byte count : ℕ) where
 
 pub ruleset searching = (searching_first, searching_room, searching_end, searching_up, searching_down)
 
-module _ (count : ℕ) where
-  pub before_none : count ≡ 0 → Found.Nothing ≡ record_before count
-  unfolding record_before
-  before_none e = rw e
+-- the last of so many records, as the library's subtraction gives it
+pub before_same : (count : ℕ) (r : Option ℕ) → SomeIff r (1 ≤ count) (count - 1) → r ≡ record_before count
+unfolding record_before
+before_same zero None h = refl
+before_same zero (Some i) h = absurd (omega (arith, h.0))
+before_same (suc i) None h = absurd (h (omega arith))
+before_same (suc i) (Some j) h = ap Some (omega (arith, h.1))
 
-  pub before_last : (count ≡ 0 → ⊥) → Found.Record (count - 1) ≡ record_before count
-  unfolding record_before
-  before_last h = go count h
-    where
-      go : (n : ℕ) → (n ≡ 0 → ⊥) → Found.Record (n - 1) ≡ record_before n
-      go zero k = absurd (k refl)
-      go (suc i) k = ap Found.Record (omega arith)
+module _ (list : List ℕ) (count : ℕ) (found : Option ℕ) (f : found ≡ record_before count) where
+  pub end_none : found ≡ None → 0 ≡ end_in list (record_before count)
+  unfolding end_in
+  end_none e = rw (← f, e)
 
-  module _ (list : List ℕ) where
-    pub end_none : count ≤ 0 → 0 ≡ end_in list (record_before count)
-    unfolding record_before end_in
-    end_none h = let none : count ≡ 0 = omega (arith, h) in rw none
+  module _ (number : ℕ) (e : found ≡ Some number) where
+    pub end_some : get_or list (number * 8 + 7) 0 ≡ end_in list (record_before count)
+    unfolding end_in
+    end_some = rw (← f, e)
 
-    pub end_last : 0 < count → get_or list (count * 8 - 1) 0 ≡ end_in list (record_before count)
-    unfolding record_before end_in
-    end_last h = go count h
+    pub end_below : number < count
+    unfolding record_before
+    end_below = go count (sym f ∙ e)
       where
-        go : (n : ℕ) → 0 < n → get_or list (n * 8 - 1) 0 ≡ end_in list (record_before n)
-        go zero k = absurd (omega (arith, k))
-        go (suc i) k = let last : suc i * 8 - 1 ≡ i * 8 + 7 = omega arith in ap (λ (j : ℕ). get_or list j 0) last
+        go : (n : ℕ) → record_before n ≡ Some number → number < n
+        go zero k = cc
+        go (suc i) k = let same : i ≡ number = cc in omega (arith, same)
 
-pub ruleset befores = (before_none, before_last)
-
-pub ruleset ends = (end_none, end_last)
+pub ruleset ends = (end_none, end_some, end_below)
 
 -- ---- what is asked before
-
-module _ (list count : ℕ) where
-  pub find_large : 65537 < list / 8 → 11 ≡ find_refusal list count
-  unfolding find_refusal
-  find_large h = rw (lt-leb (list / 8) 65537 h)
-
-  module _ (h : list / 8 ≤ 65537) where
-    pub find_above : list / 8 < count → 12 ≡ find_refusal list count
-    unfolding find_refusal
-    find_above k = rw (le-leb (list / 8) 65537 h, lt-leb count (list / 8) k)
-
-    pub find_open : count ≤ list / 8 → 0 ≡ find_refusal list count
-    unfolding find_refusal
-    find_open k = rw (le-leb (list / 8) 65537 h, le-leb count (list / 8) k)
-
-pub ruleset asking = (find_large, find_above, find_open)
 
 -- where nothing is refused, list and count are within their bounds
 pub record Bounded (list count : ℕ) : Type 0 where

@@ -38,7 +38,7 @@ use Rattle.demands.proofs.Rising.{Ordered}
 use Rattle.demands.proofs.Ends.{cuts_same}
 use Rattle.demands.proofs.Filled.{steps_filled, walk_filled, fed_filled, filled_ordered}
 use Rattle.demands.proofs.Filled.{steps_size, walk_size, fed_size}
-use Rattle.lookup.specs.declared.Found.{Found}
+use Rattle.std.specs.Prelude.{Option}
 use Rattle.lookup.specs.declared.Lookup.{Lookup}
 use Rattle.lookup.specs.Lookups.{Search, position_in, end_in, searched, find_refusal, told, looked_up}
 use Rattle.lookup.specs.FullWalks.{is_seen, NeverFalls, AsFullWalk, IsReached}
@@ -73,7 +73,7 @@ module _ (list : List ℕ) (count byte : ℕ) (passes : find_refusal (length lis
   pub find_rising : NeverFalls (position_in list) count → AsFullWalk list count byte
   find_rising rising =
       find_here
-      ∙ ap (λ (f : Found). Lookup.Told f (length the.trail) (end_in list f))
+      ∙ ap (λ (f : Option ℕ). Lookup.Told f (length the.trail) (end_in list f))
       (rising_found (position_in list) byte count rising)
 
   module _ (list' : List ℕ) (passes' : find_refusal (length list') count ≡ 0)

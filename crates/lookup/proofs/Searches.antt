@@ -7,7 +7,7 @@
 --   searched_agrees              positions that agree on the records looked at give the same search
 --   searched_seen                what is found was looked at
 --   searched_reached             and is at or before the byte, on every list
-use Rattle.std.specs.Prelude.{if◌then◌else◌}
+use Rattle.std.specs.Prelude.{if◌then◌else◌, Option, None, Some}
 use Prim.Native.Nat.{ℕ, zero, suc, ◌+◌, ◌-◌, ◌/◌, ◌^◌, ◌≤◌, ◌<◌}
 use mathlib.Core.Path.{◌≡◌, refl, sym, ap, ◌∙◌}
 use mathlib.Core.Bool.{Bool, true, false, or-true}
@@ -19,7 +19,6 @@ use lib.ListN.{length}
 use borrow.Author.Tests.{le-leb, lt-leb, leb-true, leb-false, lt-ltb, eq-eqb, eqb-true}
 use Rattle.byte.specs.Words.{every}
 use Rattle.byte.proofs.Tests.{choice, &&-left, &&-right, &&-both, suc_one}
-use Rattle.lookup.specs.declared.Found.{Found}
 use Rattle.byte.specs.Refusals.{is_among}
 use Rattle.lookup.specs.Lookups.{Search, over, look, search_in, searched, record_before}
 use Rattle.lookup.specs.FullWalks.{is_seen, IsReached}
@@ -131,12 +130,12 @@ module _ (position : ℕ → ℕ) (byte : ℕ) where
   abbrev Seen : ℕ → Search → Type 0
   Seen low s = (s.found ≡ record_before low) ⊎ (is_seen s.found s.trail ≡ true)
 
-  seen_later : (i : ℕ) (found : Found) (trail : List ℕ) → is_seen found trail ≡ true → is_seen found (i ∷ trail) ≡ true
+  seen_later : (i : ℕ) (found : Option ℕ) (trail : List ℕ) → is_seen found trail ≡ true → is_seen found (i ∷ trail) ≡ true
   unfolding is_seen is_among
-  seen_later i Found.Nothing trail e = refl
-  seen_later i (Found.Record n) trail e = rw e (or-true (eqb n i))
+  seen_later i None trail e = refl
+  seen_later i (Some n) trail e = rw e (or-true (eqb n i))
 
-  seen_first : (i : ℕ) (found : Found) (trail : List ℕ) → found ≡ record_before (i + 1) → is_seen found (i ∷ trail) ≡ true
+  seen_first : (i : ℕ) (found : Option ℕ) (trail : List ℕ) → found ≡ record_before (i + 1) → is_seen found (i ∷ trail) ≡ true
   unfolding is_seen is_among record_before
   seen_first i found trail e = rw (e, ← suc_one i, eq-eqb i i refl)
 

@@ -7,20 +7,19 @@
 --   AsFullWalk    the look-up finds what the full walk finds
 --   is_seen       what is found was looked at
 --   IsReached     what is found is at or before the byte
-use Rattle.std.specs.Prelude.{ℕ, zero, suc, ◌≤◌, ◌<◌, Bool, true, List, ◌≡◌, leb, length, if◌then◌else◌}
+use Rattle.std.specs.Prelude.{ℕ, zero, suc, ◌≤◌, ◌<◌, Bool, true, List, ◌≡◌, leb, length, if◌then◌else◌, Option, None, Some}
 use Rattle.byte.specs.Refusals.{is_among}
-use Rattle.lookup.specs.declared.Found.{Found}
 use Rattle.lookup.specs.declared.Lookup.{Lookup}
 use Rattle.lookup.specs.Lookups.{position_in, end_in, searched, looked_up}
 
-unfoldable pub last_before : (ℕ → ℕ) → ℕ → ℕ → Found
-last_before position byte zero = Found.Nothing
-last_before position byte (suc i) = if leb (position i) byte then Found.Record i else last_before position byte i
+unfoldable pub last_before : (ℕ → ℕ) → ℕ → ℕ → Option ℕ
+last_before position byte zero = None
+last_before position byte (suc i) = if leb (position i) byte then Some i else last_before position byte i
 
 -- it is at or before the byte, and every later record is after it; or every record is after it
-abbrev pub IsLast : (ℕ → ℕ) → ℕ → ℕ → Found → Type 0
-IsLast position byte count Found.Nothing = (j : ℕ) → j < count → byte < position j
-IsLast position byte count (Found.Record i) =
+abbrev pub IsLast : (ℕ → ℕ) → ℕ → ℕ → Option ℕ → Type 0
+IsLast position byte count None = (j : ℕ) → j < count → byte < position j
+IsLast position byte count (Some i) =
     (i < count) × (position i ≤ byte) × ((j : ℕ) → i < j → j < count → byte < position j)
 
 abbrev pub NeverFalls : (ℕ → ℕ) → ℕ → Type 0
@@ -32,10 +31,10 @@ AsFullWalk list count byte =
     looked_up list count byte
     ≡ Lookup.Told last (length (searched (position_in list) byte 0 count).trail) (end_in list last)
 
-unfoldable pub is_seen : Found → List ℕ → Bool
-is_seen Found.Nothing trail = true
-is_seen (Found.Record i) trail = is_among i trail
+unfoldable pub is_seen : Option ℕ → List ℕ → Bool
+is_seen None trail = true
+is_seen (Some i) trail = is_among i trail
 
-abbrev pub IsReached : (ℕ → ℕ) → ℕ → Found → Type 0
-IsReached position byte Found.Nothing = Unit {0}
-IsReached position byte (Found.Record i) = position i ≤ byte
+abbrev pub IsReached : (ℕ → ℕ) → ℕ → Option ℕ → Type 0
+IsReached position byte None = Unit {0}
+IsReached position byte (Some i) = position i ≤ byte

@@ -13,26 +13,25 @@
 --   looked_up       the refusal, at the script's beginning; or what the search comes to
 -- FullWalks.antt has the full walk. Where positions never fall both find the same; on other lists only this is
 -- promised.
-use Rattle.std.specs.Prelude.{ℕ, zero, suc, ◌+◌, ◌-◌, ◌*◌, ◌/◌, List, [], ◌∷◌, leb, eqb, length, get_or, if◌then◌else◌}
+use Rattle.std.specs.Prelude.{ℕ, zero, suc, ◌+◌, ◌-◌, ◌*◌, ◌/◌, List, [], ◌∷◌, leb, eqb, length, get_or, if◌then◌else◌, Option, None, Some}
 use Rattle.byte.specs.Refusals.{too_large, bad_session}
 use Rattle.source.specs.Cursor.{origin}
-use Rattle.lookup.specs.declared.Found.{Found}
 use Rattle.lookup.specs.declared.Lookup.{Lookup}
 
 abbrev pub position_in : List ℕ → ℕ → ℕ
 position_in list i = get_or list (i * 8 + 4) 0
 
-unfoldable pub end_in : List ℕ → Found → ℕ
-end_in list Found.Nothing = 0
-end_in list (Found.Record i) = get_or list (i * 8 + 7) 0
+unfoldable pub end_in : List ℕ → Option ℕ → ℕ
+end_in list None = 0
+end_in list (Some i) = get_or list (i * 8 + 7) 0
 
-unfoldable pub record_before : ℕ → Found
-record_before zero = Found.Nothing
-record_before (suc i) = Found.Record i
+unfoldable pub record_before : ℕ → Option ℕ
+record_before zero = None
+record_before (suc i) = Some i
 
 pub record Search : Type 0 where
   pub trail : List ℕ
-  pub found : Found
+  pub found : Option ℕ
 
 -- no record is left to look at: those before low are at or before the byte
 abbrev pub over : ℕ → Search

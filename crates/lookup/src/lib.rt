@@ -10,25 +10,24 @@ ghost use Rattle.lookup.specs.Lookups.{position_in, end_in, record_before, searc
 
 use source::Span;
 
-// What was found.
-#[derive(Clone, Copy)]
-pub enum Found {
-    // No record is at or before the byte.
-    Nothing,
-    // A record's number, from 0.
-    Record { number: u32 },
-}
-
 // What a look-up comes to.
 #[derive(Clone, Copy)]
 pub enum Lookup {
-    // What was found, how many records were looked at, and where the step ended that wrote it: 0 for nothing.
-    Told { found: Found, looks: u32, end: u32 },
+    // The number of the record that was found, if any, how many were looked at, and where the step ended that wrote it: 0 for none.
+    Told {
+        found: Option<u32>,
+        looks: u32,
+        end: u32,
+    },
     // Nothing was looked at.
-    Refused { number: u32, span: Span },
+    Refused {
+        number: u32,
+        span: Span,
+    },
 }
 
 // Refusals 11 and 12 of `find`, or 0, of a list of so many numbers.
+#[tactic(auto, unfolding(crate::specs::Lookups::find_refusal))]
 fn find_refusal(list: usize, count: usize) -> u32
     ensures { result ≡ find_refusal list count }
 {
@@ -53,36 +52,29 @@ fn refuse(number: u32) -> Lookup
     Lookup::Refused { number, span }
 }
 
-// The last of so many records, or nothing.
-fn record_before(count: u32) -> Found
+// The number of the last of so many records.
+#[tactic(auto, using(crate::proofs::Lookups::before_same))]
+fn record_before(count: u32) -> Option<u32>
     ensures { result ≡ record_before count }
 {
-    if count == 0 {
-        return Found::Nothing;
-    }
-    Found::Record { number: count - 1 }
+    count.checked_sub(1)
 }
 
 // Where the step ended that wrote the last of so many records: its eighth number, or 0 for none.
+#[tactic(auto, using(crate::proofs::Lookups::ends))]
 fn end_before(list: &[u32], count: u32) -> u32
     requires { (count ≤ 65537) × (count * 8 ≤ length list.now) }
     ensures { result ≡ end_in list.now (record_before count) }
 {
-    if 0 < count {
-        return list[count as usize * 8 - 1];
+    match record_before(count) {
+        None => 0,
+        Some(number) => list[number as usize * 8 + 7],
     }
-    0
-}
-
-// A number as one that a place can be compared with.
-fn wide(n: u32) -> usize
-    ensures { result ≡ n }
-{
-    n as usize
 }
 
 // The search over the first `count` records: those before `low` are taken for at or before the byte, those from
 // `high` on for after it.
+#[tactic(auto, using(crate::proofs::Lookups::searching))]
 fn search(list: &[u32], count: u32, at: usize) -> Lookup
     requires { (count ≤ 65537) × (count * 8 ≤ length list.now) }
     ensures { result ≡ told list.now (searched (position_in list.now) at 0 count) }
@@ -90,10 +82,11 @@ fn search(list: &[u32], count: u32, at: usize) -> Lookup
     let mut low = 0;
     let mut high = count;
     let mut looks = 0;
+    // By hand: `find_looks` promises the looks, which the library's `partition_point` does not count.
     while low < high {
         let middle = (low + high) / 2;
         looks += 1;
-        if at < wide(list[middle as usize * 8 + 4]) {
+        if at < list[middle as usize * 8 + 4] as usize {
             high = middle;
         } else {
             low = middle + 1;
@@ -108,6 +101,7 @@ fn search(list: &[u32], count: u32, at: usize) -> Lookup
 
 // The last record of the first `count` whose position is at or before the byte `at`, and how many were looked at.
 // Refused: a list over 65,537 places (11), a count above its places (12).
+#[tactic(auto, using(crate::proofs::Lookups::finding))]
 pub fn find(list: &[u32], count: usize, at: usize) -> Lookup
     ensures { result ≡ looked_up list.now count at }
 {

@@ -6,7 +6,7 @@ use mathlib.Core.Bool.{Bool, true, false}
 use mathlib.Core.List.{List, [], ◌∷◌, ◌++◌}
 use native.Mathlib.Omega.{arith}
 use native.Mathlib.Numerals.{add-one}
-use lib.ListN.{length, take, drop, length-take, length-drop}
+use lib.ListN.{length, drop, length-take, length-drop}
 use lib.Seq.{take-nil}
 use borrow.Author.Tests.{eq-eqb, ne_eqb}
 use Rattle.state.specs.declared.Label.{Label}
@@ -16,46 +16,15 @@ use Rattle.outcome.specs.Outcomes.{Outcome, unless_empty, goes, ending}
 use Rattle.outcome.specs.Lookings.{token}
 use Rattle.plan.specs.declared.Making.{Making}
 use Rattle.plan.specs.declared.Draft.{Draft}
-use Rattle.plan.specs.declared.Drafts.{Drafts}
 use Rattle.plan.specs.declared.Plan.{Plan}
 use Rattle.plan.specs.Code.{made_by, made, piece_of, pieces, outcome_of, Named, Able, Ready, AllReady, PlanReady}
 use Rattle.plan.specs.Code.{PlansIn, Plans}
-use Rattle.plan.specs.Code.{copied_draft, no_draft, no_drafts, one_draft, two_drafts, drafts_of}
-use Rattle.plan.specs.Code.{work_plan, goes_plan, one_plan, parted_plan, ending_plan}
-
--- the bytes that a label names, as a part of the source
-pub label_bytes_part : (src : List ℕ) (label : Label)
-    → take (label.start + label.len - label.start) (drop label.start src) ≡ label_bytes src label
-label_bytes_part src label =
-    let k : label.start + label.len - label.start ≡ label.len = omega arith in
-    rw k
+use Rattle.plan.specs.Code.{copied_draft, drafts_of}
+use Rattle.plan.specs.Code.{goes_plan, one_plan, parted_plan, ending_plan}
 
 pub named_short : (src : List ℕ) (label : Label) (part : List ℕ) → Named src label → part ≡ label_bytes src label
     → length part ≤ 64
 named_short src label part name e = rw e (simp (length-take, length-drop) (omega (arith, name.short)))
-
--- drafts and plans from their parts
-pub no_drafts_made : (first second : Draft) → first ≡ no_draft → second ≡ no_draft
-    → record { count = 0; first = first; second = second } ≡ no_drafts
-no_drafts_made first second e f = rw (e, f)
-
-pub one_draft_made : (d second : Draft) → second ≡ no_draft → record { count = 1; first = d; second = second } ≡ one_draft d
-one_draft_made d second e = rw e
-
-pub work_plan_made : (ds ds' : Drafts) (after : ℕ) (change : Change) → ds ≡ ds'
-    → Plan.Told (record { drafts = ds; after = after; change = change; finished = false }) ≡ work_plan ds' after change
-work_plan_made ds ds' after change e = rw e
-
-pub ruleset making = (no_drafts_made, one_draft_made, work_plan_made)
-
-module _ (part d : Draft) (after : ℕ) (change : Change) where
-  pub parted_plan_empty : (r : Plan) → part.len ≡ 0 → r ≡ one_plan d after change → r ≡ parted_plan part d after change
-  parted_plan_empty r z e = e ∙ rw (eq-eqb part.len 0 z)
-
-  pub parted_plan_some : (part.len ≡ 0 → ⊥) → work_plan (two_drafts part d) after change ≡ parted_plan part d after change
-  parted_plan_some z = rw (ne_eqb part.len 0 z)
-
-pub ruleset parting = (parted_plan_empty, parted_plan_some)
 
 -- bytes of the source can be copied
 pub copied_ready : {scratch : List ℕ} (src : List ℕ) (end : Bool) (kind detail place from to : ℕ) → from ≤ to
@@ -67,10 +36,6 @@ copied_ready src end kind detail place from to h i =
       size = sym (rw (length-take (to - from) (drop from src), length-drop from src) (omega arith));
       able = record { order = h; inside = i };
     }
-
-pub token_made : (kind at k : ℕ) (change : Change) (d : Draft) (r : Plan) → d ≡ copied_draft kind 0 at at (at + k)
-    → r ≡ one_plan d (at + k) change → r ≡ one_plan (copied_draft kind 0 at at (at + k)) (at + k) change
-token_made kind at k change d r e h = h ∙ rw e
 
 -- k bytes from `at` on as a token
 pub token_plans : (src : List ℕ) (end : Bool) (kind at k : ℕ) (change : Change) → at + k ≤ length src

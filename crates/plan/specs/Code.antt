@@ -1,6 +1,6 @@
 -- What a plan stands for: the outcome that it makes of a source.
 --   made_by, made                      the value of a draft
---   drafts_of                          the drafts that count, in order
+--   drafts_of                          the drafts, in order
 --   piece_of, pieces_of, outcome_of    a draft, drafts and a plan in the outcome's words
 --   Able, Ready                        a draft whose value can be written: its length is the value's, and its ranges
 --                                      lie within the source; a value that is held stands at the start of the scratch
@@ -39,9 +39,11 @@ made src end d = made_by d.making src end d.from d.to
 abbrev pub piece_of : List ℕ → Bool → Draft → Piece
 piece_of src end d = record { kind = d.kind; detail = d.detail; place = d.place; value = made src end d }
 
--- the drafts that count, in order
+-- the drafts, in order
 abbrev pub drafts_of : Drafts → List Draft
-drafts_of ds = take ds.count (ds.first ∷ ds.second ∷ [])
+drafts_of Drafts.None = []
+drafts_of (Drafts.One d) = d ∷ []
+drafts_of (Drafts.Two d e) = d ∷ e ∷ []
 
 unfoldable pub pieces : List ℕ → Bool → List Draft → List Piece
 pieces src end [] = []
@@ -91,9 +93,9 @@ abbrev pub AllReady : List Draft → List ℕ → Bool → List ℕ → Type 0
 AllReady [] src end scratch = Unit {0}
 AllReady (d ∷ more) src end scratch = Ready src end scratch d × AllReady more src end scratch
 
--- none is counted that is not there
+-- there are two at most, and each can be written
 pub record DraftsReady (ds : Drafts) (src : List ℕ) (end : Bool) (scratch : List ℕ) : Type 0 where
-  pub few : ds.count ≤ 2
+  pub few : length (drafts_of ds) ≤ 2
   pub all : AllReady (drafts_of ds) src end scratch
 
 abbrev pub PlanReady : Plan → List ℕ → Bool → List ℕ → Type 0
@@ -112,17 +114,14 @@ abbrev pub copied_draft : ℕ → ℕ → ℕ → ℕ → ℕ → Draft
 copied_draft kind detail place from to =
     record { kind = kind; detail = detail; place = place; making = Making.Copied; from = from; to = to; len = to - from }
 
-abbrev pub no_draft : Draft
-no_draft = copied_draft 0 0 0 0 0
-
 abbrev pub no_drafts : Drafts
-no_drafts = record { count = 0; first = no_draft; second = no_draft }
+no_drafts = Drafts.None
 
 abbrev pub one_draft : Draft → Drafts
-one_draft d = record { count = 1; first = d; second = no_draft }
+one_draft d = Drafts.One d
 
 abbrev pub two_drafts : Draft → Draft → Drafts
-two_drafts d e = record { count = 2; first = d; second = e }
+two_drafts d e = Drafts.Two d e
 
 abbrev pub work_plan : Drafts → ℕ → Change → Plan
 work_plan drafts after change = Plan.Told (record { drafts = drafts; after = after; change = change; finished = false })

@@ -4,7 +4,7 @@
 
 ghost use Rattle.std.specs.Prelude.{◌≡◌, ◌+◌, ◌-◌, ◌≤◌};
 ghost use Rattle.state.specs.Bounds.{label_bytes, no_label};
-ghost use Rattle.plan.specs.Code.{Named, copied_draft, no_draft, no_drafts, one_draft, goes_plan, one_plan, parted_plan, ending_plan};
+ghost use Rattle.plan.specs.Code.{Named, copied_draft, no_drafts, one_draft, work_plan, goes_plan, one_plan, parted_plan, ending_plan};
 
 use outcome::Change;
 use state::Label;
@@ -37,12 +37,12 @@ pub struct Draft {
     pub len: usize,
 }
 
-// The tokens that a step writes: the first `count` of these, in order.
+// The tokens that a step writes, in order.
 #[derive(Clone, Copy)]
-pub struct Drafts {
-    pub count: u32,
-    pub first: Draft,
-    pub second: Draft,
+pub enum Drafts {
+    None,
+    One(Draft),
+    Two(Draft, Draft),
 }
 
 // What a step does: what it writes, the place after, the change of frame, and whether nothing is left to read.
@@ -73,8 +73,8 @@ pub fn label_bytes(src: &[u8], label: Label) -> &[u8]
     requires { Named src.now label }
     ensures { result.now ≡ label_bytes src.now label }
 {
-    let start = label.start as usize;
-    let end = start + label.len as usize;
+    let start = usize::from(label.start);
+    let end = start + usize::from(label.len);
     &src[start..end]
 }
 
@@ -94,57 +94,44 @@ pub fn copied(kind: u32, detail: usize, place: usize, from: usize, to: usize) ->
     }
 }
 
-// A draft that is not counted.
-fn no_draft() -> Draft
-    ensures { result ≡ no_draft }
-{
-    copied(0, 0, 0, 0, 0)
-}
-
 // No token.
 pub fn none() -> Drafts
     ensures { result ≡ no_drafts }
 {
-    Drafts {
-        count: 0,
-        first: no_draft(),
-        second: no_draft(),
-    }
+    Drafts::None
 }
 
 // One token.
 pub fn only(draft: Draft) -> Drafts
     ensures { result ≡ one_draft draft }
 {
-    Drafts {
-        count: 1,
-        first: draft,
-        second: no_draft(),
-    }
+    Drafts::One(draft)
+}
+
+// These are written, and something is left to read.
+fn told(drafts: Drafts, after: usize, change: Change) -> Plan
+    ensures { result ≡ work_plan drafts after change }
+{
+    Plan::Told(Work {
+        drafts,
+        after,
+        change,
+        finished: false,
+    })
 }
 
 // Nothing is written.
 pub fn goes(after: usize, change: Change) -> Plan
     ensures { result ≡ goes_plan after change }
 {
-    Plan::Told(Work {
-        drafts: none(),
-        after,
-        change,
-        finished: false,
-    })
+    told(Drafts::None, after, change)
 }
 
 // One token is written.
 pub fn one(draft: Draft, after: usize, change: Change) -> Plan
     ensures { result ≡ one_plan draft after change }
 {
-    Plan::Told(Work {
-        drafts: only(draft),
-        after,
-        change,
-        finished: false,
-    })
+    told(Drafts::One(draft), after, change)
 }
 
 // The `k` bytes at a place as a token.
@@ -173,15 +160,5 @@ pub fn parted(part: Draft, draft: Draft, after: usize, change: Change) -> Plan
     if part.len == 0 {
         return one(draft, after, change);
     }
-    let drafts = Drafts {
-        count: 2,
-        first: part,
-        second: draft,
-    };
-    Plan::Told(Work {
-        drafts,
-        after,
-        change,
-        finished: false,
-    })
+    told(Drafts::Two(part, draft), after, change)
 }

@@ -28,6 +28,7 @@ pub struct Probed {
 }
 
 // The mode of a number, 0 to 8; from 6 on, octal escapes are read as the manual has them.
+#[tactic(auto, unfolding(crate::specs::Probes::mode_of))]
 fn mode_of(n: u32) -> Mode
     ensures { result ≡ mode_of n }
 {
@@ -44,6 +45,7 @@ fn mode_of(n: u32) -> Mode
     }
 }
 
+#[tactic(auto, unfolding(crate::specs::Probes::stop_number))]
 fn follow_number(f: Follow) -> u32
     ensures { result ≡ stop_number (Stop.Variable f) }
 {
@@ -54,6 +56,7 @@ fn follow_number(f: Follow) -> u32
     }
 }
 
+#[tactic(auto, unfolding(crate::specs::Probes::stop_number))]
 fn label_number(ind: Indentation, amount: usize) -> u32
     ensures { result ≡ stop_number (Stop.Label ind amount) }
 {
@@ -66,6 +69,7 @@ fn label_number(ind: Indentation, amount: usize) -> u32
 }
 
 // What ended a text, as a number.
+#[tactic(auto, unfolding(crate::specs::Probes::stop_number))]
 fn stop_number(stop: Stop) -> u32
     ensures { result ≡ stop_number stop }
 {
@@ -83,19 +87,13 @@ fn stop_number(stop: Stop) -> u32
 }
 
 // The amount of a label's indentation; 0 for another stop.
+#[tactic(auto, unfolding(crate::specs::Probes::amount_of))]
 fn amount_of(stop: Stop) -> usize
     ensures { result ≡ amount_of stop }
 {
     match stop {
-        Stop::Quote => 0,
-        Stop::Interpolation => 0,
-        Stop::DollarLeftBrace => 0,
-        Stop::LeftBrace => 0,
-        Stop::Variable(_) => 0,
-        Stop::Label {
-            indentation: _,
-            amount,
-        } => amount,
+        Stop::Label { amount, .. } => amount,
+        _ => 0,
     }
 }
 
@@ -114,6 +112,7 @@ fn refusal(number: u32, place: usize) -> Probed
     }
 }
 
+#[tactic(auto, unfolding(crate::specs::Probes::numbered))]
 fn numbered(s: Scanned) -> Probed
     ensures { result ≡ numbered s }
 {
@@ -145,26 +144,21 @@ fn refused(number: u32) -> Scanned
 }
 
 // The reading asked for, measured; or why there is none.
+#[tactic(auto, using(crate::proofs::Probes::askings))]
 fn scanned(mode: u32, src: &[u8], label: &[u8], at: usize, end: u32) -> Scanned
     ensures { result ≡ measured (asked mode src.now label.now at end) }
 {
     if 65536 < src.len() {
         return refused(byte::TOO_LARGE);
     }
-    if 8 < mode {
+    if 8 < mode || src.len() < at || 64 < label.len() {
         return refused(byte::OUT_OF_PLACE);
     }
-    if src.len() < at {
-        return refused(byte::OUT_OF_PLACE);
-    }
-    if 64 < label.len() {
-        return refused(byte::OUT_OF_PLACE);
-    }
-    let mut none = [0u8; 0];
-    text::scan_text(mode_of(mode), src, label, at, end != 0, &mut none)
+    text::scan_text(mode_of(mode), src, label, at, end != 0, &mut [])
 }
 
 // A text from `at` on: what ended it and how long its value is. With `end` 0, more may come after the source.
+#[tactic(auto, using(crate::proofs::Probes::numbered_same))]
 #[unsafe(no_mangle)]
 pub extern "C" fn puretakoi_probe_text(
     mode: u32,
@@ -191,23 +185,19 @@ pub extern "C" fn puretakoi_probe_value(
     ensures { Valued value.old (asked mode src.now label.now at end) result value.new }
 {
     match scanned(mode, src, label, at, end) {
-        Scanned::Text {
-            len,
-            stop: _,
-            from: _,
-            after: _,
-        } => {
+        Scanned::Text { len, .. } => {
             if value.len() < len {
                 return byte::POOL_FULL;
             }
             text::read_text(mode_of(mode), src, label, at, end != 0, &mut value[..len]);
             0
         }
-        Scanned::Refused { number, place: _ } => number,
+        Scanned::Refused { number, .. } => number,
         Scanned::Wait => byte::WAIT,
     }
 }
 
+#[tactic(auto, unfolding(crate::specs::Literals::literal_number))]
 fn literal_number(literal: Literal) -> u32
     ensures { result ≡ literal_number literal }
 {

@@ -1,4 +1,5 @@
 -- The calls of a host on each way through them. Assumes nothing.
+use Rattle.std.specs.Prelude.{Option, None, Some, SomeIff}
 use Prim.Native.Nat.{ℕ, zero, suc, ◌≤◌, ◌<◌}
 use mathlib.Core.Path.{◌≡◌, refl, sym, ◌∙◌}
 use mathlib.Core.Bool.{Bool, true, false, not}
@@ -30,6 +31,10 @@ pub filed : (number : ℕ) (lent values : List ℕ) (a : Answer) (r : ℕ) (afte
     → Filed number lent values r after
 filed number lent values a r after w e = record { number = e ∙ rw w.answer (refusal_file number); holds = w.holds }
 
+not_so : (b : Bool) → (b ≡ true → ⊥) → b ≡ false
+not_so true h = absurd (h refl)
+not_so false h = refl
+
 -- the two slices of a call
 module _ (session answer : List ℕ) (flag : Bool) (e : flag ≡ are_long (length session) (length answer)) where
   module _ (h : not flag ≡ false) where
@@ -41,33 +46,46 @@ module _ (session answer : List ℕ) (flag : Bool) (e : flag ≡ are_long (lengt
     unfolding are_long
     answer_long = leb-true 5 (length answer) (&&-right (leb 199 (length session)) (leb 5 (length answer)) (sym e ∙ not-false flag h))
 
-    long : are_long (length session) (length answer) ≡ true
-    long = sym e ∙ not-false flag h
+-- a call over the session in a host's numbers
+module _ (session answer : List ℕ) (found : Option Session)
+    (e : SomeIff found (are_long (length session) (length answer) ≡ true) (session_in session)) where
+  pub crossed_short : found ≡ None → (t : Turn) → Crossed t session answer 10 session answer
+  crossed_short n t =
+      let no : are_long (length session) (length answer) ≡ true → ⊥ = rw n at e in
+      let short : are_long (length session) (length answer) ≡ false = not_so _ no in
+      record { number = rw short; holds = rw short; tells = rw short }
+
+  module _ (s : Session) (n : found ≡ Some s) where
+    so : (are_long (length session) (length answer) ≡ true) × (s ≡ session_in session)
+    so = rw n at e
+
+    pub crossed_session : 199 ≤ length session
+    unfolding are_long
+    crossed_session = leb-true 199 (length session) (&&-left (leb 199 (length session)) (leb 5 (length answer)) so.0)
+
+    pub crossed_answer : 5 ≤ length answer
+    unfolding are_long
+    crossed_answer = leb-true 5 (length answer) (&&-right (leb 199 (length session)) (leb 5 (length answer)) so.0)
 
     crossed : (t : Turn) (r : ℕ) (session' answer' : List ℕ) → Turned t session answer r session' answer'
         → Crossed t session answer r session' answer'
     crossed t r session' answer' w =
-        record { number = w.number ∙ rw long; holds = w.holds ∙ rw long; tells = w.tells ∙ rw long }
+        record { number = w.number ∙ rw so.0; holds = w.holds ∙ rw so.0; tells = w.tells ∙ rw so.0 }
 
-    module _ (src : List ℕ) (s : Session) (t : Turn) (r : ℕ) (session' answer' : List ℕ) (f : s ≡ session_in session) (w : Turned t session answer r session' answer') where
-      pub skip_done : (count : ℕ) → t ≡ skipped src s count → Crossed (skipped src (session_in session) count) session answer r session' answer'
-      skip_done count g = crossed (skipped src (session_in session) count) r session' answer' (rw (← f, ← g) w)
+    module _ (src : List ℕ) (t : Turn) (r : ℕ) (session' answer' : List ℕ) (w : Turned t session answer r session' answer') where
+      pub skip_done : (count : ℕ) → t ≡ skipped src s count
+          → Crossed (skipped src (session_in session) count) session answer r session' answer'
+      skip_done count g = crossed (skipped src (session_in session) count) r session' answer' (rw (← so.1, ← g) w)
 
       pub push_done : (frame : Frame) (number start len : ℕ) → frame ≡ frame_in number start len → t ≡ pushed src s frame
           → Crossed (pushed src (session_in session) (frame_in number start len)) session answer r session' answer'
-      push_done frame number start len k g = crossed (pushed src (session_in session) (frame_in number start len)) r session' answer' (rw (← f, ← k, ← g) w)
+      push_done frame number start len k g =
+          crossed (pushed src (session_in session) (frame_in number start len)) r session' answer' (rw (← so.1, ← k, ← g) w)
 
       pub pop_done : t ≡ popped src s → Crossed (popped src (session_in session)) session answer r session' answer'
-      pop_done g = crossed (popped src (session_in session)) r session' answer' (rw (← f, ← g) w)
+      pop_done g = crossed (popped src (session_in session)) r session' answer' (rw (← so.1, ← g) w)
 
-  module _ (h : not flag ≡ true) where
-    short : are_long (length session) (length answer) ≡ false
-    short = sym e ∙ not-true flag h
-
-    pub crossed_short : (t : Turn) → Crossed t session answer 10 session answer
-    crossed_short t = record { number = rw short; holds = rw short; tells = rw short }
-
-pub ruleset crossings = (session_long, answer_long, crossed_short, skip_done, push_done, pop_done)
+pub ruleset crossings = (crossed_session, crossed_answer, crossed_short, skip_done, push_done, pop_done)
 
 -- a fresh session
 module _ (number : ℕ) (session : List ℕ) where

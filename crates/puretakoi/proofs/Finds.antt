@@ -5,7 +5,7 @@
 --   finds_refused   where it is not 0, nothing is written
 --   finds_looks     the third number is 17 at most
 --   finds_end       the fourth, where it is lent, is the found record's eighth number, or 0
-use Rattle.std.specs.Prelude.{if◌then◌else◌}
+use Rattle.std.specs.Prelude.{if◌then◌else◌, drop, Option, None, Some}
 use Prim.Native.Nat.{ℕ, ◌≤◌, ◌<◌}
 use mathlib.Core.Path.{◌≡◌, refl, sym, ap, ◌∙◌}
 use mathlib.Core.Bool.{Bool, true, false}
@@ -13,7 +13,6 @@ use mathlib.Core.List.{List, [], ◌∷◌, ◌++◌}
 use native.Mathlib.Omega.{arith}
 use lib.Dec.{leb, eqb}
 use lib.ListN.{length, get_or, set}
-use lib.Seq.{sets-eq}
 use borrow.Author.Tests.{le-leb, lt-leb, eqb-true}
 use Rattle.byte.specs.Laid.{laid}
 use Rattle.byte.specs.Refusals.{out_of_place, too_large, bad_session, is_among}
@@ -21,27 +20,29 @@ use Rattle.byte.proofs.Laid.{length_laid, laid_append, set_laid}
 use Rattle.byte.proofs.Tests.{choice}
 use Rattle.source.specs.declared.Span.{Span}
 use Rattle.state.proofs.Refusals.{among_more}
-use Rattle.lookup.specs.declared.Found.{Found}
 use Rattle.lookup.specs.declared.Lookup.{Lookup}
 use Rattle.lookup.specs.Lookups.{Search, position_in, end_in, searched, find_refusal, looked_up}
 use Rattle.lookup.proofs.Promises.{find_here, find_looks, find_which}
 use Rattle.puretakoi.specs.Finds.{found_numbers, found_ended, finds_number, found_after, Finds}
 
-pub three_laid : (l : List ℕ) (u v w : ℕ) → 3 ≤ length l → set (set (set l 0 u) 1 v) 2 w ≡ laid l 0 (u ∷ v ∷ w ∷ [])
-unfolding laid
-three_laid l u v w h = sets-eq (u ∷ v ∷ w ∷ []) l 0 h
+-- three numbers are copied to the start of a slice
+module _ (found : Option ℕ) (looks : ℕ) (l copied numbers : List ℕ) (c : copied ≡ numbers) where
+  pub found_none : found ≡ None → numbers ≡ 0 ∷ 0 ∷ looks ∷ [] → copied ++ drop 3 l ≡ laid l 0 (found_numbers found looks)
+  unfolding laid found_numbers
+  found_none e h = rw (c, e, h)
 
-pub found_arm : (found arm : Found) (looks : ℕ) (l m : List ℕ) → found ≡ arm → m ≡ laid l 0 (found_numbers arm looks)
-    → m ≡ laid l 0 (found_numbers found looks)
-found_arm found arm looks l m e h = rw e h
+  pub found_some : (number : ℕ) → found ≡ Some number → numbers ≡ 1 ∷ number ∷ looks ∷ []
+      → copied ++ drop 3 l ≡ laid l 0 (found_numbers found looks)
+  unfolding laid found_numbers
+  found_some number e h = rw (c, e, h)
 
-length_found : (f : Found) (looks : ℕ) → length (found_numbers f looks) ≡ 3
+length_found : (f : Option ℕ) (looks : ℕ) → length (found_numbers f looks) ≡ 3
 unfolding found_numbers
-length_found Found.Nothing looks = refl
-length_found (Found.Record number) looks = refl
+length_found None looks = refl
+length_found (Some number) looks = refl
 
 -- the three numbers are written
-module _ (found written : List ℕ) (f : Found) (looks end : ℕ) (long : 3 ≤ length found)
+module _ (found written : List ℕ) (f : Option ℕ) (looks end : ℕ) (long : 3 ≤ length found)
     (e : written ≡ laid found 0 (found_numbers f looks)) where
   size : length written ≡ length found
   size = ap length e ∙ length_laid found 0 (found_numbers f looks) (rw (length_found f looks) long)
@@ -65,7 +66,7 @@ module _ (list : List ℕ) (count byte : ℕ) (found : List ℕ) where
   finds_short h = record { number = rw (lt-leb 3 (length found) h); holds = rw (lt-leb 3 (length found) h) }
 
   module _ (lookup : Lookup) (h : 3 ≤ length found) (e : lookup ≡ looked_up list count byte) where
-    pub finds_told : (f : Found) (looks end : ℕ) (found' : List ℕ) → lookup ≡ Lookup.Told f looks end
+    pub finds_told : (f : Option ℕ) (looks end : ℕ) (found' : List ℕ) → lookup ≡ Lookup.Told f looks end
         → found' ≡ laid found 0 (found_ended (length found) f looks end)
         → Finds list count byte found 0 found'
     unfolding finds_number found_after
@@ -87,26 +88,26 @@ unfolding finds_number found_after
 after_refused (Lookup.Told found looks end) slice h = absurd (h refl)
 after_refused (Lookup.Refused number span) slice h = refl
 
-third_looks : (found : Found) (looks end : ℕ) (slice : List ℕ)
+third_looks : (found : Option ℕ) (looks end : ℕ) (slice : List ℕ)
     → get_or (laid slice 0 (found_ended (length slice) found looks end)) 2 0 ≡ looks
 unfolding laid found_numbers found_ended
 third_looks found looks end slice = go found (leb 4 (length slice))
   where
-    go : (f : Found) (t : Bool)
+    go : (f : Option ℕ) (t : Bool)
         → get_or (laid slice 0 (if t then found_numbers f looks ++ (end ∷ []) else found_numbers f looks)) 2 0 ≡ looks
-    go Found.Nothing true = refl
-    go Found.Nothing false = refl
-    go (Found.Record number) true = refl
-    go (Found.Record number) false = refl
+    go None true = refl
+    go None false = refl
+    go (Some number) true = refl
+    go (Some number) false = refl
 
-fourth_end : (found : Found) (looks end : ℕ) (slice : List ℕ) → 4 ≤ length slice
+fourth_end : (found : Option ℕ) (looks end : ℕ) (slice : List ℕ) → 4 ≤ length slice
     → get_or (laid slice 0 (found_ended (length slice) found looks end)) 3 0 ≡ end
 unfolding laid found_numbers found_ended
 fourth_end found looks end slice h = rw (le-leb 4 (length slice) h) (go found)
   where
-    go : (f : Found) → get_or (laid slice 0 (found_numbers f looks ++ (end ∷ []))) 3 0 ≡ end
-    go Found.Nothing = refl
-    go (Found.Record number) = refl
+    go : (f : Option ℕ) → get_or (laid slice 0 (found_numbers f looks ++ (end ∷ []))) 3 0 ≡ end
+    go None = refl
+    go (Some number) = refl
 
 pub finds_one : (list : List ℕ) (count byte : ℕ) (found : List ℕ) (r r' : ℕ) (f f' : List ℕ)
     → Finds list count byte found r f

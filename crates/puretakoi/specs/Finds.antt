@@ -4,19 +4,18 @@
 --   finds_number    the refusal of a look-up, or 0
 --   found_after     the slice after it: a refusal changes nothing
 --   Finds           the refusal or 0, and what the slice holds: 10 first, for fewer than three numbers
-use Rattle.std.specs.Prelude.{ℕ, List, [], ◌∷◌, ◌++◌, ◌≡◌, leb, length, if◌then◌else◌}
+use Rattle.std.specs.Prelude.{ℕ, List, [], ◌∷◌, ◌++◌, ◌≡◌, leb, length, if◌then◌else◌, Option, None, Some}
 use Rattle.byte.specs.Laid.{laid}
 use Rattle.byte.specs.Refusals.{out_of_place}
-use Rattle.lookup.specs.declared.Found.{Found}
 use Rattle.lookup.specs.declared.Lookup.{Lookup}
 use Rattle.lookup.specs.Lookups.{looked_up}
 
-unfoldable pub found_numbers : Found → ℕ → List ℕ
-found_numbers Found.Nothing looks = 0 ∷ 0 ∷ looks ∷ []
-found_numbers (Found.Record number) looks = 1 ∷ number ∷ looks ∷ []
+unfoldable pub found_numbers : Option ℕ → ℕ → List ℕ
+found_numbers None looks = 0 ∷ 0 ∷ looks ∷ []
+found_numbers (Some number) looks = 1 ∷ number ∷ looks ∷ []
 
 -- for a slice of so many numbers
-unfoldable pub found_ended : ℕ → Found → ℕ → ℕ → List ℕ
+unfoldable pub found_ended : ℕ → Option ℕ → ℕ → ℕ → List ℕ
 found_ended size found looks end =
     if leb 4 size then found_numbers found looks ++ (end ∷ []) else found_numbers found looks
 

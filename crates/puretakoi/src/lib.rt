@@ -4,7 +4,7 @@
 // pop; the record file; the record under the finger.
 #![tactic(auto)]
 
-ghost use Rattle.std.specs.Prelude.{◌≡◌, [], ◌∷◌, length, ◌/◌, ◌≤◌};
+ghost use Rattle.std.specs.Prelude.{◌≡◌, length, ◌/◌, ◌≤◌, SomeIff, true};
 ghost use Rattle.source.specs.Identifiers.{identifier_at};
 ghost use Rattle.state.specs.Calls.{skipped, pushed, popped};
 ghost use Rattle.outcome.specs.declared.Call.{Call};
@@ -16,17 +16,17 @@ ghost use Rattle.byte.specs.Classes.{classes_of};
 ghost use Rattle.byte.specs.Laid.{laid};
 ghost use Rattle.puretakoi.specs.Finds.{found_numbers, Finds};
 
-use lookup::{Found, Lookup};
+use lookup::Lookup;
 use outcome::Call;
 use source::Span;
+use state::Session;
 
 // How long the identifier at a place of the source is; 0 where there is none.
 #[unsafe(no_mangle)]
 pub extern "C" fn puretakoi_peek_identifier(src: &[u8], at: usize) -> usize
     ensures { result ≡ length (identifier_at src.now at) }
 {
-    let part = source::peek_identifier(src, at);
-    part.len()
+    source::peek_identifier(src, at).len()
 }
 
 // All that a byte counts as, a flag each.
@@ -38,6 +38,7 @@ pub extern "C" fn puretakoi_classes_of(b: u8) -> u32
 }
 
 // Whether no number of a place is over 65,537.
+#[tactic(auto, unfolding(crate::specs::Places::is_small))]
 fn is_small(p: Span) -> bool
     ensures { result ≡ is_small p }
 {
@@ -46,6 +47,7 @@ fn is_small(p: Span) -> bool
 
 // The cursor past all bytes of a part: line, column and position stand in three lent numbers and are changed there.
 // Refused: a part over 65,536 bytes (11), no three numbers (10), a number over 65,537 (12). The answer is the refusal, or 0.
+#[tactic(auto, using(crate::proofs::Places::pasts))]
 #[unsafe(no_mangle)]
 pub extern "C" fn puretakoi_past(part: &[u8], span: &mut [u32]) -> u32
     ensures { Past part.now span.old result span.new }
@@ -65,20 +67,32 @@ pub extern "C" fn puretakoi_past(part: &[u8], span: &mut [u32]) -> u32
         return byte::BAD_SESSION;
     }
     let to = source::past(part, from);
-    span[0] = to.line;
-    span[1] = to.column;
-    span[2] = to.position;
+    span.copy_from_slice(&[to.line, to.column, to.position]);
     0
 }
 
 // Whether a session and an answer have their numbers.
+#[tactic(auto, unfolding(crate::specs::Calls::are_long))]
 fn are_long(session: usize, answer: usize) -> bool
     ensures { result ≡ are_long session answer }
 {
     (199 <= session) & (5 <= answer)
 }
 
+// The session in a host's numbers, where it has its numbers and the answer too.
+#[tactic(auto, using(crate::proofs::Calls::session_long))]
+fn session_of(session: &[u32], answer: &[u32]) -> Option<Session>
+    ensures { SomeIff result (are_long (length session.now) (length answer.now) ≡ true) (session_in session.now) }
+{
+    if are_long(session.len(), answer.len()) {
+        Some(layout::session_in(session))
+    } else {
+        None
+    }
+}
+
 // A session before its script, with its choices.
+#[tactic(auto, using(crate::proofs::Calls::begun))]
 #[unsafe(no_mangle)]
 pub extern "C" fn puretakoi_fresh(choices: u32, session: &mut [u32]) -> u32
     ensures { Begun choices session.old result session.new }
@@ -95,6 +109,7 @@ pub extern "C" fn puretakoi_fresh(choices: u32, session: &mut [u32]) -> u32
 
 // A call and the steps after it, at most `most` in all. Where none is wanted, or the first is refused, the session stays as it was.
 // A sixth number of the answer, where there is one, tells how many were done.
+#[tactic(auto, using(crate::proofs::Calls::session_long, crate::proofs::Calls::answer_long, crate::proofs::Walks::turning))]
 fn turns(
     call: Call,
     src: &[u8],
@@ -197,6 +212,7 @@ pub extern "C" fn puretakoi_read_double(
 }
 
 // The cursor goes on by `count` bytes.
+#[tactic(auto, using(crate::proofs::Calls::crossings))]
 #[unsafe(no_mangle)]
 pub extern "C" fn puretakoi_skip(
     src: &[u8],
@@ -206,15 +222,15 @@ pub extern "C" fn puretakoi_skip(
 ) -> u32
     ensures { Crossed (skipped src.now (session_in session.old) count) session.old answer.old result session.new answer.new }
 {
-    if !are_long(session.len(), answer.len()) {
+    let Some(s) = session_of(session, answer) else {
         return byte::OUT_OF_PLACE;
-    }
-    let s = layout::session_in(session);
+    };
     let t = state::skip(src, s, count);
     layout::put_turn(t, session, answer)
 }
 
 // One frame more: its number, and its label's start and length.
+#[tactic(auto, using(crate::proofs::Calls::crossings))]
 #[unsafe(no_mangle)]
 pub extern "C" fn puretakoi_push(
     src: &[u8],
@@ -226,23 +242,22 @@ pub extern "C" fn puretakoi_push(
 ) -> u32
     ensures { Crossed (pushed src.now (session_in session.old) (frame_in frame start len)) session.old answer.old result session.new answer.new }
 {
-    if !are_long(session.len(), answer.len()) {
+    let Some(s) = session_of(session, answer) else {
         return byte::OUT_OF_PLACE;
-    }
-    let s = layout::session_in(session);
+    };
     let t = state::push(src, s, layout::frame_in(frame, start, len));
     layout::put_turn(t, session, answer)
 }
 
 // One frame less.
+#[tactic(auto, using(crate::proofs::Calls::crossings))]
 #[unsafe(no_mangle)]
 pub extern "C" fn puretakoi_pop(src: &[u8], session: &mut [u32], answer: &mut [u32]) -> u32
     ensures { Crossed (popped src.now (session_in session.old)) session.old answer.old result session.new answer.new }
 {
-    if !are_long(session.len(), answer.len()) {
+    let Some(s) = session_of(session, answer) else {
         return byte::OUT_OF_PLACE;
-    }
-    let s = layout::session_in(session);
+    };
     let t = state::pop(src, s);
     layout::put_turn(t, session, answer)
 }
@@ -263,25 +278,16 @@ pub extern "C" fn puretakoi_file_to_list(file: &[u8], list: &mut [u32]) -> u32
     layout::refusal_in(token::file_to_list(file, list))
 }
 
-// Three numbers at the start of a slice.
-fn put_three(slice: &mut [u32], any: u32, number: u32, looks: u32)
-    requires { 3 ≤ length slice.old }
-    ensures { slice.new ≡ laid slice.old 0 (any ∷ number ∷ looks ∷ []) }
-{
-    slice[0] = any;
-    slice[1] = number;
-    slice[2] = looks;
-}
-
 // What was found, and the number of looks.
-fn put_found(slice: &mut [u32], found: Found, looks: u32)
+fn put_found(slice: &mut [u32], found: Option<u32>, looks: u32)
     requires { 3 ≤ length slice.old }
     ensures { slice.new ≡ laid slice.old 0 (found_numbers found looks) }
 {
-    match found {
-        Found::Nothing => put_three(slice, 0, 0, looks),
-        Found::Record { number } => put_three(slice, 1, number, looks),
-    }
+    let numbers = match found {
+        None => [0, 0, looks],
+        Some(number) => [1, number, looks],
+    };
+    slice[..3].copy_from_slice(&numbers);
 }
 
 // Which record is under the finger: the last of the first `count` whose position is at or before the byte `at`.
@@ -293,8 +299,7 @@ pub extern "C" fn puretakoi_find(list: &[u32], count: usize, at: usize, found: &
     if found.len() < 3 {
         return byte::OUT_OF_PLACE;
     }
-    let lookup = lookup::find(list, count, at);
-    match lookup {
+    match lookup::find(list, count, at) {
         Lookup::Told {
             found: record,
             looks,
@@ -306,6 +311,6 @@ pub extern "C" fn puretakoi_find(list: &[u32], count: usize, at: usize, found: &
             }
             0
         }
-        Lookup::Refused { number, span: _ } => number,
+        Lookup::Refused { number, .. } => number,
     }
 }

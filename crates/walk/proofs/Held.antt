@@ -1,10 +1,9 @@
 -- What a session's type tells of any session that is passed by value: it has 64 slots, and labels of 16 bits. Assumes nothing.
 use Prim.Native.Nat.{◌<◌}
-use mathlib.Core.Path.{◌≡◌, refl, sym, ◌∙◌}
+use mathlib.Core.Path.{◌≡◌, refl}
 use mathlib.Core.Bool.{true}
-use mathlib.Core.List.{List, [], ◌∷◌, map}
+use mathlib.Core.List.{List, [], ◌∷◌}
 use native.Mathlib.Omega.{arith}
-use lib.ListN.{length-map}
 use borrow.Author.Tests.{le-leb}
 use mir.Val.{Val}
 use denote.Shadow.{shadow}

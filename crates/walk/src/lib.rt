@@ -18,6 +18,15 @@ use outcome::{Call, Change};
 use source::Span;
 use state::{Answer, Frame, Session, Turn};
 
+// Where the depth, the marks and the choices stand in a session's numbers.
+const DEPTH: usize = 3;
+
+const TOKENS: usize = 4;
+
+const BYTES: usize = 5;
+
+const CHOICES: usize = 6;
+
 // How a walk ended: its last answer, and how many of its calls were done.
 #[derive(Clone, Copy)]
 pub struct Ended {
@@ -26,14 +35,11 @@ pub struct Ended {
 }
 
 // Done, and not finished.
+#[tactic(auto, unfolding(demands::specs::Walks::is_done))]
 fn is_done(a: Answer) -> bool
     ensures { result ≡ is_done a }
 {
-    match a {
-        Answer::Done => true,
-        Answer::Finished => false,
-        Answer::Refused { number: _, span: _ } => false,
-    }
+    matches!(a, Answer::Done)
 }
 
 // The cursor and the marks in a session's numbers.
@@ -44,30 +50,32 @@ fn mark_in(session: &[u32]) -> Mark
     let span = layout::span_in(session);
     Mark {
         span,
-        tokens: session[4],
-        bytes: session[5],
+        tokens: session[TOKENS],
+        bytes: session[BYTES],
     }
 }
 
 // The place is written to a session's numbers, with the depth and the marks.
-fn put_at(session: &mut [u32], mark: Mark, depth: u32)
+fn put_at(session: &mut [u32], at: Place)
     requires { 199 ≤ length session.old }
-    ensures { session.new ≡ placed_at mark depth session.old }
+    ensures { session.new ≡ placed_at at.mark at.depth session.old }
 {
-    layout::put_place(session, mark.span, depth, mark.tokens, mark.bytes);
+    let mark = at.mark;
+    layout::put_place(session, mark.span, at.depth, mark.tokens, mark.bytes);
 }
 
 // The place where a walk ends, but where its first call is refused: then it has not begun.
-fn put_end(session: &mut [u32], begun: bool, answer: Answer, mark: Mark, depth: u32)
+fn put_end(session: &mut [u32], begun: bool, answer: Answer, at: Place)
     requires { 199 ≤ length session.old }
-    ensures { session.new ≡ ended_at begun answer mark depth session.old }
+    ensures { session.new ≡ ended_at begun answer at.mark at.depth session.old }
 {
-    if begun | (layout::refusal_in(answer) == 0) {
-        put_at(session, mark, depth);
+    if begun || layout::refusal_in(answer) == 0 {
+        put_at(session, at);
     }
 }
 
 // A frame that is entered, or that takes another's place, is written to its slot. Gives the depth after the change.
+#[tactic(auto, using(crate::proofs::Writes::changed_place), unfolding(lexer::specs::Turns::depth_after, crate::specs::Code::numbers_after))]
 fn change_frame(session: &mut [u32], depth: u32, change: Change) -> u32
     requires { Changes session.old depth change }
     ensures { Changed session.old depth change result session.new }
@@ -95,6 +103,7 @@ fn top_in(session: &[u32], depth: u32) -> Frame
 }
 
 // The frame on top after a change, at the depth after it; f was on top before.
+#[tactic(auto, unfolding(crate::specs::Code::frame_after))]
 fn frame_after(session: &[u32], depth: u32, f: Frame, change: Change) -> Frame
     requires { Deep session.now depth }
     ensures { result ≡ frame_after f change (top_in session.now depth) }
@@ -115,6 +124,7 @@ struct Along {
 }
 
 // Steps in a row that only pass bytes.
+#[tactic(auto, using(crate::proofs::Passed::goes_along))]
 fn go_along(call: Call, src: &[u8], f: Frame, mark: Mark, left: u32) -> Along
     requires { Here src.now mark.span.position × Near mark.span }
     ensures { GoesAlong call src.now f mark left result.mark result.left }
@@ -133,6 +143,7 @@ fn go_along(call: Call, src: &[u8], f: Frame, mark: Mark, left: u32) -> Along
 }
 
 // After the gate, where a call is wanted. Steps that only pass bytes are told in a row, ahead of a step by its plan.
+#[tactic(auto, using(crate::proofs::Walking::walking_deep, crate::proofs::Walking::walking_first, crate::proofs::Walking::walking_end))]
 fn walk_on(
     first: Call,
     src: &[u8],
@@ -145,29 +156,27 @@ fn walk_on(
     requires { Opened most src.now session.old (length list.old) (length pool.old) }
     ensures { Walks first most src.now end session.old list.old pool.old result session.new list.new pool.new }
 {
-    let choices = layout::choices_in(session[6]);
+    let choices = layout::choices_in(session[CHOICES]);
     let mut call = first;
-    let mut depth = session[3];
-    let mut mark = mark_in(session);
+    let mut at = Place {
+        mark: mark_in(session),
+        depth: session[DEPTH],
+    };
     let mut left = most;
-    let mut f = top_in(session, depth);
+    let mut f = top_in(session, at.depth);
+    // No `for`: a turn takes as many of `left` as there are steps in a row that only pass bytes.
     while 0 < left {
-        let r = go_along(call, src, f, mark, left);
-        mark = r.mark;
+        let r = go_along(call, src, f, at.mark, left);
+        at.mark = r.mark;
         left = r.left;
         if left == 0 {
-            put_at(session, mark, depth);
-            return Ended {
-                answer: Answer::Done,
-                done: most,
-            };
+            break;
         }
-        let at = Place { mark, depth };
         let x = lexer::step_at(call, src, end, f, choices, at, list, pool);
-        mark = x.mark;
+        at.mark = x.mark;
         let answer = x.answer;
         if !is_done(answer) {
-            put_end(session, left < most, answer, mark, depth);
+            put_end(session, left < most, answer, at);
             return Ended {
                 answer,
                 done: most - left,
@@ -176,10 +185,10 @@ fn walk_on(
         call = Call::Step;
         left -= 1;
         let change = x.change;
-        depth = change_frame(session, depth, change);
-        f = frame_after(session, depth, f, change);
+        at.depth = change_frame(session, at.depth, change);
+        f = frame_after(session, at.depth, f, change);
     }
-    put_at(session, mark, depth);
+    put_at(session, at);
     Ended {
         answer: Answer::Done,
         done: most,
@@ -188,6 +197,7 @@ fn walk_on(
 
 // A call, and at most `most` in all with the steps after it, up to one that is not done: over the host's own numbers. The
 // gate is asked also where none is wanted. Where none is, or the first is refused, they stay as they were.
+#[tactic(auto, using(crate::proofs::Walks::walks))]
 pub fn turns(
     call: Call,
     src: &[u8],

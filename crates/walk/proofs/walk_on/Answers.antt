@@ -5,6 +5,7 @@ use Rattle.walk.proofs.Walking.{walking_deep, walking_first, walking_end}
 use Rattle.walk.proofs.Passed.{walking_asks, passed_end, passed_standing, passed_least, passed_less, passed_list}
 use Rattle.walk.proofs.Passed.{passed_pool, passed_over, passed_changes, passed_next, passed_on}
 use Rattle.walk.proofs.walk_on.Goals as goal
+use Rattle.walk.proofs.walk_on.Goals.{else-loop-left-test, then-loop-left-test+then-left-eq0}
 
 not_done : (b : Bool) → b ≡ false → not b ≡ true
 not_done b e = rw e
@@ -20,9 +21,6 @@ loop-left-init c = search walking_first
 
 pub go_along-r-requires : goal.go_along-r-requires
 go_along-r-requires c = search walking_asks
-
-pub returns-then-left-eq0 : goal.returns-then-left-eq0
-returns-then-left-eq0 c = search passed_end
 
 pub step_at-x-requires : goal.step_at-x-requires
 step_at-x-requires c = passed_standing _ _ _ _ _ _ _ _ _ _ _ _ _ _ _ _ _ _ c.go_along-r.ensures c.loop-left.invariant
@@ -44,15 +42,15 @@ returns-then-not-is_done c = passed_over _ _ _ _ _ _ _ _ _ _ _ _ _ _ _ _ _ _ c.g
     _ c.is_done.ensures _
     (not_done _ c.if-not-is_done.true) c.put_end.ensures
 
-pub change_frame-depth-requires : goal.change_frame-depth-requires
-change_frame-depth-requires c = passed_changes _ _ _ _ _ _ _ _ _ _ _ _ _ _ _ _ _ _ c.go_along-r.ensures c.loop-left.invariant
+pub change_frame-requires : goal.change_frame-requires
+change_frame-requires c = passed_changes _ _ _ _ _ _ _ _ _ _ _ _ _ _ _ _ _ _ c.go_along-r.ensures c.loop-left.invariant
     c.if-left-eq0.false _ _ _ c.step_at-x.ensures _ c.is_done.ensures
 
 pub frame_after-f-requires : goal.frame_after-f-requires
 frame_after-f-requires c = passed_next _ _ _ _ _ _ _ _ _ _ _ _ _ _ _ _ _ _ c.go_along-r.ensures c.loop-left.invariant
     c.if-left-eq0.false _ _ _ c.step_at-x.ensures
     _ c.is_done.ensures
-    (not_left _ c.if-not-is_done.false) _ _ c.change_frame-depth.ensures
+    (not_left _ c.if-not-is_done.false) _ _ c.change_frame.ensures
 
 pub loop-left-smaller : goal.loop-left-smaller
 loop-left-smaller c = passed_less _ _ _ _ _ _ _ _ _ _ _ _ _ _ _ _ _ _ c.go_along-r.ensures c.loop-left.invariant
@@ -63,7 +61,15 @@ loop-left-preserved c = passed_on _ _ _ _ _ _ _ _ _ _ _ _ _ _ _ _ _ _ c.go_along
     c.if-left-eq0.false _ _ _ c.step_at-x.ensures
     _ c.is_done.ensures
     (not_left _ c.if-not-is_done.false) _ _
-    c.change_frame-depth.ensures _ c.frame_after-f.ensures
+    c.change_frame.ensures _ c.frame_after-f.ensures
 
 pub returns : goal.returns
-returns c = search walking_end
+returns c =
+    elim c.loop-left-test.branch [
+      | else-loop-left-test w ↦
+          walking_end _ _ _ _ _ _ _ _ _ _ _ _ _ _ _ _ c.loop-left.invariant _ w.loop-left-test.false
+          (rw w.at-is at c.put_at.ensures)
+      | then-loop-left-test+then-left-eq0 w ↦
+          passed_end _ _ _ _ _ _ _ _ _ _ _ _ _ _ _ _ _ _ w.go_along-r.ensures c.loop-left.invariant _ w.if-left-eq0.true
+          (rw w.at-is at c.put_at.ensures)
+    ]

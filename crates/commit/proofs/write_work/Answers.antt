@@ -1,0 +1,10 @@
+-- Room is asked before any write.
+use Rattle.std.proofs.Common.{rules}
+use Rattle.commit.proofs.Nexts.{works}
+use Rattle.commit.proofs.write_work.Goals as goal
+
+pub put_drafts-requires : goal.put_drafts-requires
+put_drafts-requires c = search (works, rules)
+
+pub returns : goal.returns
+returns c = search (works, rules)

@@ -1,0 +1,6 @@
+-- One call is a walk of one.
+use Rattle.puretakoi.proofs.Walks.{turned_one}
+use Rattle.puretakoi.proofs.puretakoi_step.Goals as goal
+
+pub returns : goal.returns
+returns c = search turned_one
