@@ -4,7 +4,7 @@
 --   every             whether all that a list holds passes a test
 --   run               how many bytes from the first on pass a test
 --   announced         whether a host's number says that the end is announced: any but 0
-use Rattle.std.specs.Prelude.{ℕ, suc, Bool, true, false, not, ◌&&◌, List, [], ◌∷◌, leb, eqb, if◌then◌else◌}
+use Rattle.std.specs.Prelude.{ℕ, suc, Bool, true, not, ◌&&◌, List, [], ◌∷◌, leb, eqb, if◌then◌else◌}
 use Prim.Native.Char.{Char, code}
 use Prim.Native.String.{String}
 
