@@ -10,6 +10,7 @@ ghost use Rattle.unit.specs.declared.Stop.{Stop};
 ghost use Rattle.unit.specs.declared.TextUnit.{TextUnit};
 ghost use Rattle.unit.specs.Closers.{matched, indented, closer, judged, line};
 
+use byte::Refusal;
 use unit::{Indentation, Match, Stop, TextUnit};
 
 // The label against the text from `at` on.
@@ -76,7 +77,7 @@ fn closer_of(size: usize, ind: Indentation, amount: usize, n: usize) -> TextUnit
         Indentation::Space => ends_at(Indentation::Space, amount, n, size),
         Indentation::Tab => ends_at(Indentation::Tab, amount, n, size),
         Indentation::Mixed => TextUnit::Fault {
-            number: byte::INVALID_DOC_INDENTATION,
+            refusal: Refusal::InvalidDocIndentation,
             place: n,
         },
     }

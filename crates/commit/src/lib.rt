@@ -12,6 +12,7 @@ ghost use Rattle.commit.specs.Records.{span_at, answer_of, stays};
 ghost use Rattle.commit.specs.Code.{draft_token, draft_at, total_of, Ahead, Writes, Drawn, DraftFits, DraftPut, past_draft, PastFits};
 ghost use Rattle.commit.specs.Code.{DraftsFit, DraftsPut, is_full, advanced, Advances, Works, Commits, Committed};
 
+use byte::Refusal;
 use outcome::Change;
 use plan::{Draft, Drafts, Making, Plan, Work};
 use source::Span;
@@ -52,7 +53,7 @@ fn stay(number: u32, span: Span, m: Mark) -> Next
     ensures { result ≡ stays number span m }
 {
     Next {
-        answer: Answer::Refused { number, span },
+        answer: Answer::Refused { refusal, span },
         mark: m,
         change: Change::Keep,
     }
@@ -306,14 +307,14 @@ pub fn commit(
         Plan::Told(w) => {
             let change = w.change;
             if is_full(change, depth) {
-                return stay(byte::STACK_FULL, m.span, m);
+                return stay(Refusal::StackFull, m.span, m);
             }
             write_work(src, end, m, w, scratch, list, pool)
         }
-        Plan::Refused { number, place } => {
+        Plan::Refused { refusal, place } => {
             let span = span_at(src, m.span, place);
             stay(number, span, m)
         }
-        Plan::Wait => stay(byte::WAIT, m.span, m),
+        Plan::Wait => stay(Refusal::Wait, m.span, m),
     }
 }

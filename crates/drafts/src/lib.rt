@@ -226,7 +226,7 @@ pub fn sheet_mode(src: &[u8], label: Label, at: usize, end: bool) -> Plan
             let part = sheet_draft(at, len, stop, from);
             text_plan(Mode::Nowdoc, part, stop, from, after)
         }
-        Scanned::Refused { number, place } => Plan::Refused { number, place },
+        Scanned::Refused { refusal, place } => Plan::Refused { refusal, place },
         Scanned::Wait => Plan::Wait,
     }
 }
@@ -305,7 +305,7 @@ fn read_plan(mode: Mode, place: usize, label: Label, at: usize, room: usize, sca
             let value = text_draft(value_kind(kind, left), place, making, at, len, stop, from);
             literal_plan(value, left, after)
         }
-        Scanned::Refused { number, place } => Plan::Refused { number, place },
+        Scanned::Refused { refusal, place } => Plan::Refused { refusal, place },
         Scanned::Wait => Plan::Wait,
     }
 }

@@ -1,6 +1,7 @@
 -- Laws of escapes, on each way through the functions that read them: no byte is left (`-past`), or one is. Assumes nothing.
 use Rattle.std.specs.Prelude.{if◌then◌else◌}
 use Prim.Native.Nat.{ℕ, zero, suc, ◌+◌, ◌*◌, ◌≤◌, ◌<◌}
+use Rattle.byte.specs.declared.Refusal.{Refusal}
 use mathlib.Core.Path.{◌≡◌, refl, sym, ◌∙◌, ap}
 use mathlib.Core.Bool.{Bool, true, false, ◌&&◌, ◌||◌}
 use mathlib.Core.List.{List, [], ◌∷◌}
@@ -104,19 +105,19 @@ module _ (src : List ℕ) (at : ℕ) (end : Bool) where
   pointing_first h = record { inside = h; same = refl }
 
   module _ (some : Bool) (value n : ℕ) (p : Pointing src at end some value n) where
-    pub pointing_past : (r : TextUnit) → length src ≤ n → r ≡ last end (TextUnit.Fault 2 n)
+    pub pointing_past : (r : TextUnit) → length src ≤ n → r ≡ last end (TextUnit.Fault Refusal.InvalidUnicodeEscape n)
         → r ≡ code_point end false 0 at (drop at src)
     unfolding code_point
     pointing_past r past f = f ∙ sym (p.same ∙ rw (drop_of_length-le src past))
 
     module _ (digit : ℕ) (h : n < length src) (e : digit ≡ digit_value (get_or src n 0)) where
       pub pointing_closed : (r : TextUnit) → 16 ≤ digit → (some && eqb (get_or src n 0) 125) ≡ true
-          → r ≡ (if is_scalar value then TextUnit.Point value (n + 1) else TextUnit.Fault 2 (n + 1)) → r ≡ code_point end false 0 at (drop at src)
+          → r ≡ (if is_scalar value then TextUnit.Point value (n + 1) else TextUnit.Fault Refusal.InvalidUnicodeEscape (n + 1)) → r ≡ code_point end false 0 at (drop at src)
       unfolding code_point
       pointing_closed r g t f = f ∙ sym (p.same ∙ rw (drop-one src n h, ← e, le-ltb digit 16 g, t, add-one))
 
       pub pointing_fault : 16 ≤ digit → (some && eqb (get_or src n 0) 125) ≡ false
-          → TextUnit.Fault 2 n ≡ code_point end false 0 at (drop at src)
+          → TextUnit.Fault Refusal.InvalidUnicodeEscape n ≡ code_point end false 0 at (drop at src)
       unfolding code_point
       pointing_fault g t = sym (p.same ∙ rw (drop-one src n h, ← e, le-ltb digit 16 g, t))
 

@@ -8,7 +8,7 @@ ghost use Rattle.unit.specs.declared.TextUnit.{TextUnit};
 ghost use Rattle.unit.specs.Digits.{digit_value, is_scalar, utf8};
 ghost use Rattle.unit.specs.Escapes.{last, backslash, letter_value, overflowing, fitted, digits, hex, code_point, braced, escape, quote_escape};
 
-use byte::Octal;
+use byte::{Octal, Refusal};
 use unit::TextUnit;
 
 // The value of a digit, 0 to 9, A to F, a to f; 16 of any other byte.
@@ -140,7 +140,7 @@ fn overflowing(octals: Octal, value: u32, n: usize) -> TextUnit
 {
     match octals {
         Octal::Rust => TextUnit::Fault {
-            number: byte::INVALID_OCTAL_ESCAPE,
+            refusal: Refusal::InvalidOctalEscape,
             place: n,
         },
         Octal::Manual => TextUnit::Byte {
@@ -247,7 +247,7 @@ fn closed(code: u32, after: usize) -> TextUnit
         return TextUnit::Point { code, after };
     }
     TextUnit::Fault {
-        number: byte::INVALID_UNICODE_ESCAPE,
+        refusal: Refusal::InvalidUnicodeEscape,
         place: after,
     }
 }
@@ -268,7 +268,7 @@ fn code_point_at(src: &[u8], at: usize, end: bool) -> TextUnit
                 return closed(value, n + 1);
             }
             return TextUnit::Fault {
-                number: byte::INVALID_UNICODE_ESCAPE,
+                refusal: Refusal::InvalidUnicodeEscape,
                 place: n,
             };
         }
@@ -277,7 +277,7 @@ fn code_point_at(src: &[u8], at: usize, end: bool) -> TextUnit
         n += 1;
     }
     let fault = TextUnit::Fault {
-        number: byte::INVALID_UNICODE_ESCAPE,
+        refusal: Refusal::InvalidUnicodeEscape,
         place: n,
     };
     last(end, fault)

@@ -10,6 +10,7 @@ ghost use Rattle.layout.specs.Sessions.{frame_number, label_of, slot_numbers, fr
 ghost use Rattle.layout.specs.Lent.{place_numbers};
 ghost use Rattle.layout.specs.Answers.{answer_numbers, refusal_in, Turned};
 
+use byte::Refusal;
 use source::Span;
 use state::{Answer, Frame, Label, Session, Slot, Turn};
 
@@ -117,14 +118,14 @@ fn gate_alone(src: &[u8], numbers: &[u32]) -> u32
     ensures { result ≡ gate_refusal src.now (session_in numbers.now) }
 {
     if 65536 < src.len() {
-        return byte::TOO_LARGE;
+        return Refusal::TooLarge;
     }
     let depth = depth_in(numbers[3], numbers[6]);
     if !state::is_within(src.len(), span_in(numbers), depth) {
-        return byte::BAD_SESSION;
+        return Refusal::BadSession;
     }
     if !is_stack_in(src, numbers, depth) {
-        return byte::BAD_SESSION;
+        return Refusal::BadSession;
     }
     0
 }
@@ -143,10 +144,10 @@ pub fn gate_in(src: &[u8], list: usize, pool: usize, numbers: &[u32]) -> u32
     ensures { result ≡ lent_refusal src.now list pool (session_in numbers.now) }
 {
     if 65536 < pool {
-        return byte::TOO_LARGE;
+        return Refusal::TooLarge;
     }
     if 65537 < list / 8 {
-        return byte::TOO_LARGE;
+        return Refusal::TooLarge;
     }
     let alone = gate_alone(src, numbers);
     if alone != 0 {
@@ -155,10 +156,10 @@ pub fn gate_in(src: &[u8], list: usize, pool: usize, numbers: &[u32]) -> u32
     let tokens = wide(numbers[4]);
     let bytes = wide(numbers[5]);
     if list / 8 < tokens {
-        return byte::BAD_SESSION;
+        return Refusal::BadSession;
     }
     if pool < bytes {
-        return byte::BAD_SESSION;
+        return Refusal::BadSession;
     }
     0
 }
@@ -318,7 +319,7 @@ pub fn put_answer(answer: &mut [u32], a: Answer)
     match a {
         Answer::Done => put_five(answer, 0, 0, nowhere),
         Answer::Finished => put_five(answer, 1, 0, nowhere),
-        Answer::Refused { number, span } => put_five(answer, 2, number, span),
+        Answer::Refused { refusal, span } => put_five(answer, 2, number, span),
     }
 }
 
@@ -329,7 +330,7 @@ pub fn refusal_in(a: Answer) -> u32
     match a {
         Answer::Done => 0,
         Answer::Finished => 0,
-        Answer::Refused { number, span: _ } => number,
+        Answer::Refused { refusal, span: _ } => number,
     }
 }
 

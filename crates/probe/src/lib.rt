@@ -8,7 +8,7 @@ ghost use Rattle.text.specs.Code.{measured};
 ghost use Rattle.probe.specs.Probes.{mode_of, asked, stop_number, amount_of, refusal, numbered, Valued};
 ghost use Rattle.probe.specs.Literals.{literal_number, counted, asked_number, NumberValued};
 
-use byte::Octal;
+use byte::{Octal, Refusal};
 use number::Literal;
 use text::Scanned;
 use unit::{Follow, Indentation, Mode, Stop};
@@ -132,8 +132,8 @@ fn numbered(s: Scanned) -> Probed
             after,
             len,
         },
-        Scanned::Refused { number, place } => refusal(number, place),
-        Scanned::Wait => refusal(byte::WAIT, 0),
+        Scanned::Refused { refusal, place } => refusal(number, place),
+        Scanned::Wait => refusal(Refusal::Wait, 0),
     }
 }
 
@@ -141,7 +141,7 @@ fn numbered(s: Scanned) -> Probed
 fn refused(number: u32) -> Scanned
     ensures { result ≡ Scanned.Refused number 0 }
 {
-    Scanned::Refused { number, place: 0 }
+    Scanned::Refused { refusal, place: 0 }
 }
 
 // The reading asked for, measured; or why there is none.
@@ -149,16 +149,16 @@ fn scanned(mode: u32, src: &[u8], label: &[u8], at: usize, end: u32) -> Scanned
     ensures { result ≡ measured (asked mode src.now label.now at end) }
 {
     if 65536 < src.len() {
-        return refused(byte::TOO_LARGE);
+        return refused(Refusal::TooLarge);
     }
     if 8 < mode {
-        return refused(byte::OUT_OF_PLACE);
+        return refused(Refusal::OutOfPlace);
     }
     if src.len() < at {
-        return refused(byte::OUT_OF_PLACE);
+        return refused(Refusal::OutOfPlace);
     }
     if 64 < label.len() {
-        return refused(byte::OUT_OF_PLACE);
+        return refused(Refusal::OutOfPlace);
     }
     let mut none = [0u8; 0];
     text::scan_text(mode_of(mode), src, label, at, end != 0, &mut none)
@@ -198,13 +198,13 @@ pub extern "C" fn puretakoi_probe_value(
             after: _,
         } => {
             if value.len() < len {
-                return byte::POOL_FULL;
+                return Refusal::PoolFull;
             }
             text::read_text(mode_of(mode), src, label, at, end != 0, &mut value[..len]);
             0
         }
-        Scanned::Refused { number, place: _ } => number,
-        Scanned::Wait => byte::WAIT,
+        Scanned::Refused { refusal, place: _ } => number,
+        Scanned::Wait => Refusal::Wait,
     }
 }
 
@@ -235,7 +235,7 @@ fn counted(s: number::Scanned) -> Probed
             after,
             len,
         },
-        number::Scanned::Wait => refusal(byte::WAIT, 0),
+        number::Scanned::Wait => refusal(Refusal::Wait, 0),
     }
 }
 
@@ -245,10 +245,10 @@ pub extern "C" fn puretakoi_probe_number(src: &[u8], at: usize, end: u32) -> Pro
     ensures { result ≡ asked_number src.now at end }
 {
     if 65536 < src.len() {
-        return refusal(byte::TOO_LARGE, 0);
+        return refusal(Refusal::TooLarge, 0);
     }
     if src.len() < at {
-        return refusal(byte::OUT_OF_PLACE, 0);
+        return refusal(Refusal::OutOfPlace, 0);
     }
     counted(number::scan_number(src, at, end != 0))
 }
@@ -264,10 +264,10 @@ pub extern "C" fn puretakoi_probe_number_value(
     ensures { NumberValued src.now at end value.old result value.new }
 {
     if 65536 < src.len() {
-        return byte::TOO_LARGE;
+        return Refusal::TooLarge;
     }
     if src.len() < at {
-        return byte::OUT_OF_PLACE;
+        return Refusal::OutOfPlace;
     }
     match number::scan_number(src, at, end != 0) {
         number::Scanned::Number {
@@ -276,11 +276,11 @@ pub extern "C" fn puretakoi_probe_number_value(
             len,
         } => {
             if len > value.len() {
-                return byte::POOL_FULL;
+                return Refusal::PoolFull;
             }
             number::write_number(src, at, after, value);
             0
         }
-        number::Scanned::Wait => byte::WAIT,
+        number::Scanned::Wait => Refusal::Wait,
     }
 }

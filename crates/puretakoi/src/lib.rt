@@ -16,6 +16,7 @@ ghost use Rattle.byte.specs.Classes.{classes_of};
 ghost use Rattle.byte.specs.Laid.{laid};
 ghost use Rattle.puretakoi.specs.Finds.{found_numbers, Finds};
 
+use byte::Refusal;
 use lookup::{Found, Lookup};
 use outcome::Call;
 use source::Span;
@@ -51,10 +52,10 @@ pub extern "C" fn puretakoi_past(part: &[u8], span: &mut [u32]) -> u32
     ensures { Past part.now span.old result span.new }
 {
     if 65536 < part.len() {
-        return byte::TOO_LARGE;
+        return Refusal::TooLarge;
     }
     if span.len() != 3 {
-        return byte::OUT_OF_PLACE;
+        return Refusal::OutOfPlace;
     }
     let from = Span {
         line: span[0],
@@ -62,7 +63,7 @@ pub extern "C" fn puretakoi_past(part: &[u8], span: &mut [u32]) -> u32
         position: span[2],
     };
     if !is_small(from) {
-        return byte::BAD_SESSION;
+        return Refusal::BadSession;
     }
     let to = source::past(part, from);
     span[0] = to.line;
@@ -84,10 +85,10 @@ pub extern "C" fn puretakoi_fresh(choices: u32, session: &mut [u32]) -> u32
     ensures { Begun choices session.old result session.new }
 {
     if session.len() < 199 {
-        return byte::OUT_OF_PLACE;
+        return Refusal::OutOfPlace;
     }
     if !layout::are_choices(choices) {
-        return byte::BAD_SESSION;
+        return Refusal::BadSession;
     }
     layout::put_session(session, state::fresh(layout::choices_in(choices)));
     0
@@ -108,7 +109,7 @@ fn turns(
     ensures { Turns call src.now end most session.old list.old pool.old answer.old result session.new list.new pool.new answer.new }
 {
     if !are_long(session.len(), answer.len()) {
-        return byte::OUT_OF_PLACE;
+        return Refusal::OutOfPlace;
     }
     let r = walk::turns(call, src, end != 0, most, session, list, pool);
     let a = r.answer;
@@ -207,7 +208,7 @@ pub extern "C" fn puretakoi_skip(
     ensures { Crossed (skipped src.now (session_in session.old) count) session.old answer.old result session.new answer.new }
 {
     if !are_long(session.len(), answer.len()) {
-        return byte::OUT_OF_PLACE;
+        return Refusal::OutOfPlace;
     }
     let s = layout::session_in(session);
     let t = state::skip(src, s, count);
@@ -227,7 +228,7 @@ pub extern "C" fn puretakoi_push(
     ensures { Crossed (pushed src.now (session_in session.old) (frame_in frame start len)) session.old answer.old result session.new answer.new }
 {
     if !are_long(session.len(), answer.len()) {
-        return byte::OUT_OF_PLACE;
+        return Refusal::OutOfPlace;
     }
     let s = layout::session_in(session);
     let t = state::push(src, s, layout::frame_in(frame, start, len));
@@ -240,7 +241,7 @@ pub extern "C" fn puretakoi_pop(src: &[u8], session: &mut [u32], answer: &mut [u
     ensures { Crossed (popped src.now (session_in session.old)) session.old answer.old result session.new answer.new }
 {
     if !are_long(session.len(), answer.len()) {
-        return byte::OUT_OF_PLACE;
+        return Refusal::OutOfPlace;
     }
     let s = layout::session_in(session);
     let t = state::pop(src, s);
@@ -291,7 +292,7 @@ pub extern "C" fn puretakoi_find(list: &[u32], count: usize, at: usize, found: &
     ensures { Finds list.now count at found.old result found.new }
 {
     if found.len() < 3 {
-        return byte::OUT_OF_PLACE;
+        return Refusal::OutOfPlace;
     }
     let lookup = lookup::find(list, count, at);
     match lookup {
@@ -306,6 +307,6 @@ pub extern "C" fn puretakoi_find(list: &[u32], count: usize, at: usize, found: &
             }
             0
         }
-        Lookup::Refused { number, span: _ } => number,
+        Lookup::Refused { refusal, span: _ } => number,
     }
 }

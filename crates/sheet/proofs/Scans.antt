@@ -1,6 +1,7 @@
 -- The scan of a sheet: what is left of a body without its last break, by the indentation, and by where the block closes.
 -- Assumes nothing.
 use Prim.Native.Nat.{ℕ, ◌+◌, ◌-◌, ◌≤◌}
+use Rattle.byte.specs.declared.Refusal.{Refusal}
 use mathlib.Core.Path.{◌≡◌, refl, sym, ap, ◌∙◌}
 use mathlib.Core.Bool.{Bool, true, false}
 use mathlib.Core.List.{List}
@@ -63,7 +64,7 @@ of_stray (Stray q) p e = let z : q ≡ p = cc in ap Stray z
 module _ (body : List ℕ) (at : ℕ) (ind : Indentation) (amount size : ℕ) (b : Body body at) (c : Closing body ind amount size)
     (blank : ℕ) (k : blank ≡ blank_of (Stop.Label ind amount)) where
   pub sheet_mixed : blank ≡ 0
-      → Scanned.Refused 4 (length body + amount) ≡ measured (stripped size at (lines (drop at body)) ind amount (length body + amount))
+      → Scanned.Refused Refusal.InvalidDocIndentation (length body + amount) ≡ measured (stripped size at (lines (drop at body)) ind amount (length body + amount))
   unfolding measured
   sheet_mixed t = rw (stripped_mixed size at (lines (drop at body)) amount (length body + amount) ind (sym k ∙ t))
 
@@ -78,7 +79,7 @@ module _ (body : List ℕ) (at : ℕ) (ind : Indentation) (amount size : ℕ) (b
     measure = e ∙ rw k
 
     pub sheet_stray : (place : ℕ) → s ≡ Size.Stray place
-        → Scanned.Refused 13 place ≡ measured (stripped size at (lines (drop at body)) ind amount (length body + amount))
+        → Scanned.Refused Refusal.StrayIndentation place ≡ measured (stripped size at (lines (drop at body)) ind amount (length body + amount))
     unfolding filled measured
     sheet_stray place z = rw (strip, of_stray (body_text (indent_of ind amount) at (lines (drop at body))) place (sym z ∙ measure))
 
@@ -151,7 +152,7 @@ module _ (src label : List ℕ) (at : ℕ) (end : Bool) (start : at ≤ length s
   left_over : at + total (lines (drop at src)) ≡ length src
   left_over = omega (arith, total_lines (drop at src), length-drop at src)
 
-  pub scan_missing : f ≡ Found.Missing → Scanned.Refused 1 (length src) ≡ measured (sheet_at label end at (drop at src))
+  pub scan_missing : f ≡ Found.Missing → Scanned.Refused Refusal.UnexpectedEndOfFile (length src) ≡ measured (sheet_at label end at (drop at src))
   unfolding measured sheet_at answered
   scan_missing z =
       let m = found_missing (block label end at (lines (drop at src))) (sym z ∙ e) in

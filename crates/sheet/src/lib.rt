@@ -10,6 +10,7 @@ ghost use Rattle.sheet.specs.Bodies.{lines, is_over, body_text};
 ghost use Rattle.sheet.specs.Sheets.{stripped, sheet_at};
 ghost use Rattle.sheet.specs.Code.{offset_of, is_stray, size_of, break_of, Body, blank_of, Closing, sheet_of, Left};
 
+use byte::Refusal;
 use text::Scanned;
 use unit::{Indentation, Stop};
 
@@ -180,7 +181,7 @@ fn closed_sheet(body: &[u8], at: usize, ind: Indentation, amount: usize, size: u
     let blank = blank_of(stop);
     if blank == 0 {
         return Scanned::Refused {
-            number: byte::INVALID_DOC_INDENTATION,
+            refusal: Refusal::InvalidDocIndentation,
             place: from,
         };
     }
@@ -193,7 +194,7 @@ fn closed_sheet(body: &[u8], at: usize, ind: Indentation, amount: usize, size: u
             after: from + size,
         },
         Size::Stray(place) => Scanned::Refused {
-            number: byte::STRAY_INDENTATION,
+            refusal: Refusal::StrayIndentation,
             place,
         },
     }
@@ -212,7 +213,7 @@ pub fn scan_sheet(src: &[u8], label: &[u8], at: usize, end: bool) -> Scanned
             place,
         } => closed_sheet(&src[..place - amount], at, indentation, amount, label.len()),
         Found::Missing => Scanned::Refused {
-            number: byte::UNEXPECTED_END_OF_FILE,
+            refusal: Refusal::UnexpectedEndOfFile,
             place: src.len(),
         },
         Found::Open => Scanned::Wait,

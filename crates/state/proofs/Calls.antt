@@ -6,6 +6,9 @@ use mathlib.Core.List.{List}
 use native.Mathlib.Omega.{arith}
 use lib.ListN.{length, take, drop, length-take, length-drop}
 use borrow.Author.Tests.{lt-ltb, le-ltb, lt-leb, le-leb, eq-eqb, ne_eqb, not-true, not-false}
+use Rattle.std.specs.Prelude.{Result, Ok, Err}
+use Rattle.byte.specs.declared.Refusal.{Refusal}
+use Rattle.byte.specs.Refusals.{stack_full, out_of_place}
 use Rattle.source.specs.Cursor.{origin, passed}
 use Rattle.source.specs.Code.{Reaches}
 use Rattle.source.specs.declared.Span.{Span}
@@ -18,14 +21,15 @@ use Rattle.state.proofs.Gates.{gate_opened}
 use Rattle.state.specs.Calls.{span_of, refused, done, gated, moved, entered, left, skipped, pushed, popped}
 
 -- a shut gate refuses, and an open one lets the call through
-pub gated_shut : (shut n : ℕ) (s : Session) (t : Turn) → shut ≡ n → (shut ≡ 0 → ⊥) → refused shut origin s ≡ gated n s t
-gated_shut shut n s t e h = rw (← e, ne_eqb shut 0 h)
+pub gated_shut : (shut : Result (Unit {0}) Refusal) (refusal : Refusal) (n : Result (Unit {0}) Refusal) (s : Session) (t : Turn)
+    → shut ≡ n → shut ≡ Err refusal → refused refusal origin s ≡ gated n s t
+gated_shut shut refusal n s t e h = rw (← e, h)
 
-pub gated_open : (shut n : ℕ) (s : Session) (t u : Turn) → shut ≡ n → shut ≡ 0 → t ≡ u → t ≡ gated n s u
-gated_open shut n s t u e h same = rw (← e, eq-eqb shut 0 h) same
+pub gated_open : (shut n : Result (Unit {0}) Refusal) (s : Session) (t u : Turn) → shut ≡ n → shut ≡ Ok tt → t ≡ u → t ≡ gated n s u
+gated_open shut n s t u e h same = rw (← e, h) same
 
 -- what an open gate tells `skip`
-module _ (src : List ℕ) (s : Session) (shut : ℕ) (e : shut ≡ gate_refusal src s) (opened : shut ≡ 0) where
+module _ (src : List ℕ) (s : Session) (shut : Result (Unit {0}) Refusal) (e : shut ≡ gate_refusal src s) (opened : shut ≡ Ok tt) where
   pub open_position : s.position ≤ length src
   open_position = (gate_opened src s (sym e ∙ opened)).numbers.position
 
@@ -43,35 +47,35 @@ module _ (src : List ℕ) (s : Session) (shut : ℕ) (e : shut ≡ gate_refusal 
         position = omega (arith, o.source, o.numbers.position);
       })
 
-module _ (src : List ℕ) (s : Session) (shut : ℕ) (e : shut ≡ gate_refusal src s) where
-  module _ (r : Turn) (closed : shut ≡ 0 → ⊥) (back : r ≡ refused shut origin s) where
+module _ (src : List ℕ) (s : Session) (shut : Result (Unit {0}) Refusal) (e : shut ≡ gate_refusal src s) where
+  module _ (r : Turn) (refusal : Refusal) (closed : shut ≡ Err refusal) (back : r ≡ refused refusal origin s) where
     pub skip_shut : (count : ℕ) → r ≡ skipped src s count
     unfolding skipped
-    skip_shut count = back ∙ gated_shut shut _ s _ e closed
+    skip_shut count = back ∙ gated_shut shut refusal _ s _ e closed
 
     pub push_shut : (f : Frame) → r ≡ pushed src s f
     unfolding pushed
-    push_shut f = back ∙ gated_shut shut _ s _ e closed
+    push_shut f = back ∙ gated_shut shut refusal _ s _ e closed
 
     pub pop_shut : r ≡ popped src s
     unfolding popped
-    pop_shut = back ∙ gated_shut shut _ s _ e closed
+    pop_shut = back ∙ gated_shut shut refusal _ s _ e closed
 
-  module _ (opened : shut ≡ 0) where
+  module _ (opened : shut ≡ Ok tt) where
     module _ (r : Turn) (p : Span) (here : p ≡ span_of s) where
-      pub skip_past : (count : ℕ) → length src - s.position < count → r ≡ refused 10 p s → r ≡ skipped src s count
+      pub skip_past : (count : ℕ) → length src - s.position < count → r ≡ refused out_of_place p s → r ≡ skipped src s count
       unfolding skipped
       skip_past count h back = gated_open shut _ s r _ e opened (back ∙ rw (here, lt-leb (s.position + count) (length src) (omega arith)))
 
-      pub push_label : (f : Frame) (flag : Bool) → flag ≡ is_frame src f → not flag ≡ true → r ≡ refused 10 p s → r ≡ pushed src s f
+      pub push_label : (f : Frame) (flag : Bool) → flag ≡ is_frame src f → not flag ≡ true → r ≡ refused out_of_place p s → r ≡ pushed src s f
       unfolding pushed
       push_label f flag b t back = gated_open shut _ s r _ e opened (back ∙ rw (here, ← b, not-true flag t))
 
-      pub push_full : (f : Frame) (flag : Bool) → flag ≡ is_frame src f → not flag ≡ false → 64 ≤ s.depth → r ≡ refused 9 p s → r ≡ pushed src s f
+      pub push_full : (f : Frame) (flag : Bool) → flag ≡ is_frame src f → not flag ≡ false → 64 ≤ s.depth → r ≡ refused stack_full p s → r ≡ pushed src s f
       unfolding pushed
       push_full f flag b t d back = gated_open shut _ s r _ e opened (back ∙ rw (here, ← b, not-false flag t, le-ltb s.depth 64 d))
 
-      pub pop_last : s.depth ≤ 1 → r ≡ refused 10 p s → r ≡ popped src s
+      pub pop_last : s.depth ≤ 1 → r ≡ refused out_of_place p s → r ≡ popped src s
       unfolding popped
       pop_last d back = gated_open shut _ s r _ e opened (back ∙ rw (here, le-ltb 1 s.depth d))
 

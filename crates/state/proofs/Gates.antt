@@ -1,5 +1,5 @@
 -- The gate on each way through `gate`, and through the gate with tables (crate layout). Assumes nothing.
-use Rattle.std.specs.Prelude.{if◌then◌else◌}
+use Rattle.std.specs.Prelude.{Result, Ok, Err, if◌then◌else◌}
 use Prim.Native.Nat.{ℕ, ◌/◌, ◌≤◌, ◌<◌}
 use mathlib.Core.Path.{◌≡◌, refl, sym, ◌∙◌}
 use mathlib.Core.Bool.{Bool, true, false, not, ◌&&◌}
@@ -8,7 +8,9 @@ use native.Mathlib.Omega.{arith}
 use lib.ListN.{length}
 use borrow.Author.Tests.{leb-true, le-leb, lt-leb, not-true, not-false}
 use Rattle.source.specs.declared.Span.{Span}
-use Rattle.byte.proofs.Tests.{&&-left, &&-right, unrefused}
+use Rattle.byte.specs.declared.Refusal.{Refusal}
+use Rattle.byte.specs.Refusals.{too_large, bad_session}
+use Rattle.byte.proofs.Tests.{&&-left, &&-right}
 use Rattle.state.specs.declared.Session.{Session}
 use Rattle.state.specs.Bounds.{are_within, is_within, is_stack, is_good, fits_tables}
 use Rattle.state.proofs.Bounds.{Within, is_within_facts}
@@ -16,7 +18,7 @@ use Rattle.state.specs.Calls.{span_of}
 use Rattle.state.specs.Gates.{checked, source_fits, tables_fit, gate_refusal, lent_refusal}
 
 module _ (src : List ℕ) (s : Session) where
-  pub gate_large : 65536 < length src → 11 ≡ gate_refusal src s
+  pub gate_large : 65536 < length src → Err too_large ≡ gate_refusal src s
   unfolding gate_refusal source_fits
   gate_large h = rw (lt-leb (length src) 65536 h)
 
@@ -29,16 +31,16 @@ module _ (src : List ℕ) (s : Session) where
     gate_depth t = (is_within_facts (length src) s (within ∙ not-false numbers t)).depth_high
 
     module _ (h : length src ≤ 65536) where
-      pub gate_numbers : not numbers ≡ true → 12 ≡ gate_refusal src s
+      pub gate_numbers : not numbers ≡ true → Err bad_session ≡ gate_refusal src s
       unfolding gate_refusal source_fits is_good
       gate_numbers t = rw (le-leb (length src) 65536 h, within, not-true numbers t)
 
       module _ (t : not numbers ≡ false) (frames : Bool) (f : frames ≡ is_stack src s) where
-        pub gate_frames : not frames ≡ true → 12 ≡ gate_refusal src s
+        pub gate_frames : not frames ≡ true → Err bad_session ≡ gate_refusal src s
         unfolding gate_refusal source_fits is_good
         gate_frames u = rw (le-leb (length src) 65536 h, within, not-false numbers t, ← f, not-true frames u)
 
-        pub gate_open : not frames ≡ false → 0 ≡ gate_refusal src s
+        pub gate_open : not frames ≡ false → Ok tt ≡ gate_refusal src s
         unfolding gate_refusal source_fits is_good
         gate_open u = rw (le-leb (length src) 65536 h, within, not-false numbers t, ← f, not-false frames u)
 
@@ -50,59 +52,63 @@ pub record Opened (src : List ℕ) (s : Session) : Type 0 where
   pub numbers : Within (length src) s
   pub frames : is_stack src s ≡ true
 
+checked_ok : (fits good : Bool) → checked fits good ≡ Ok tt → (fits ≡ true) × (good ≡ true)
+checked_ok true true e = (refl, refl)
+checked_ok true false e = cc
+checked_ok false good e = cc
+
 module _ (src : List ℕ) (s : Session) where
-  pub gate_opened : gate_refusal src s ≡ 0 → Opened src s
+  pub gate_opened : gate_refusal src s ≡ Ok tt → Opened src s
   unfolding gate_refusal source_fits is_good
   gate_opened e =
-      let fits = unrefused (source_fits src) _ 10 e in
-      let good = (unrefused (is_good src s) 0 11 fits.1).0 in
+      let o = checked_ok (source_fits src) (is_good src s) e in
       record {
-        source = leb-true _ _ fits.0;
-        numbers = is_within_facts (length src) s (&&-left (is_within (length src) s) (is_stack src s) good);
-        frames = &&-right (is_within (length src) s) (is_stack src s) good;
+        source = leb-true _ _ o.0;
+        numbers = is_within_facts (length src) s (&&-left (is_within (length src) s) (is_stack src s) o.1);
+        frames = &&-right (is_within (length src) s) (is_stack src s) o.1;
       }
 
 -- a gate that is shut without tables is shut with them, and one that is open leaves the marks to be looked at
-checked_shut : (fits good marks : Bool) (alone : ℕ) → alone ≡ checked fits good → (alone ≡ 0 → ⊥) → alone ≡ checked fits (good && marks)
+checked_shut : (fits good marks : Bool) (alone : Result (Unit {0}) Refusal) → alone ≡ checked fits good → (alone ≡ Ok tt → ⊥) → alone ≡ checked fits (good && marks)
 checked_shut true true marks alone e n = absurd (n e)
 checked_shut true false marks alone e n = e
 checked_shut false good marks alone e n = e
 
-checked_open : (fits good marks : Bool) (alone : ℕ) → alone ≡ checked fits good → alone ≡ 0 → checked fits (good && marks) ≡ (if marks then 0 else 12)
+checked_open : (fits good marks : Bool) (alone : Result (Unit {0}) Refusal) → alone ≡ checked fits good → alone ≡ Ok tt → checked fits (good && marks) ≡ (if marks then Ok tt else Err bad_session)
 checked_open true true marks alone e z = refl
-checked_open true false marks alone e z = let y : ◌≡◌ {A = ℕ} 12 0 = sym e ∙ z in absurd (omega arith)
-checked_open false good marks alone e z = let y : ◌≡◌ {A = ℕ} 11 0 = sym e ∙ z in absurd (omega arith)
+checked_open true false marks alone e z = cc
+checked_open false good marks alone e z = cc
 
 module _ (src : List ℕ) (list pool : ℕ) (s : Session) where
-  pub lent_pool : 65536 < pool → 11 ≡ lent_refusal src list pool s
+  pub lent_pool : 65536 < pool → Err too_large ≡ lent_refusal src list pool s
   unfolding lent_refusal tables_fit
   lent_pool h = rw (lt-leb pool 65536 h)
 
   module _ (p : pool ≤ 65536) where
-    pub lent_list : 65537 < list / 8 → 11 ≡ lent_refusal src list pool s
+    pub lent_list : 65537 < list / 8 → Err too_large ≡ lent_refusal src list pool s
     unfolding lent_refusal tables_fit
     lent_list h = rw (le-leb pool 65536 p, lt-leb (list / 8) 65537 h)
 
-    module _ (l : list / 8 ≤ 65537) (alone : ℕ) (e : alone ≡ gate_refusal src s) where
-      pub lent_shut : (alone ≡ 0 → ⊥) → alone ≡ lent_refusal src list pool s
+    module _ (l : list / 8 ≤ 65537) (alone : Result (Unit {0}) Refusal) (e : alone ≡ gate_refusal src s) where
+      pub lent_shut : (alone ≡ Ok tt → ⊥) → alone ≡ lent_refusal src list pool s
       unfolding lent_refusal tables_fit gate_refusal
       lent_shut n = rw (le-leb pool 65536 p, le-leb (list / 8) 65537 l) (checked_shut (source_fits src) (is_good src s) (fits_tables list pool s) alone e n)
 
-      lent_marks : alone ≡ 0 → lent_refusal src list pool s ≡ (if fits_tables list pool s then 0 else 12)
+      lent_marks : alone ≡ Ok tt → lent_refusal src list pool s ≡ (if fits_tables list pool s then Ok tt else Err bad_session)
       unfolding lent_refusal tables_fit gate_refusal
       lent_marks z = rw (le-leb pool 65536 p, le-leb (list / 8) 65537 l) (checked_open (source_fits src) (is_good src s) (fits_tables list pool s) alone e z)
 
-      module _ (z : alone ≡ 0) where
-        pub lent_tokens : list / 8 < s.tokens → 12 ≡ lent_refusal src list pool s
+      module _ (z : alone ≡ Ok tt) where
+        pub lent_tokens : list / 8 < s.tokens → Err bad_session ≡ lent_refusal src list pool s
         unfolding fits_tables
         lent_tokens h = sym (lent_marks z ∙ rw (lt-leb s.tokens (list / 8) h))
 
         module _ (t : s.tokens ≤ list / 8) where
-          pub lent_bytes : pool < s.bytes → 12 ≡ lent_refusal src list pool s
+          pub lent_bytes : pool < s.bytes → Err bad_session ≡ lent_refusal src list pool s
           unfolding fits_tables
           lent_bytes h = sym (lent_marks z ∙ rw (le-leb s.tokens (list / 8) t, lt-leb s.bytes pool h))
 
-          pub lent_open : s.bytes ≤ pool → 0 ≡ lent_refusal src list pool s
+          pub lent_open : s.bytes ≤ pool → Ok tt ≡ lent_refusal src list pool s
           unfolding fits_tables
           lent_open h = sym (lent_marks z ∙ rw (le-leb s.tokens (list / 8) t, le-leb s.bytes pool h))
 

@@ -11,6 +11,7 @@ ghost use Rattle.unit.specs.Readings.{after_of, heredoc_loses_break, loses_break
 ghost use Rattle.text.specs.Code.{bytes_of, is_break, last_break, value_length, ended, unclosed, measured};
 ghost use Rattle.text.specs.Code.{BeforeBlanks, Searchable, is_writable, clipped, Reads, is_searched, Scans};
 
+use byte::Refusal;
 use unit::{Mode, Stop, TextUnit};
 
 mod units;
@@ -25,7 +26,7 @@ pub enum Scanned {
         after: usize,
     },
     Refused {
-        number: u32,
+        refusal: Refusal,
         place: usize,
     },
     Wait,
@@ -44,7 +45,7 @@ fn width_of(u: TextUnit) -> usize
             after: _,
         } => 0,
         TextUnit::Fault {
-            number: _,
+            refusal: _,
             place: _,
         } => 0,
         TextUnit::Undecided => 0,
@@ -64,7 +65,7 @@ fn after_of(u: TextUnit) -> usize
             after: _,
         } => 0,
         TextUnit::Fault {
-            number: _,
+            refusal: _,
             place: _,
         } => 0,
         TextUnit::Undecided => 0,
@@ -84,7 +85,7 @@ fn is_break(u: TextUnit) -> bool
             after: _,
         } => false,
         TextUnit::Fault {
-            number: _,
+            refusal: _,
             place: _,
         } => false,
         TextUnit::Undecided => false,
@@ -157,7 +158,7 @@ fn ended_as(m: Mode, len: usize, broken: bool, u: TextUnit) -> Scanned
             from,
             after,
         },
-        TextUnit::Fault { number, place } => Scanned::Refused { number, place },
+        TextUnit::Fault { refusal, place } => Scanned::Refused { refusal, place },
         TextUnit::Undecided => Scanned::Wait,
     }
 }
@@ -168,7 +169,7 @@ fn unclosed(end: bool, place: usize) -> Scanned
 {
     if end {
         return Scanned::Refused {
-            number: byte::UNEXPECTED_END_OF_FILE,
+            refusal: Refusal::UnexpectedEndOfFile,
             place,
         };
     }
@@ -239,7 +240,7 @@ fn put_unit(dst: &mut [u8], at: usize, u: TextUnit)
             after: _,
         } => {}
         TextUnit::Fault {
-            number: _,
+            refusal: _,
             place: _,
         } => {}
         TextUnit::Undecided => {}

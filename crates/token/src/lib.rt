@@ -8,6 +8,7 @@ ghost use Rattle.byte.specs.Laid.{laid};
 ghost use Rattle.token.specs.Records.{record_of, room_refusal};
 ghost use Rattle.token.specs.Files.{little_endian, number_at, file_of, list_of, to_file_refusal, to_list_refusal, ToFile, ToList};
 
+use byte::Refusal;
 use source::Span;
 use state::Answer;
 
@@ -72,10 +73,10 @@ pub fn room(list: usize, pool: usize, tokens: u32, bytes: u32, count: u32, len: 
     ensures { result ≡ room_refusal list pool tokens bytes count len }
 {
     if list / 8 < tokens as usize + count as usize {
-        return byte::LIST_FULL;
+        return Refusal::ListFull;
     }
     if pool < bytes as usize + len as usize {
-        return byte::POOL_FULL;
+        return Refusal::PoolFull;
     }
     0
 }
@@ -192,13 +193,13 @@ fn to_file_refusal(list: usize, file: usize) -> u32
     ensures { result ≡ to_file_refusal list file }
 {
     if 65537 < list / 8 {
-        return byte::TOO_LARGE;
+        return Refusal::TooLarge;
     }
     if list % 8 != 0 {
-        return byte::OUT_OF_PLACE;
+        return Refusal::OutOfPlace;
     }
     if file / 32 < list / 8 {
-        return byte::POOL_FULL;
+        return Refusal::PoolFull;
     }
     0
 }
@@ -208,16 +209,16 @@ fn to_list_refusal(file: usize, list: usize) -> u32
     ensures { result ≡ to_list_refusal file list }
 {
     if 65537 < file / 32 {
-        return byte::TOO_LARGE;
+        return Refusal::TooLarge;
     }
     if 65537 < list / 8 {
-        return byte::TOO_LARGE;
+        return Refusal::TooLarge;
     }
     if file % 32 != 0 {
-        return byte::OUT_OF_PLACE;
+        return Refusal::OutOfPlace;
     }
     if list / 8 < file / 32 {
-        return byte::LIST_FULL;
+        return Refusal::ListFull;
     }
     0
 }
@@ -231,7 +232,7 @@ fn refuse(number: u32) -> Answer
         column: 1,
         position: 0,
     };
-    Answer::Refused { number, span }
+    Answer::Refused { refusal, span }
 }
 
 // Each number of the list as four bytes from the file's start on.

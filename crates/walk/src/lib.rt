@@ -32,7 +32,7 @@ fn is_done(a: Answer) -> bool
     match a {
         Answer::Done => true,
         Answer::Finished => false,
-        Answer::Refused { number: _, span: _ } => false,
+        Answer::Refused { refusal: _, span: _ } => false,
     }
 }
 
