@@ -241,7 +241,7 @@ fn grown(value: u32, digit: u32) -> u32
 
 // A value in closed braces.
 fn closed(code: u32, after: usize) -> TextUnit
-    ensures { result ≡ (if is_scalar code then TextUnit.Point code after else TextUnit.Fault 2 after) }
+    ensures { result ≡ (if is_scalar code then TextUnit.Point code after else TextUnit.Fault Refusal.InvalidUnicodeEscape after) }
 {
     if is_scalar(code) {
         return TextUnit::Point { code, after };

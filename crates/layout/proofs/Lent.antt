@@ -3,6 +3,7 @@
 --   looking                  the ruleset of `is_stack_in`
 --   gating, tables           the rulesets of `gate_alone` and `gate_in`
 use Prim.Native.Nat.{ℕ, zero, suc, ◌+◌, ◌*◌, ◌/◌, ◌≤◌, ◌<◌}
+use Rattle.byte.specs.declared.Refusal.{Refusal}
 use mathlib.Core.Path.{◌≡◌, refl, sym, ap, ◌∙◌}
 use mathlib.Core.Bool.{Bool, true, false, not}
 use mathlib.Core.List.{List}
@@ -16,6 +17,8 @@ use Rattle.state.specs.declared.Slot.{Slot}
 use Rattle.state.specs.declared.Session.{Session}
 use Rattle.state.specs.Bounds.{is_frame, is_bottom, no_slot, is_stack, are_within}
 use Rattle.state.specs.Calls.{span_of}
+use Rattle.std.specs.Prelude.{Result, Ok, Err}
+use Rattle.byte.specs.Refusals.{too_large, bad_session}
 use Rattle.state.specs.Gates.{gate_refusal, lent_refusal}
 use Rattle.state.proofs.Bounds.{Checking, is_stack_bottom, checking_first, checking_end, checking_stop, checking_on}
 use Rattle.state.proofs.Gates.{gate_depth, gate_large, gate_numbers, gate_frames, gate_open}
@@ -84,7 +87,7 @@ pub ruleset looking = (looking_bottom, looking_first, looking_inside, looking_en
 -- ---- the gate without tables
 
 module _ (src numbers : List ℕ) where
-  pub gating_large : 65536 < length src → 11 ≡ gate_refusal src (session_in numbers)
+  pub gating_large : 65536 < length src → Err too_large ≡ gate_refusal src (session_in numbers)
   gating_large h = gate_large src (session_in numbers) h
 
   module _ (depth : ℕ) (d : depth ≡ depth_in (get_or numbers 3 0) (get_or numbers 6 0)) (p : Span) (e : p ≡ span_of
@@ -97,14 +100,14 @@ module _ (src numbers : List ℕ) where
     gating_depth t = rw d (gate_depth src (session_in numbers) p e flag within t)
 
     module _ (h : length src ≤ 65536) where
-      pub gating_numbers : not flag ≡ true → 12 ≡ gate_refusal src (session_in numbers)
+      pub gating_numbers : not flag ≡ true → Err bad_session ≡ gate_refusal src (session_in numbers)
       gating_numbers t = gate_numbers src (session_in numbers) p e flag within h t
 
       module _ (t : not flag ≡ false) (frames : Bool) (f : frames ≡ is_stack src (session_in numbers)) where
-        pub gating_frames : not frames ≡ true → 12 ≡ gate_refusal src (session_in numbers)
+        pub gating_frames : not frames ≡ true → Err bad_session ≡ gate_refusal src (session_in numbers)
         gating_frames u = gate_frames src (session_in numbers) p e flag within h t frames f u
 
-        pub gating_open : not frames ≡ false → 0 ≡ gate_refusal src (session_in numbers)
+        pub gating_open : not frames ≡ false → Ok tt ≡ gate_refusal src (session_in numbers)
         gating_open u = gate_open src (session_in numbers) p e flag within h t frames f u
 
 pub ruleset gating = (gating_large, gating_depth, gating_numbers, gating_frames, gating_open)
@@ -112,17 +115,17 @@ pub ruleset gating = (gating_large, gating_depth, gating_numbers, gating_frames,
 -- ---- the gate with tables
 
 module _ (src : List ℕ) (list pool : ℕ) (numbers : List ℕ) where
-  module _ (p : pool ≤ 65536) (l : list / 8 ≤ 65537) (alone : ℕ) (e : alone ≡ gate_refusal src (session_in numbers))
-      (z : alone ≡ 0)
+  module _ (p : pool ≤ 65536) (l : list / 8 ≤ 65537) (alone : Result (Unit {0}) Refusal) (e : alone ≡ gate_refusal src (session_in numbers))
+      (z : alone ≡ Ok tt)
       (tokens : ℕ) (t : tokens ≡ get_or numbers 4 0) where
-    pub tables_tokens : list / 8 < tokens → 12 ≡ lent_refusal src list pool (session_in numbers)
+    pub tables_tokens : list / 8 < tokens → Err bad_session ≡ lent_refusal src list pool (session_in numbers)
     tables_tokens h = lent_tokens src list pool (session_in numbers) p l alone e z (rw (← t) h)
 
     module _ (bytes : ℕ) (b : bytes ≡ get_or numbers 5 0) (k : tokens ≤ list / 8) where
-      pub tables_bytes : pool < bytes → 12 ≡ lent_refusal src list pool (session_in numbers)
+      pub tables_bytes : pool < bytes → Err bad_session ≡ lent_refusal src list pool (session_in numbers)
       tables_bytes h = lent_bytes src list pool (session_in numbers) p l alone e z (rw (← t) k) (rw (← b) h)
 
-      pub tables_open : bytes ≤ pool → 0 ≡ lent_refusal src list pool (session_in numbers)
+      pub tables_open : bytes ≤ pool → Ok tt ≡ lent_refusal src list pool (session_in numbers)
       tables_open h = lent_open src list pool (session_in numbers) p l alone e z (rw (← t) k) (rw (← b) h)
 
 pub ruleset tables = (tables_tokens, tables_bytes, tables_open)

@@ -112,22 +112,22 @@ fn is_stack_in(src: &[u8], numbers: &[u32], depth: u32) -> bool
     true
 }
 
-// Refusals 11 and 12 of a source and a session's numbers, without the tables. 0 for neither.
-fn gate_alone(src: &[u8], numbers: &[u32]) -> u32
+// Refusals 11 and 12 of a source and a session's numbers, without the tables.
+fn gate_alone(src: &[u8], numbers: &[u32]) -> Result<(), Refusal>
     requires { 199 ≤ length numbers.now }
     ensures { result ≡ gate_refusal src.now (session_in numbers.now) }
 {
     if 65536 < src.len() {
-        return Refusal::TooLarge;
+        return Err(Refusal::TooLarge);
     }
     let depth = depth_in(numbers[3], numbers[6]);
     if !state::is_within(src.len(), span_in(numbers), depth) {
-        return Refusal::BadSession;
+        return Err(Refusal::BadSession);
     }
     if !is_stack_in(src, numbers, depth) {
-        return Refusal::BadSession;
+        return Err(Refusal::BadSession);
     }
-    0
+    Ok(())
 }
 
 // A number as a length.
@@ -137,31 +137,28 @@ fn wide(n: u32) -> usize
     n as usize
 }
 
-// Refusals 11 and 12 where a list of `list` numbers and a pool of `pool` bytes are lent. 0 for neither. Slots from the depth on are not
+// Refusals 11 and 12 where a list of `list` numbers and a pool of `pool` bytes are lent. Slots from the depth on are not
 // looked at.
-pub fn gate_in(src: &[u8], list: usize, pool: usize, numbers: &[u32]) -> u32
+pub fn gate_in(src: &[u8], list: usize, pool: usize, numbers: &[u32]) -> Result<(), Refusal>
     requires { 199 ≤ length numbers.now }
     ensures { result ≡ lent_refusal src.now list pool (session_in numbers.now) }
 {
     if 65536 < pool {
-        return Refusal::TooLarge;
+        return Err(Refusal::TooLarge);
     }
     if 65537 < list / 8 {
-        return Refusal::TooLarge;
+        return Err(Refusal::TooLarge);
     }
-    let alone = gate_alone(src, numbers);
-    if alone != 0 {
-        return alone;
-    }
+    gate_alone(src, numbers)?;
     let tokens = wide(numbers[4]);
     let bytes = wide(numbers[5]);
     if list / 8 < tokens {
-        return Refusal::BadSession;
+        return Err(Refusal::BadSession);
     }
     if pool < bytes {
-        return Refusal::BadSession;
+        return Err(Refusal::BadSession);
     }
-    0
+    Ok(())
 }
 
 // The session in 199 numbers.
@@ -319,7 +316,7 @@ pub fn put_answer(answer: &mut [u32], a: Answer)
     match a {
         Answer::Done => put_five(answer, 0, 0, nowhere),
         Answer::Finished => put_five(answer, 1, 0, nowhere),
-        Answer::Refused { refusal, span } => put_five(answer, 2, number, span),
+        Answer::Refused { refusal, span } => put_five(answer, 2, u32::from(refusal), span),
     }
 }
 
@@ -330,7 +327,7 @@ pub fn refusal_in(a: Answer) -> u32
     match a {
         Answer::Done => 0,
         Answer::Finished => 0,
-        Answer::Refused { refusal, span: _ } => number,
+        Answer::Refused { refusal, span: _ } => u32::from(refusal),
     }
 }
 
@@ -340,10 +337,12 @@ pub fn put_turn(t: Turn, session: &mut [u32], answer: &mut [u32]) -> u32
     ensures { Turned t session.old answer.old result session.new answer.new }
 {
     let a = t.answer;
-    let refusal = refusal_in(a);
     put_answer(answer, a);
-    if refusal == 0 {
-        put_session(session, t.session);
+    match a {
+        Answer::Refused { refusal, span: _ } => u32::from(refusal),
+        Answer::Done | Answer::Finished => {
+            put_session(session, t.session);
+            0
+        }
     }
-    refusal
 }

@@ -2,6 +2,7 @@
 -- on, of which a value is a start (`value_gathered`). Assumes nothing.
 use Rattle.std.specs.Prelude.{if◌then◌else◌}
 use Prim.Native.Nat.{ℕ, zero, suc, ◌+◌, ◌-◌, ◌<◌, ◌≤◌}
+use Rattle.byte.specs.declared.Refusal.{Refusal}
 use mathlib.Core.Path.{◌≡◌, refl, sym, ap, ◌∙◌}
 use mathlib.Core.Bool.{Bool, true, false}
 use mathlib.Core.List.{List, [], ◌∷◌, ◌++◌}
@@ -148,9 +149,9 @@ module _ (dst : List ℕ) (at : ℕ) (u : TextUnit) where
   unfolding bytes_of
   put_stop stop from after e = nothing (rw e)
 
-  pub put_fault : (number place : ℕ) → u ≡ TextUnit.Fault refusal place → dst ≡ clipped dst at (bytes_of u)
+  pub put_fault : (refusal : Refusal) (place : ℕ) → u ≡ TextUnit.Fault refusal place → dst ≡ clipped dst at (bytes_of u)
   unfolding bytes_of
-  put_fault number place e = nothing (rw e)
+  put_fault refusal place e = nothing (rw e)
 
   pub put_nothing : u ≡ TextUnit.Undecided → dst ≡ clipped dst at (bytes_of u)
   unfolding bytes_of

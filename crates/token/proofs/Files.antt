@@ -1,5 +1,5 @@
 -- The record file: its two loops, its refusals, and that reading and writing undo each other. Assumes nothing.
-use Rattle.std.specs.Prelude.{if◌then◌else◌}
+use Rattle.std.specs.Prelude.{Result, Ok, Err, if◌then◌else◌}
 use Prim.Native.Nat.{ℕ, zero, suc, ◌+◌, ◌*◌, ◌/◌, ◌%◌, ◌≤◌, ◌<◌}
 use mathlib.Core.Path.{◌≡◌, refl, sym, ap, ◌∙◌}
 use mathlib.Core.Bool.{Bool, true, false, ◌&&◌}
@@ -11,11 +11,13 @@ use lib.ListN.{length, take, drop, set, get_or}
 use lib.Seq.{take-length, take-suc, get_or-drop, length-take-le}
 use borrow.Author.Tests.{le-leb, lt-leb, eq-eqb, ne_eqb, leb-true, eqb-true}
 use Rattle.byte.specs.Laid.{laid}
+use Rattle.byte.specs.declared.Refusal.{Refusal}
 use Rattle.byte.proofs.Tests.{unrefused}
+use Rattle.byte.specs.Refusals.{list_full, pool_full, out_of_place, too_large}
 use Rattle.byte.proofs.Laid.{set_laid, Writing, writing_first, writing_on, writing_end}
 use Rattle.source.specs.Cursor.{origin}
 use Rattle.state.specs.declared.Answer.{Answer}
-use Rattle.token.specs.Files.{little_endian, file_of, number_at, list_of, to_file_refusal, to_list_refusal, file_answer, Written}
+use Rattle.token.specs.Files.{little_endian, file_of, number_at, list_of, to_file_refusal, to_list_refusal, file_answer, file_after, Written}
 
 pub file_of_append : (xs ys : List ℕ) → file_of (xs ++ ys) ≡ file_of xs ++ file_of ys
 unfolding file_of
@@ -104,21 +106,21 @@ pub ruleset listing = (listing_first, listing_on, listing_end)
 
 -- `list_to_file`'s refusals, each on its way
 module _ (list file : ℕ) where
-  pub to_file_large : 65537 < list / 8 → 11 ≡ to_file_refusal list file
+  pub to_file_large : 65537 < list / 8 → Err too_large ≡ to_file_refusal list file
   unfolding to_file_refusal
   to_file_large h = rw (lt-leb (list / 8) 65537 h)
 
   module _ (l : list / 8 ≤ 65537) where
-    pub to_file_broken : (list % 8 ≡ 0 → ⊥) → 10 ≡ to_file_refusal list file
+    pub to_file_broken : (list % 8 ≡ 0 → ⊥) → Err out_of_place ≡ to_file_refusal list file
     unfolding to_file_refusal
     to_file_broken h = rw (le-leb (list / 8) 65537 l, ne_eqb (list % 8) 0 h)
 
     module _ (w : list % 8 ≡ 0) where
-      pub to_file_full : file / 32 < list / 8 → 8 ≡ to_file_refusal list file
+      pub to_file_full : file / 32 < list / 8 → Err pool_full ≡ to_file_refusal list file
       unfolding to_file_refusal
       to_file_full h = rw (le-leb (list / 8) 65537 l, eq-eqb (list % 8) 0 w, lt-leb (list / 8) (file / 32) h)
 
-      pub to_file_open : list / 8 ≤ file / 32 → 0 ≡ to_file_refusal list file
+      pub to_file_open : list / 8 ≤ file / 32 → Ok tt ≡ to_file_refusal list file
       unfolding to_file_refusal
       to_file_open h = rw (le-leb (list / 8) 65537 l, eq-eqb (list % 8) 0 w, le-leb (list / 8) (file / 32) h)
 
@@ -126,73 +128,71 @@ pub ruleset to_file_refusals = (to_file_large, to_file_broken, to_file_full, to_
 
 -- `file_to_list`'s
 module _ (file list : ℕ) where
-  pub to_list_file : 65537 < file / 32 → 11 ≡ to_list_refusal file list
+  pub to_list_file : 65537 < file / 32 → Err too_large ≡ to_list_refusal file list
   unfolding to_list_refusal
   to_list_file h = rw (lt-leb (file / 32) 65537 h)
 
   module _ (f : file / 32 ≤ 65537) where
-    pub to_list_list : 65537 < list / 8 → 11 ≡ to_list_refusal file list
+    pub to_list_list : 65537 < list / 8 → Err too_large ≡ to_list_refusal file list
     unfolding to_list_refusal
     to_list_list h = rw (le-leb (file / 32) 65537 f, lt-leb (list / 8) 65537 h)
 
     module _ (l : list / 8 ≤ 65537) where
-      pub to_list_broken : (file % 32 ≡ 0 → ⊥) → 10 ≡ to_list_refusal file list
+      pub to_list_broken : (file % 32 ≡ 0 → ⊥) → Err out_of_place ≡ to_list_refusal file list
       unfolding to_list_refusal
       to_list_broken h = rw (le-leb (file / 32) 65537 f, le-leb (list / 8) 65537 l, ne_eqb (file % 32) 0 h)
 
       module _ (w : file % 32 ≡ 0) where
-        pub to_list_full : list / 8 < file / 32 → 7 ≡ to_list_refusal file list
+        pub to_list_full : list / 8 < file / 32 → Err list_full ≡ to_list_refusal file list
         unfolding to_list_refusal
         to_list_full h = rw (le-leb (file / 32) 65537 f, le-leb (list / 8) 65537 l, eq-eqb (file % 32) 0 w, lt-leb (file / 32) (list / 8) h)
 
-        pub to_list_open : file / 32 ≤ list / 8 → 0 ≡ to_list_refusal file list
+        pub to_list_open : file / 32 ≤ list / 8 → Ok tt ≡ to_list_refusal file list
         unfolding to_list_refusal
         to_list_open h = rw (le-leb (file / 32) 65537 f, le-leb (list / 8) 65537 l, eq-eqb (file % 32) 0 w, le-leb (file / 32) (list / 8) h)
 
 pub ruleset to_list_refusals = (to_list_file, to_list_list, to_list_broken, to_list_full, to_list_open)
 
 -- an answer that is no refusal
-pub file_answer_done : (number : ℕ) → Answer.Done ≡ file_answer number → number ≡ 0
+pub file_answer_done : (refusal : Result (Unit {0}) Refusal) → Answer.Done ≡ file_answer refusal → refusal ≡ Ok tt
 unfolding file_answer
-file_answer_done number e = go (eqb number 0) refl e
-  where
-    go : (t : Bool) → eqb number 0 ≡ t → Answer.Done ≡ (if t then Answer.Done else Answer.Refused number origin) → number ≡ 0
-    go true h e = eqb-true number 0 h
-    go false h e = cc
+file_answer_done (Ok tt) e = refl
+file_answer_done (Err refusal) e = cc
 
-module _ (number refusal : ℕ) (lent values : List ℕ) (e : number ≡ refusal) where
-  pub written_refused : (r : Answer) → (number ≡ 0 → ⊥) → r ≡ Answer.Refused number origin → Written refusal lent values r lent
-  unfolding file_answer
-  written_refused r n back = record { answer = back ∙ rw (← e, ne_eqb number 0 n); holds = rw (← e, ne_eqb number 0 n) }
+module _ (told refusal : Result (Unit {0}) Refusal) (lent values : List ℕ) (e : told ≡ refusal) where
+  pub written_refused : (r : Answer) (why : Refusal) → told ≡ Err why → r ≡ Answer.Refused why origin → Written refusal lent values r lent
+  unfolding file_answer file_after
+  written_refused r why n back = record { answer = back ∙ rw (← e, n); holds = rw (← e, n) }
 
-  pub written_done : (after : List ℕ) → number ≡ 0 → after ≡ laid lent 0 values → Written refusal lent values Answer.Done after
-  unfolding file_answer
-  written_done after z w = record { answer = rw (← e, eq-eqb number 0 z); holds = w ∙ rw (← e, eq-eqb number 0 z) }
+  pub written_done : (after : List ℕ) → told ≡ Ok tt → after ≡ laid lent 0 values → Written refusal lent values Answer.Done after
+  unfolding file_answer file_after
+  written_done after z w = record { answer = rw (← e, z); holds = w ∙ rw (← e, z) }
 
 -- two results that meet one statement are equal
-pub written_one : (refusal : ℕ) (lent values : List ℕ) (r r' : Answer) (after after' : List ℕ) → Written refusal lent values r after → Written refusal lent values r' after' → (r ≡ r') × (after ≡ after')
+pub written_one : (refusal : Result (Unit {0}) Refusal) (lent values : List ℕ) (r r' : Answer) (after after' : List ℕ) → Written refusal lent values r after → Written refusal lent values r' after' → (r ≡ r') × (after ≡ after')
 written_one refusal lent values r r' after after' f g = (f.answer ∙ sym g.answer, f.holds ∙ sym g.holds)
 
 -- a call that was done has written its values
-pub written_values : (refusal : ℕ) (lent values after : List ℕ) → Written refusal lent values Answer.Done after → after ≡ laid lent 0 values
-written_values refusal lent values after f = rw (eq-eqb refusal 0 (file_answer_done refusal f.answer)) at f.holds
+pub written_values : (refusal : Result (Unit {0}) Refusal) (lent values after : List ℕ) → Written refusal lent values Answer.Done after → after ≡ laid lent 0 values
+unfolding file_after
+written_values refusal lent values after f = rw (file_answer_done refusal f.answer) at f.holds
 
 -- there is room for what an accepted call writes
-pub to_file_room : (list file number : ℕ) → number ≡ to_file_refusal list file → number ≡ 0 → list * 4 ≤ file
+pub to_file_room : (list file : ℕ) (told : Result (Unit {0}) Refusal) → told ≡ to_file_refusal list file → told ≡ Ok tt → list * 4 ≤ file
 unfolding to_file_refusal
-to_file_room list file number e z =
-    let fits = unrefused (leb (list / 8) 65537) _ 10 (sym e ∙ z) in
-    let whole = unrefused (eqb (list % 8) 0) _ 9 fits.1 in
-    let enough = unrefused (leb (list / 8) (file / 32)) 0 7 whole.1 in
+to_file_room list file told e z =
+    let fits = unrefused (leb (list / 8) 65537) _ _ (sym e ∙ z) in
+    let whole = unrefused (eqb (list % 8) 0) _ _ fits.1 in
+    let enough = unrefused (leb (list / 8) (file / 32)) _ _ whole.1 in
     omega (arith, eqb-true (list % 8) 0 whole.0, leb-true (list / 8) (file / 32) enough.0)
 
-module _ (file list number : ℕ) (e : number ≡ to_list_refusal file list) (z : number ≡ 0) where
+module _ (file list : ℕ) (told : Result (Unit {0}) Refusal) (e : told ≡ to_list_refusal file list) (z : told ≡ Ok tt) where
   lengths : (file % 32 ≡ 0) × (file / 32 ≤ list / 8)
   unfolding to_list_refusal
   lengths =
-      let fits = unrefused (leb (file / 32) 65537 && leb (list / 8) 65537) _ 10 (sym e ∙ z) in
-      let whole = unrefused (eqb (file % 32) 0) _ 9 fits.1 in
-      let enough = unrefused (leb (file / 32) (list / 8)) 0 6 whole.1 in
+      let fits = unrefused (leb (file / 32) 65537 && leb (list / 8) 65537) _ _ (sym e ∙ z) in
+      let whole = unrefused (eqb (file % 32) 0) _ _ fits.1 in
+      let enough = unrefused (leb (file / 32) (list / 8)) _ _ whole.1 in
       (eqb-true (file % 32) 0 whole.0, leb-true (file / 32) (list / 8) enough.0)
 
   pub to_list_whole : file / 4 * 4 ≡ file

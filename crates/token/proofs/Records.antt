@@ -6,6 +6,8 @@ use native.Mathlib.Omega.{arith}
 use lib.ListN.{length, set}
 use lib.Seq.{sets-eq}
 use borrow.Author.Tests.{le-leb, lt-leb}
+use Rattle.std.specs.Prelude.{Ok, Err}
+use Rattle.byte.specs.Refusals.{list_full, pool_full}
 use Rattle.byte.specs.Laid.{laid}
 use Rattle.token.specs.Records.{room_refusal}
 
@@ -32,16 +34,16 @@ module _ (l : List ℕ) (at v0 v1 v2 v3 : ℕ) where
       rw (e1, e2, e3, e4, e5, e6, e7) (sets-eq (v0 ∷ v1 ∷ v2 ∷ v3 ∷ v4 ∷ v5 ∷ v6 ∷ v7 ∷ []) l at h)
 
 module _ (list pool tokens bytes count len : ℕ) where
-  pub room_list : list / 8 < tokens + count → 7 ≡ room_refusal list pool tokens bytes count len
+  pub room_list : list / 8 < tokens + count → Err list_full ≡ room_refusal list pool tokens bytes count len
   unfolding room_refusal
   room_list h = rw (lt-leb (tokens + count) (list / 8) h)
 
   module _ (places : tokens + count ≤ list / 8) where
-    pub room_pool : pool < bytes + len → 8 ≡ room_refusal list pool tokens bytes count len
+    pub room_pool : pool < bytes + len → Err pool_full ≡ room_refusal list pool tokens bytes count len
     unfolding room_refusal
     room_pool h = rw (le-leb (tokens + count) (list / 8) places, lt-leb (bytes + len) pool h)
 
-    pub room_enough : bytes + len ≤ pool → 0 ≡ room_refusal list pool tokens bytes count len
+    pub room_enough : bytes + len ≤ pool → Ok tt ≡ room_refusal list pool tokens bytes count len
     unfolding room_refusal
     room_enough h = rw (le-leb (tokens + count) (list / 8) places, le-leb (bytes + len) pool h)
 

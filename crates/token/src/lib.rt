@@ -68,17 +68,24 @@ pub struct Token {
     pub end: u32,
 }
 
-// Whether `count` records and `len` value bytes fit from the marks on: 7, 8, or 0 where they do. To be asked before any write.
-pub fn room(list: usize, pool: usize, tokens: u32, bytes: u32, count: u32, len: u32) -> u32
+// Whether `count` records and `len` value bytes fit from the marks on: refused with 7 or 8 where they don't. To be asked before any write.
+pub fn room(
+    list: usize,
+    pool: usize,
+    tokens: u32,
+    bytes: u32,
+    count: u32,
+    len: u32,
+) -> Result<(), Refusal>
     ensures { result ≡ room_refusal list pool tokens bytes count len }
 {
     if list / 8 < tokens as usize + count as usize {
-        return Refusal::ListFull;
+        return Err(Refusal::ListFull);
     }
     if pool < bytes as usize + len as usize {
-        return Refusal::PoolFull;
+        return Err(Refusal::PoolFull);
     }
-    0
+    Ok(())
 }
 
 // One record, at its place.
@@ -188,44 +195,44 @@ fn number_at(file: &[u8], at: usize) -> u32
     first + second * 256 + third * 65536 + fourth * 16777216
 }
 
-// Refusals 11, 10 and 8 of `list_to_file`, or 0.
-fn to_file_refusal(list: usize, file: usize) -> u32
+// Refusals 11, 10 and 8 of `list_to_file`.
+fn to_file_refusal(list: usize, file: usize) -> Result<(), Refusal>
     ensures { result ≡ to_file_refusal list file }
 {
     if 65537 < list / 8 {
-        return Refusal::TooLarge;
+        return Err(Refusal::TooLarge);
     }
     if list % 8 != 0 {
-        return Refusal::OutOfPlace;
+        return Err(Refusal::OutOfPlace);
     }
     if file / 32 < list / 8 {
-        return Refusal::PoolFull;
+        return Err(Refusal::PoolFull);
     }
-    0
+    Ok(())
 }
 
-// Refusals 11, 10 and 7 of `file_to_list`, or 0.
-fn to_list_refusal(file: usize, list: usize) -> u32
+// Refusals 11, 10 and 7 of `file_to_list`.
+fn to_list_refusal(file: usize, list: usize) -> Result<(), Refusal>
     ensures { result ≡ to_list_refusal file list }
 {
     if 65537 < file / 32 {
-        return Refusal::TooLarge;
+        return Err(Refusal::TooLarge);
     }
     if 65537 < list / 8 {
-        return Refusal::TooLarge;
+        return Err(Refusal::TooLarge);
     }
     if file % 32 != 0 {
-        return Refusal::OutOfPlace;
+        return Err(Refusal::OutOfPlace);
     }
     if list / 8 < file / 32 {
-        return Refusal::ListFull;
+        return Err(Refusal::ListFull);
     }
-    0
+    Ok(())
 }
 
 // A refusal of a call without a session bears a script's beginning.
-fn refuse(number: u32) -> Answer
-    ensures { result ≡ Answer.Refused number origin }
+fn refuse(refusal: Refusal) -> Answer
+    ensures { result ≡ Answer.Refused refusal origin }
 {
     let span = Span {
         line: 1,
@@ -264,9 +271,8 @@ fn put_list(file: &[u8], count: usize, list: &mut [u32])
 pub fn list_to_file(list: &[u32], file: &mut [u8]) -> Answer
     ensures { ToFile list.now file.old result file.new }
 {
-    let number = to_file_refusal(list.len(), file.len());
-    if number != 0 {
-        return refuse(number);
+    if let Err(refusal) = to_file_refusal(list.len(), file.len()) {
+        return refuse(refusal);
     }
     put_numbers(list, file);
     Answer::Done
@@ -277,9 +283,8 @@ pub fn list_to_file(list: &[u32], file: &mut [u8]) -> Answer
 pub fn file_to_list(file: &[u8], list: &mut [u32]) -> Answer
     ensures { ToList file.now list.old result list.new }
 {
-    let number = to_list_refusal(file.len(), list.len());
-    if number != 0 {
-        return refuse(number);
+    if let Err(refusal) = to_list_refusal(file.len(), list.len()) {
+        return refuse(refusal);
     }
     put_list(file, file.len() / 4, list);
     Answer::Done
