@@ -1,5 +1,6 @@
 -- From a plan to its next, on each way through `commit`. Assumes nothing.
 use Prim.Native.Nat.{ℕ, ◌+◌, ◌/◌, ◌≤◌}
+use Rattle.byte.specs.declared.Refusal.{Refusal}
 use mathlib.Core.Path.{◌≡◌, refl, sym, ap, ◌∙◌}
 use mathlib.Core.Bool.{Bool, true, false, false≢true}
 use mathlib.Core.List.{List, [], ◌∷◌}
@@ -118,7 +119,7 @@ pub ruleset works = (work_total, work_len, work_refused, work_fits, work_advance
 -- the 64-frame limit
 module _ (depth n : ℕ) (pieces : List Piece) (after : ℕ) (finished : Bool) where
   limited_full : (change : Change) → is_full change depth ≡ true
-      → limited depth n (Outcome.Told pieces after change finished) ≡ Outcome.Refused 9 n
+      → limited depth n (Outcome.Told pieces after change finished) ≡ Outcome.Refused Refusal.StackFull n
   unfolding is_full limited
   limited_full Change.Keep e = absurd (false≢true e)
   limited_full (Change.Swap f) e = absurd (false≢true e)
@@ -138,11 +139,11 @@ module _ (src : List ℕ) (end : Bool) (scratch : List ℕ) (m : Mark) (depth : 
   abbrev outcome : Outcome
   outcome = limited depth m.span.position (outcome_of src end plan)
 
-  pub commit_wait : (r : Next) → plan ≡ Plan.Wait → r ≡ stays 6 m.span m → Committed src m l q outcome r l q
+  pub commit_wait : (r : Next) → plan ≡ Plan.Wait → r ≡ stays Refusal.Wait m.span m → Committed src m l q outcome r l q
   unfolding outcome_of limited reached
   commit_wait r e h = rw e (record { next = h; list = refl; pool = refl })
 
-  module _ (number place : ℕ) (e : plan ≡ Plan.Refused number place) where
+  module _ (number place : ℕ) (e : plan ≡ Plan.Refused refusal place) where
     pub commit_behind : Ahead src m.span place
     unfolding outcome_of
     commit_behind =
@@ -155,11 +156,11 @@ module _ (src : List ℕ) (end : Bool) (scratch : List ℕ) (m : Mark) (depth : 
     commit_refused r span p h = rw e (record { next = h ∙ rw p; list = refl; pool = refl })
 
   module _ (w : Work) (e : plan ≡ Plan.Told w) (full : Bool) (g : full ≡ is_full w.change depth) where
-    pub commit_full : (r : Next) → full ≡ true → r ≡ stays 9 m.span m → Committed src m l q outcome r l q
+    pub commit_full : (r : Next) → full ≡ true → r ≡ stays Refusal.StackFull m.span m → Committed src m l q outcome r l q
     unfolding outcome_of reached
     commit_full r t h =
         rw (e, limited_full depth m.span.position (pieces_of src end w.drafts) w.after w.finished w.change (sym g ∙ t))
-        (record { next = h ∙ ap (λ (p : Span). stays 9 p m) (sym (span_at_here src m.span)); list = refl; pool = refl })
+        (record { next = h ∙ ap (λ (p : Span). stays Refusal.StackFull p m) (sym (span_at_here src m.span)); list = refl; pool = refl })
 
     module _ (t : full ≡ false) where
       pub commit_works : Works src end scratch m w (length l) (length q)

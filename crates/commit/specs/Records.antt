@@ -75,7 +75,7 @@ pub record Reached : Type 0 where
 
 abbrev pub stays : ℕ → Span → Mark → Next
 stays number span m = record {
-  answer = Answer.Refused number span;
+  answer = Answer.Refused refusal span;
   mark = m;
   change = Change.Keep;
 }
@@ -96,6 +96,6 @@ reached src m t (Outcome.Told pieces after change finished) =
     if eqb (room_for m t pieces) 0
     then record { next = advances src m pieces after change finished; tables = put src after m t pieces }
     else record { next = stays (room_for m t pieces) m.span m; tables = t }
-reached src m t (Outcome.Refused number place) =
+reached src m t (Outcome.Refused refusal place) =
     record { next = stays number (span_at src m.span place) m; tables = t }
 reached src m t Outcome.Wait = record { next = stays wait m.span m; tables = t }

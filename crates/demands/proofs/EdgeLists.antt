@@ -257,7 +257,7 @@ module _ (src : List ℕ) (end : Bool) where
           })
       go Answer.Finished e =
           alone (first_ending s l q i now (grows_none _ _ _ _) (new.0, rw e at new.1)) (rw e) (rw e)
-      go (Answer.Refused number span) e =
+      go (Answer.Refused refusal span) e =
           alone (first_ending s l q i now (grows_none _ _ _ _) (new.0, rw e at new.1)) (rw e) (rw e)
 
   pub walk_new : (n : ℕ) (s : Session) (l q : List ℕ) (i : ℕ) → IsNew s (walked n src end s l q) i

@@ -153,7 +153,7 @@ walk_falls (suc n) src end s l q h less =
         → Ended (gone_on a now later).turn.answer
     go Answer.Done now later e ends = ends refl
     go Answer.Finished now later e ends = rw e tt
-    go (Answer.Refused number span) now later e ends = rw e tt
+    go (Answer.Refused refusal span) now later e ends = rw e tt
 
 pub walk_ends : (n : ℕ) (src : List ℕ) (end : Bool) (s : Session) (l q : List ℕ) → Sound src (length l) (length q) s
     → 2 * (length src - s.position) + 1 < n

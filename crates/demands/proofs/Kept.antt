@@ -30,16 +30,16 @@ use Rattle.lexer.specs.Calls.{called}
 use Rattle.lexer.proofs.Nexts.{settled_cases}
 
 pub record Kept (s : Session) (l q : List ℕ) (a : After) : Type 0 where
-  pub back : (number : ℕ) (span : Span) → a.turn.answer ≡ Answer.Refused number span
+  pub back : (number : ℕ) (span : Span) → a.turn.answer ≡ Answer.Refused refusal span
       → (a.turn.session ≡ s) × (a.list ≡ l) × (a.pool ≡ q)
 
-finished_told : {number : ℕ} {span : Span} → Answer.Finished ≡ Answer.Refused number span → ⊥
+finished_told : {number : ℕ} {span : Span} → Answer.Finished ≡ Answer.Refused refusal span → ⊥
 finished_told e = let z : ◌≡◌ {A = ℕ} 0 1 = cc in omega arith
 
-pub done_told : {number : ℕ} {span : Span} → Answer.Done ≡ Answer.Refused number span → ⊥
+pub done_told : {number : ℕ} {span : Span} → Answer.Done ≡ Answer.Refused refusal span → ⊥
 done_told e = let z : ◌≡◌ {A = ℕ} 0 1 = cc in omega arith
 
-pub answer_told : (finished : Bool) (number : ℕ) (span : Span) → answer_of finished ≡ Answer.Refused number span → ⊥
+pub answer_told : (finished : Bool) (number : ℕ) (span : Span) → answer_of finished ≡ Answer.Refused refusal span → ⊥
 answer_told true number span e = finished_told e
 answer_told false number span e = done_told e
 

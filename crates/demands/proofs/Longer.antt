@@ -53,7 +53,7 @@ module _ (part rest : List ℕ) where
           put_append (span_of s) h s.position after pieces (omega arith) i.inside i.all s.tokens s.bytes
               (record { list = l; pool = q }),
         )
-    settled_append (Outcome.Refused number place) i = rw (span_at_append (span_of s) h place i.low i.high)
+    settled_append (Outcome.Refused refusal place) i = rw (span_at_append (span_of s) h place i.low i.high)
     settled_append Outcome.Wait i = refl
 
 pub gate_open : (src : List ℕ) (list pool : ℕ) (s : Session) → Sound src list pool s → length src ≤ 65536

@@ -137,13 +137,13 @@ go_on_three : (a : Answer) (now later : After) → now.turn.answer ≡ a → Not
 unfolding gone_on
 go_on_three Answer.Done now later x h = λ span e. done_told (sym x ∙ e)
 go_on_three Answer.Finished now later x h = h
-go_on_three (Answer.Refused number place) now later x h = h
+go_on_three (Answer.Refused refusal place) now later x h = h
 
 go_on_chosen : (a : Answer) (now later later' : After) → Chosen later later' → Later a now later later'
 unfolding gone_on
 go_on_chosen Answer.Done now later later' x h = x h
 go_on_chosen Answer.Finished now later later' x h = refl
-go_on_chosen (Answer.Refused number span) now later later' x h = refl
+go_on_chosen (Answer.Refused refusal span) now later later' x h = refl
 
 -- a call, and what is known of the steps after it
 on_chosen : (call : Call) (n : ℕ) (src : List ℕ) (end : Bool) (s : Session) → s.choices.octals ≡ Octal.Rust
@@ -241,7 +241,7 @@ counted_chosen : (a : Answer) (k k' : ℕ) → (a ≡ Answer.Done → k' ≡ k) 
 unfolding counted
 counted_chosen Answer.Done k k' x = ap suc (x refl)
 counted_chosen Answer.Finished k k' x = refl
-counted_chosen (Answer.Refused number span) k k' x = refl
+counted_chosen (Answer.Refused refusal span) k k' x = refl
 
 -- after a call that is done the walk is no 3 either
 go_on_done : (a : Answer) (now later : After) → a ≡ Answer.Done → NotThree (gone_on a now later) → NotThree later

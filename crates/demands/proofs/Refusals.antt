@@ -121,7 +121,7 @@ module _ (call : Call) (src : List ℕ) (end : Bool) (s : Session) (l q : List �
       refuses_one (refusals octals call) (room src s l q pieces) (span_of s)
       (shared (list_full ∷ pool_full ∷ []) refl _
       (room_among (length l) (length q) s.tokens s.bytes (length pieces) (length (values pieces)) e)))
-  settled_refuses (Outcome.Refused number place) n =
+  settled_refuses (Outcome.Refused refusal place) n =
       refuses_one (refusals octals call) number _
       (among_every _ (call_numbers octals call) (refusals_all octals call).1 number n)
   settled_refuses Outcome.Wait n =
@@ -144,7 +144,7 @@ go_on_refuses : (numbers : List ℕ) (a : Answer) (now later : After) → Refuse
 unfolding gone_on
 go_on_refuses numbers Answer.Done now later x y = y
 go_on_refuses numbers Answer.Finished now later x y = x
-go_on_refuses numbers (Answer.Refused number span) now later x y = x
+go_on_refuses numbers (Answer.Refused refusal span) now later x y = x
 
 pub walk_refusals : (n : ℕ) (src : List ℕ) (end : Bool) (s : Session) (l q : List ℕ)
     → Refuses (refusals s.choices.octals Call.Step) (walked n src end s l q).turn.answer

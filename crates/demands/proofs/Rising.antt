@@ -180,7 +180,7 @@ pub go_on_either : (P : After → Type 0) (a : Answer) (now later : After) → P
 unfolding gone_on
 go_on_either P Answer.Done now later x y = y
 go_on_either P Answer.Finished now later x y = x
-go_on_either P (Answer.Refused number span) now later x y = x
+go_on_either P (Answer.Refused refusal span) now later x y = x
 
 pub walk_rising : (n : ℕ) (src : List ℕ) (end : Bool) (s : Session) (l q : List ℕ) → Ordered l s
     → OrderedAfter (walked n src end s l q)

@@ -80,7 +80,7 @@ module _ (call : Call) (src : List ℕ) (end : Bool) (s : Session) (l q : List �
         let enough : room src s l q pieces ≡ 0 =
         fits pieces (omega (arith, f)) (omega (arith, i.narrow, i.inside)) in
         rw enough (answer_roomy finished)
-    settled_room (Outcome.Refused number place) i f n =
+    settled_room (Outcome.Refused refusal place) i f n =
         not-true _
         (among_every is_roomy (call_numbers s.choices.octals call) (call_roomy s.choices.octals call) number n)
     settled_room Outcome.Wait i f n = refl

@@ -79,7 +79,7 @@ module _ (src : List ℕ) (end : Bool) (s : Session) (l q : List ℕ) where
       go : (a : Answer) → now.turn.answer ≡ a → P
       go Answer.Done e = on e
       go Answer.Finished e = over Answer.Finished e tt
-      go (Answer.Refused number span) e = over (Answer.Refused number span) e tt
+      go (Answer.Refused refusal span) e = over (Answer.Refused refusal span) e tt
 
   one : walked 1 src end s l q ≡ now
   unfolding walked
@@ -146,7 +146,7 @@ module _ (src : List ℕ) (end : Bool) where
       over Answer.Done e k = absurd k
       over Answer.Finished e k =
           rw e (record { fewer = omega arith; before = refl; last = walked_last n src end s l q _ e tt })
-      over (Answer.Refused number span) e k =
+      over (Answer.Refused refusal span) e k =
           rw e (record { fewer = omega arith; before = refl; last = walked_last n src end s l q _ e tt })
 
   -- ---- by the answer
@@ -158,15 +158,15 @@ module _ (src : List ℕ) (end : Bool) where
     pub session : (walked n src end s l q).turn.session ≡ (walked m src end s l q).turn.session
     pub list : (walked n src end s l q).list ≡ (walked m src end s l q).list
     pub pool : (walked n src end s l q).pool ≡ (walked m src end s l q).pool
-    pub step : (next src end (walked m src end s l q)).turn.answer ≡ Answer.Refused number span
+    pub step : (next src end (walked m src end s l q)).turn.answer ≡ Answer.Refused refusal span
 
   module _ (n : ℕ) (s : Session) (l q : List ℕ) where
-    pub walk_refused : (number : ℕ) (span : Span) → (walked n src end s l q).turn.answer ≡ Answer.Refused number span
+    pub walk_refused : (number : ℕ) (span : Span) → (walked n src end s l q).turn.answer ≡ Answer.Refused refusal span
         → WalkRefused number span n (steps_done n src end s l q) s l q
     walk_refused number span e =
         let w = walk_last n s l q (rw e tt) in
         let there = walked (steps_done n src end s l q) src end s l q in
-        let told : (next src end there).turn.answer ≡ Answer.Refused number span =
+        let told : (next src end there).turn.answer ≡ Answer.Refused refusal span =
         ap (λ (x : After). x.turn.answer) (sym w.last) ∙ e in
         let keeps = call_kept src there.turn.session there.list there.pool Call.Step end in
         let kept = keeps.back number span told in

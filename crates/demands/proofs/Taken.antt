@@ -188,8 +188,8 @@ handed_of src s (Outcome.Told pieces after change finished) = record {
   answer = answer_of finished;
   session = changed s (span_at src (span_of s) after) 0 0 change;
 }
-handed_of src s (Outcome.Refused number place) =
-    record { tokens = []; answer = Answer.Refused number (span_at src (span_of s) place); session = s }
+handed_of src s (Outcome.Refused refusal place) =
+    record { tokens = []; answer = Answer.Refused refusal (span_at src (span_of s) place); session = s }
 handed_of src s Outcome.Wait = record { tokens = []; answer = Answer.Refused wait (span_of s); session = s }
 
 -- a has written, answered and left what is handed
@@ -203,7 +203,7 @@ pub hands_taking : {s : Session} {l q : List ℕ} {a : After} {h : Handed} → H
 hands_taking x = rw (wrote_new x.wrote, x.answer, x.session)
 
 full_lacks : (number : ℕ) (span : Span) → is_among number (list_full ∷ pool_full ∷ []) ≡ true
-    → lacks_room (Answer.Refused number span) ≡ true
+    → lacks_room (Answer.Refused refusal span) ≡ true
 unfolding lacks_room every
 full_lacks number span e = among_every (λ n. eqb n list_full || eqb n pool_full) (list_full ∷ pool_full ∷ []) refl number e
 
@@ -225,7 +225,7 @@ module _ (src : List ℕ) (s : Session) (l q : List ℕ) where
       (λ e f.
       let full = room_among (length l) (length q) s.tokens s.bytes (length pieces) (length (values pieces)) e in
       absurd (false≢true (sym f ∙ full_lacks (room src s l q pieces) (span_of s) full)))
-  settled_hands (Outcome.Refused number place) =
+  settled_hands (Outcome.Refused refusal place) =
       λ f. record { wrote = wrote_none s l q _; answer = refl; session = refl }
   settled_hands Outcome.Wait = λ f. record { wrote = wrote_none s l q _; answer = refl; session = refl }
 
@@ -233,13 +233,13 @@ module _ (src : List ℕ) (s : Session) (l q : List ℕ) where
 abbrev pub Answered : Answer → Type 0
 Answered Answer.Done = Unit {0}
 Answered Answer.Finished = Unit {0}
-Answered (Answer.Refused number span) = ⊥
+Answered (Answer.Refused refusal span) = ⊥
 
 pub answered_room : (a : Answer) → Answered a → lacks_room a ≡ false
 unfolding lacks_room
 answered_room Answer.Done r = refl
 answered_room Answer.Finished r = refl
-answered_room (Answer.Refused number span) r = absurd r
+answered_room (Answer.Refused refusal span) r = absurd r
 
 module _ (call : Call) (src : List ℕ) (end : Bool) (s : Session) (l q : List ℕ) where
   abbrev outcome : Outcome

@@ -63,8 +63,8 @@ module _ (src : List ℕ) (s : Session) (l q : List ℕ) where
       → o ≡ Outcome.Wait
   settled_wait (Outcome.Told pieces after change finished) hi i e =
       absurd (false≢true (sym (settled_other (Outcome.Told pieces after change finished) hi i told_waits) ∙ e))
-  settled_wait (Outcome.Refused number place) hi i e =
-      absurd (false≢true (sym (settled_other (Outcome.Refused number place) hi i refused_waits) ∙ e))
+  settled_wait (Outcome.Refused refusal place) hi i e =
+      absurd (false≢true (sym (settled_other (Outcome.Refused refusal place) hi i refused_waits) ∙ e))
   settled_wait Outcome.Wait hi i e = refl
 
   settled_six : (o : Outcome) → o ≡ Outcome.Wait → is_wait (settled src s l q o).turn.answer ≡ true

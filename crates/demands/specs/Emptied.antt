@@ -71,7 +71,7 @@ emptied s = record {
 }
 
 unfoldable pub lacks_room : Answer → Bool
-lacks_room (Answer.Refused number span) = eqb number list_full || eqb number pool_full
+lacks_room (Answer.Refused refusal span) = eqb number list_full || eqb number pool_full
 lacks_room Answer.Done = false
 lacks_room Answer.Finished = false
 

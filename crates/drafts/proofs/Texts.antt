@@ -159,7 +159,7 @@ module _ (place n : ℕ) (xs : List ℕ) where
   text_read_literal Mode.Nowdoc r z = absurd (z refl)
 
   text_read_refused : (mode : Mode) (number fault : ℕ)
-      → text_read mode place n xs (unit.Refused number fault) ≡ Outcome.Refused number fault
+      → text_read mode place n xs (unit.Refused refusal fault) ≡ Outcome.Refused refusal fault
   unfolding text_read texted literal
   text_read_refused Mode.Single number fault = refl
   text_read_refused (Mode.Double octals) number fault = refl
@@ -232,7 +232,7 @@ reading_placed : (m : Mode) (at hi : ℕ) (xs : List ℕ) (r : unit.Reading) →
     → Placed at (text-scans.measured r)
 unfolding text-scans.measured Placed
 reading_placed m at hi xs (unit.Text value stop from after) i = (i.fits, i.order)
-reading_placed m at hi xs (unit.Refused number place) i = tt
+reading_placed m at hi xs (unit.Refused refusal place) i = tt
 reading_placed m at hi xs unit.Wait i = tt
 
 -- a held draft's value stands in the scratch part
@@ -319,7 +319,7 @@ module _ (mode : Mode) (src : List ℕ) (label : Label) (end : Bool) (at : ℕ) 
           (text_makes string_part at) (faults mode) found e (rw e at (rw (all_left src at here.inside) at within))))
           (λ t. rw (text_read_literal place at xs mode found (eqb-false kind 0 t))
           (literal-plans kind (is_left stop) from after stop value refl e))
-      text_plans (unit.Refused number fault) e =
+      text_plans (unit.Refused refusal fault) e =
           rw (text_read_refused place at (drop at src) mode number fault) (refused_plans src end number fault)
       text_plans unit.Wait e = rw (text_read_waits place at (drop at src) mode) (wait_plans src end)
 

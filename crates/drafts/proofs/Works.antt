@@ -77,8 +77,8 @@ measures scan (unit.Text value stop' from' after') len stop from after s a =
     let y : after' ≡ after = cc in
     let w : len ≡ length value = cc in
     record { value = value; same = rw (v, x, y); size = w }
-measures scan (unit.Refused number place) len stop from after s a =
-    let z : Scanned.Text len stop from after ≡ Scanned.Refused number place = sym a ∙ s in
+measures scan (unit.Refused refusal place) len stop from after s a =
+    let z : Scanned.Text len stop from after ≡ Scanned.Refused refusal place = sym a ∙ s in
     absurd (let y : ◌≡◌ {A = ℕ} 0 1 = cc in omega arith)
 measures scan unit.Wait len stop from after s a =
     let z : Scanned.Text len stop from after ≡ Scanned.Wait = sym a ∙ s in
@@ -99,7 +99,7 @@ module _ {scratch : List ℕ} (mode : Mode) (src : List ℕ) (end : Bool) (at : 
       (λ k. copied_draft (stop_kind mode stop) (stop_detail stop) k from after)
       (makes value stop from after e)
       (λ k. copied_ready src end (stop_kind mode stop) (stop_detail stop) k from after i.order i.inside))
-  read-plans (unit.Refused number place) e i = record { told = refl; ready = tt }
+  read-plans (unit.Refused refusal place) e i = record { told = refl; ready = tt }
   read-plans unit.Wait e i = record { told = refl; ready = tt }
 
   scan_plans : unit-inside.InsideReading numbers at (length src) read → (scan arm : Scanned) → scan ≡ text-scans.measured read → scan ≡ arm

@@ -66,7 +66,7 @@ text_plan mode part stop from after =
 -- where a text of so many bytes before a stop makes this draft
 unfoldable pub text_work : Mode → (ℕ → Stop → ℕ → Draft) → Scanned → Plan
 text_work mode draft (Scanned.Text len stop from after) = text_plan mode (draft len stop from) stop from after
-text_work mode draft (Scanned.Refused number place) = Plan.Refused number place
+text_work mode draft (Scanned.Refused refusal place) = Plan.Refused refusal place
 text_work mode draft Scanned.Wait = Plan.Wait
 
 unfoldable pub literal_kind : Mode → ℕ
@@ -83,7 +83,7 @@ literal_plan d left after = one_plan d after (if left then Change.Swap Frame.Dou
 
 unfoldable pub Placed : ℕ → Scanned → Type 0
 Placed at (Scanned.Text len stop from after) = (at + len + gap stop ≤ from) × (from ≤ after)
-Placed at (Scanned.Refused number place) = Unit {0}
+Placed at (Scanned.Refused refusal place) = Unit {0}
 Placed at Scanned.Wait = Unit {0}
 
 -- the text starts at `at`; a literal's token bears the span of `place`; the scratch part has `room` bytes
@@ -95,7 +95,7 @@ read_plan mode place label at room (Scanned.Text len stop from after) =
     (text_draft (if is_left stop then string_part else literal_kind mode) place making at len stop from)
     (is_left stop)
     after
-read_plan mode place label at room (Scanned.Refused number fault) = Plan.Refused number fault
+read_plan mode place label at room (Scanned.Refused refusal fault) = Plan.Refused refusal fault
 read_plan mode place label at room Scanned.Wait = Plan.Wait
 
 unfoldable pub number_plan : ℕ → ℕ → Literal → ℕ → ℕ → Plan

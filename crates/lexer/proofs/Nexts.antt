@@ -37,14 +37,14 @@ module _ (src : List ℕ) (s : Session) (l q : List ℕ) where
       → P (Outcome.Told pieces after change finished) (written pieces after change finished))
       → ((pieces : List Piece) (after : ℕ) (change : Change) (finished : Bool)
       → P (Outcome.Told pieces after change finished) (refusing (room pieces) (span_of s) s l q))
-      → ((number place : ℕ) → P (Outcome.Refused number place) (refusing number (span_at src (span_of s) place) s l q))
+      → ((number place : ℕ) → P (Outcome.Refused refusal place) (refusing number (span_at src (span_of s) place) s l q))
       → P Outcome.Wait (refusing wait (span_of s) s l q)
       → (o : Outcome) → P o (settled src s l q o)
   unfolding reached frames_after depth_after
   settled_cases P told full refused waits (Outcome.Told pieces after change finished) =
       choice (λ (r : Reached). P (Outcome.Told pieces after change finished) (reaching s r)) (eqb (room pieces) 0) _ _
       (λ e. told pieces after change finished (eqb-true _ _ e)) (λ e. full pieces after change finished)
-  settled_cases P told full refused waits (Outcome.Refused number place) = refused number place
+  settled_cases P told full refused waits (Outcome.Refused refusal place) = refused number place
   settled_cases P told full refused waits Outcome.Wait = waits
 
 module _ (src : List ℕ) (m : Mark) (t : Tables) (depth : ℕ) where
@@ -65,5 +65,5 @@ module _ (src : List ℕ) (m : Mark) (t : Tables) (depth : ℕ) where
       (λ e. told_free pieces after (Change.Enter f) finished (lt-leb 64 depth (ltb-true depth 64 e)))
       (λ e. refl)
   limited_free n (Outcome.Told pieces after Change.Leave finished) = told_free pieces after Change.Leave finished refl
-  limited_free n (Outcome.Refused number place) = refl
+  limited_free n (Outcome.Refused refusal place) = refl
   limited_free n Outcome.Wait = refl

@@ -90,7 +90,7 @@ module _ (src : List ℕ) (end : Bool) where
   goes_plans after change = record { told = refl; ready = record { few = omega arith; all = tt } }
 
   pub refused_plans : {scratch : List ℕ} (number place : ℕ)
-      → PlansIn src end scratch (Outcome.Refused number place) (Plan.Refused number place)
+      → PlansIn src end scratch (Outcome.Refused refusal place) (Plan.Refused refusal place)
   unfolding outcome_of
   refused_plans number place = record { told = refl; ready = tt }
 
@@ -165,7 +165,7 @@ module _ (src : List ℕ) (end : Bool) (scratch : List ℕ) where
 
   ready_in : (r : Plan) → PlanReady r src end [] → PlanReady r src end scratch
   ready_in (Plan.Told w) r = record { few = r.few; all = all_in (drafts_of w.drafts) r.all }
-  ready_in (Plan.Refused number place) r = tt
+  ready_in (Plan.Refused refusal place) r = tt
   ready_in Plan.Wait r = tt
 
   pub plans_in : (o : Outcome) (r : Plan) → Plans src end o r → PlansIn src end scratch o r

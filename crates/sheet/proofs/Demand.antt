@@ -127,13 +127,13 @@ module _ (label : List ℕ) (h : Label label) where
 -- a block that is closed neither waits nor misses its closing line, and enters no frame
 abbrev Tells : Reading → Type 0
 Tells (Reading.Text value stop from after) = enters stop ≡ false
-Tells (Reading.Refused refusal place) = number ≡ 1 → ⊥
+Tells (Reading.Refused refusal place) = refusal ≡ Refusal.UnexpectedEndOfFile → ⊥
 Tells Reading.Wait = ⊥
 
 filled_tells : (t : Text) (ind : Indentation) (amount place after : ℕ) → Tells (filled t ind amount place after)
 unfolding filled
 filled_tells (Kept text) ind amount place after = refl
-filled_tells (Stray p) ind amount place after = λ e. omega arith
+filled_tells (Stray p) ind amount place after = λ e. cc
 
 stripped_tells : (size n : ℕ) (body : List (List ℕ)) (ind : Indentation) (amount place : ℕ)
     → Tells (stripped size n body ind amount place)
@@ -141,13 +141,13 @@ unfolding stripped
 stripped_tells size n body Indentation.None amount place = filled_tells _ _ _ _ _
 stripped_tells size n body Indentation.Space amount place = filled_tells _ _ _ _ _
 stripped_tells size n body Indentation.Tab amount place = filled_tells _ _ _ _ _
-stripped_tells size n body Indentation.Mixed amount place = λ e. omega arith
+stripped_tells size n body Indentation.Mixed amount place = λ e. cc
 
 tells_missing : (p : ℕ) (r : Reading) (q : ℕ) → Tells r → ending p r ≡ Reading.Refused Refusal.UnexpectedEndOfFile q → ⊥
 tells_missing p (Reading.Text value stop from after) q t e =
     let z : Reading.Text [] Stop.Quote 0 0 ≡ Reading.Refused Refusal.UnexpectedEndOfFile q = rw t at e in
     clash cc
-tells_missing p (Reading.Refused refusal place) q t e = t (let z : number ≡ 1 = cc in z)
+tells_missing p (Reading.Refused refusal place) q t e = t (let z : refusal ≡ Refusal.UnexpectedEndOfFile = cc in z)
 tells_missing p Reading.Wait q t e = t
 
 answered_wait : (size n : ℕ) (b : Block) → answered size n b ≡ Reading.Wait → b ≡ Open

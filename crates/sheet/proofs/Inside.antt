@@ -157,7 +157,7 @@ module _ (label : List ℕ) (end : Bool) where
 -- ---- the body
 
 -- what a sheet may refuse
-abbrev pub sheet_faults : List ℕ
+abbrev pub sheet_faults : List Refusal
 sheet_faults = unexpected_end_of_file ∷ invalid_doc_indentation ∷ stray_indentation ∷ []
 
 -- what is left of so many bytes from n on
@@ -235,7 +235,7 @@ pub record SheetStands (size n hi : ℕ) (xs value : List ℕ) (stop : Stop) (fr
 
 abbrev pub StandsSheet : ℕ → ℕ → ℕ → List ℕ → Reading → Type 0
 StandsSheet size n hi xs (Reading.Text value stop from after) = SheetStands size n hi xs value stop from after
-StandsSheet size n hi xs (Reading.Refused refusal place) = FaultInside sheet_faults n hi number place
+StandsSheet size n hi xs (Reading.Refused refusal place) = FaultInside sheet_faults n hi refusal place
 StandsSheet size n hi xs Reading.Wait = Unit {0}
 
 module _ (size n : ℕ) (xs : List ℕ) (body : List (List ℕ)) (ind : Indentation) (amount place : ℕ)
