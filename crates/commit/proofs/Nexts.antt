@@ -9,6 +9,7 @@ use lib.ListN.{length}
 use mir.Syntax.{w32}
 use mir.Val.{Fits}
 use borrow.Author.Tests.{leb-true, leb-false, ne_eqb, le-ltb, lt-ltb}
+use Rattle.std.specs.Prelude.{Result, Ok, Err}
 use Rattle.source.specs.declared.Span.{Span}
 use Rattle.state.specs.declared.Answer.{Answer}
 use Rattle.token.specs.Records.{room_refusal}
@@ -67,20 +68,20 @@ module _ (src : List ℕ) (end : Bool) (scratch : List ℕ) (m : Mark) (w : Work
     pub work_len : Fits w32 total
     work_len = record { fits = omega (arith, work_total.1) }
 
-    module _ (number : ℕ) (e : number ≡ room_refusal (length l) (length q) m.tokens m.bytes w.drafts.count total) where
-      room_pieces : number ≡ room_for m (record { list = l; pool = q }) (pieces_of src end w.drafts)
+    module _ (told : Result (Unit {0}) Refusal) (e : told ≡ room_refusal (length l) (length q) m.tokens m.bytes w.drafts.count total) where
+      room_pieces : told ≡ room_for m (record { list = l; pool = q }) (pieces_of src end w.drafts)
       room_pieces = e ∙ rw (t, work_count, work_values)
 
-      pub work_refused : (r : Next) → (number ≡ 0 → ⊥) → r ≡ stays number m.span m
+      pub work_refused : (r : Next) (refusal : Refusal) → told ≡ Err refusal → r ≡ stays refusal m.span m
           → Committed src m l q (outcome_of src end (Plan.Told w)) r l q
       unfolding outcome_of reached
-      work_refused r n h = record {
-        next = h ∙ rw (← room_pieces, ne_eqb number 0 n);
-        list = rw (← room_pieces, ne_eqb number 0 n);
-        pool = rw (← room_pieces, ne_eqb number 0 n);
+      work_refused r refusal n h = record {
+        next = h ∙ rw (← room_pieces, n);
+        list = rw (← room_pieces, n);
+        pool = rw (← room_pieces, n);
       }
 
-      module _ (z : number ≡ 0) where
+      module _ (z : told ≡ Ok tt) where
         room_open : (m.tokens + w.drafts.count ≤ length l / 8) × (m.bytes + total ≤ length q)
         room_open = room_facts (length l) (length q) m.tokens m.bytes w.drafts.count total (sym e ∙ z)
 
@@ -107,7 +108,7 @@ module _ (src : List ℕ) (end : Bool) (scratch : List ℕ) (m : Mark) (w : Work
             → r ≡ advanced src m w w.drafts.count total → Committed src m l q (outcome_of src end (Plan.Told w)) r l' q'
         unfolding outcome_of reached
         work_written r l' q' p h =
-            let same : room_for m (record { list = l; pool = q }) (pieces_of src end w.drafts) ≡ 0 = sym room_pieces ∙ z in
+            let same : room_for m (record { list = l; pool = q }) (pieces_of src end w.drafts) ≡ Ok tt = sym room_pieces ∙ z in
             record {
               next = h ∙ rw (t, same, work_count, work_values);
               list = p.list ∙ rw same;
@@ -143,14 +144,14 @@ module _ (src : List ℕ) (end : Bool) (scratch : List ℕ) (m : Mark) (depth : 
   unfolding outcome_of limited reached
   commit_wait r e h = rw e (record { next = h; list = refl; pool = refl })
 
-  module _ (number place : ℕ) (e : plan ≡ Plan.Refused refusal place) where
+  module _ (refusal : Refusal) (place : ℕ) (e : plan ≡ Plan.Refused refusal place) where
     pub commit_behind : Ahead src m.span place
     unfolding outcome_of
     commit_behind =
-        let i : PlaceInside m.span.position (length src) number place = (rw e at f).inside in
+        let i : PlaceInside m.span.position (length src) refusal place = (rw e at f).inside in
         record { cursor = f.marked.cursor; low = i.low; high = i.high }
 
-    pub commit_refused : (r : Next) (span : Span) → span ≡ span_at src m.span place → r ≡ stays number span m
+    pub commit_refused : (r : Next) (span : Span) → span ≡ span_at src m.span place → r ≡ stays refusal span m
         → Committed src m l q outcome r l q
     unfolding outcome_of limited reached
     commit_refused r span p h = rw e (record { next = h ∙ rw p; list = refl; pool = refl })

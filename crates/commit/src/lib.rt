@@ -49,8 +49,8 @@ pub fn span_at(src: &[u8], p: Span, place: usize) -> Span
 }
 
 // A refusal: the numbers are as they were.
-fn stay(number: u32, span: Span, m: Mark) -> Next
-    ensures { result ≡ stays number span m }
+fn stay(refusal: Refusal, span: Span, m: Mark) -> Next
+    ensures { result ≡ stays refusal span m }
 {
     Next {
         answer: Answer::Refused { refusal, span },
@@ -280,9 +280,9 @@ fn write_work(
     let drafts = w.drafts;
     let count = drafts.count;
     let len = total(drafts) as u32;
-    let number = token::room(list.len(), pool.len(), m.tokens, m.bytes, count, len);
-    if number != 0 {
-        return stay(number, m.span, m);
+    let room = token::room(list.len(), pool.len(), m.tokens, m.bytes, count, len);
+    if let Err(refusal) = room {
+        return stay(refusal, m.span, m);
     }
     put_drafts(src, end, m, w, scratch, list, pool);
     advance(src, m, w, count, len)
@@ -313,7 +313,7 @@ pub fn commit(
         }
         Plan::Refused { refusal, place } => {
             let span = span_at(src, m.span, place);
-            stay(number, span, m)
+            stay(refusal, span, m)
         }
         Plan::Wait => stay(Refusal::Wait, m.span, m),
     }

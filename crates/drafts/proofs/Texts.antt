@@ -5,6 +5,7 @@
 --   text_planned   the same of what the scan answered
 use Rattle.std.specs.Prelude.{if◌then◌else◌}
 use Prim.Native.Nat.{ℕ, ◌+◌, ◌≤◌}
+use Rattle.byte.specs.declared.Refusal.{Refusal}
 use mathlib.Core.Path.{◌≡◌, refl, sym, ap, ◌∙◌}
 use mathlib.Core.Bool.{Bool, true, false, false≢true}
 use mathlib.Core.List.{List, [], ◌∷◌}
@@ -158,15 +159,15 @@ module _ (place n : ℕ) (xs : List ℕ) where
   text_read_literal (Mode.Heredoc octals) r z = absurd (z refl)
   text_read_literal Mode.Nowdoc r z = absurd (z refl)
 
-  text_read_refused : (mode : Mode) (number fault : ℕ)
+  text_read_refused : (mode : Mode) (refusal : Refusal) (fault : ℕ)
       → text_read mode place n xs (unit.Refused refusal fault) ≡ Outcome.Refused refusal fault
   unfolding text_read texted literal
-  text_read_refused Mode.Single number fault = refl
-  text_read_refused (Mode.Double octals) number fault = refl
-  text_read_refused (Mode.DoubleQuote octals) number fault = refl
-  text_read_refused Mode.ShellExec number fault = refl
-  text_read_refused (Mode.Heredoc octals) number fault = refl
-  text_read_refused Mode.Nowdoc number fault = refl
+  text_read_refused Mode.Single refusal fault = refl
+  text_read_refused (Mode.Double octals) refusal fault = refl
+  text_read_refused (Mode.DoubleQuote octals) refusal fault = refl
+  text_read_refused Mode.ShellExec refusal fault = refl
+  text_read_refused (Mode.Heredoc octals) refusal fault = refl
+  text_read_refused Mode.Nowdoc refusal fault = refl
 
   text_read_waits : (mode : Mode) → text_read mode place n xs unit.Wait ≡ Outcome.Wait
   unfolding text_read texted literal
@@ -320,7 +321,7 @@ module _ (mode : Mode) (src : List ℕ) (label : Label) (end : Bool) (at : ℕ) 
           (λ t. rw (text_read_literal place at xs mode found (eqb-false kind 0 t))
           (literal-plans kind (is_left stop) from after stop value refl e))
       text_plans (unit.Refused refusal fault) e =
-          rw (text_read_refused place at (drop at src) mode number fault) (refused_plans src end number fault)
+          rw (text_read_refused place at (drop at src) mode refusal fault) (refused_plans src end refusal fault)
       text_plans unit.Wait e = rw (text_read_waits place at (drop at src) mode) (wait_plans src end)
 
   module _ (part : List ℕ) (p : part ≡ label_bytes src label) (dst : List ℕ) (scan : Scanned)

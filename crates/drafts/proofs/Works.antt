@@ -2,6 +2,7 @@
 --   read-plans, number_plans   the plan of a reading that was measured makes its outcome
 --   .. -arm                    the same on each arm of a match on the scan
 use Prim.Native.Nat.{ℕ, ◌+◌, ◌-◌, ◌≤◌}
+use Rattle.byte.specs.declared.Refusal.{Refusal}
 use mathlib.Core.Path.{◌≡◌, refl, sym, ◌∙◌}
 use mathlib.Core.Bool.{Bool}
 use mathlib.Core.List.{List, []}
@@ -89,8 +90,8 @@ module _ {scratch : List ℕ} (mode : Mode) (src : List ℕ) (end : Bool) (at : 
     (read : unit.Reading)
     (makes : (value : List ℕ) (stop : Stop) (from after : ℕ) → read ≡ unit.Text value stop from after
     → Makes src end scratch (piece string_part at value) (draft (length value) stop from))
-    (numbers : List ℕ) where
-  pub read-plans : (r : unit.Reading) → read ≡ r → unit-inside.InsideReading numbers at (length src) r
+    (refusals : List Refusal) where
+  pub read-plans : (r : unit.Reading) → read ≡ r → unit-inside.InsideReading refusals at (length src) r
       → PlansIn src end scratch (texted mode at (drop at src) r) (text_work mode draft (text-scans.measured r))
   unfolding texted text_work text_plan text-scans.measured made_by outcome_of
   read-plans (unit.Text value stop from after) e i =
@@ -102,7 +103,7 @@ module _ {scratch : List ℕ} (mode : Mode) (src : List ℕ) (end : Bool) (at : 
   read-plans (unit.Refused refusal place) e i = record { told = refl; ready = tt }
   read-plans unit.Wait e i = record { told = refl; ready = tt }
 
-  scan_plans : unit-inside.InsideReading numbers at (length src) read → (scan arm : Scanned) → scan ≡ text-scans.measured read → scan ≡ arm
+  scan_plans : unit-inside.InsideReading refusals at (length src) read → (scan arm : Scanned) → scan ≡ text-scans.measured read → scan ≡ arm
       → (r : Plan) → r ≡ text_work mode draft arm → PlansIn src end scratch (texted mode at (drop at src) read) r
   scan_plans i scan arm s a r e =
       let work : r ≡ text_work mode draft (text-scans.measured read) = e ∙ rw (← a, s) in

@@ -1,6 +1,7 @@
 -- The plans that the modes make, and the outcomes that they stand for. Assumes nothing.
 use Rattle.std.specs.Prelude.{if◌then◌else◌}
 use Prim.Native.Nat.{ℕ, suc, ◌+◌, ◌-◌, ◌≤◌}
+use Rattle.byte.specs.declared.Refusal.{Refusal}
 use mathlib.Core.Path.{◌≡◌, refl, sym, ◌∙◌}
 use mathlib.Core.Bool.{Bool, true, false}
 use mathlib.Core.List.{List, [], ◌∷◌, ◌++◌}
@@ -89,10 +90,10 @@ module _ (src : List ℕ) (end : Bool) where
   unfolding outcome_of pieces
   goes_plans after change = record { told = refl; ready = record { few = omega arith; all = tt } }
 
-  pub refused_plans : {scratch : List ℕ} (number place : ℕ)
+  pub refused_plans : {scratch : List ℕ} (refusal : Refusal) (place : ℕ)
       → PlansIn src end scratch (Outcome.Refused refusal place) (Plan.Refused refusal place)
   unfolding outcome_of
-  refused_plans number place = record { told = refl; ready = tt }
+  refused_plans refusal place = record { told = refl; ready = tt }
 
   pub wait_plans : {scratch : List ℕ} → PlansIn src end scratch Outcome.Wait Plan.Wait
   unfolding outcome_of
