@@ -5,7 +5,7 @@ use mathlib.Core.Path.{◌≡◌, refl, sym, ap, ◌∙◌}
 use mathlib.Core.Bool.{Bool, true, false, ◌||◌, false≢true}
 use mathlib.Core.List.{List, [], ◌∷◌}
 use lib.Dec.{eqb}
-use borrow.Author.Tests.{eqb-true}
+use borrow.Author.Tests.{eqb-true, eq-eqb}
 use Rattle.byte.specs.declared.Refusal.{Refusal}
 use Rattle.byte.specs.Refusals.{number_of, is_same, is_among}
 use Rattle.byte.specs.Words.{every}
@@ -48,6 +48,9 @@ number_of_one a b e = sym (back a) ∙ ap refusal_of e ∙ back b
 
 pub is_same_one : (a b : Refusal) → is_same a b ≡ true → a ≡ b
 is_same_one a b e = number_of_one a b (eqb-true (number_of a) (number_of b) e)
+
+pub same_here : (a b : Refusal) → a ≡ b → is_same a b ≡ true
+same_here a b e = eq-eqb (number_of a) (number_of b) (ap number_of e)
 
 pub number_of_some : (r : Refusal) → eqb (number_of r) 0 ≡ false
 number_of_some Refusal.UnexpectedEndOfFile = refl

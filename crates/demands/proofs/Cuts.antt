@@ -91,7 +91,7 @@ wait_kept : (a : Answer) (src : List ℕ) (s : Session) (l q : List ℕ) → (st
 unfolding is_wait
 wait_kept Answer.Done src s l q e f = absurd (false≢true f)
 wait_kept Answer.Finished src s l q e f = absurd (false≢true f)
-wait_kept (Answer.Refused refusal span) src s l q e f = (call_kept src s l q Call.Step false).back number span e
+wait_kept (Answer.Refused refusal span) src s l q e f = (call_kept src s l q Call.Step false).back refusal span e
 
 module _ (part rest : List ℕ) (bytes : every is_byte part ≡ true) (short : length (part ++ rest) ≤ 65536) where
   part_short : length part ≤ 65536

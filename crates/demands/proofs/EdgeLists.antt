@@ -52,7 +52,7 @@ module _ (src : List ℕ) (s : Session) (l q : List ℕ) where
       (λ h.
       settled_cases src s l q (λ o a. Grows s l q a)
       (λ pieces after change finished e. written_grows src s l q pieces after change finished e)
-      (λ pieces after change finished. grows_none s l q _) (λ number place. grows_none s l q _)
+      (λ pieces after change finished refusal e. grows_none s l q _) (λ refusal place. grows_none s l q _)
       (grows_none s l q _) (call_outcome c src end s))
       (λ number e. grows_none s l q _)
 

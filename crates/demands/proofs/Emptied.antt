@@ -13,6 +13,7 @@ use mathlib.Core.List.{List, [], ◌∷◌, ◌++◌}
 use native.Mathlib.Omega.{arith}
 use lib.ListN.{length, length-append}
 use borrow.Author.Tests.{eqb-true}
+use Rattle.byte.proofs.Refusals.{is_same_one}
 use Rattle.byte.specs.Refusals.{wait}
 use Rattle.byte.specs.Words.{every}
 use Rattle.byte.specs.Demand.{is_byte}
@@ -237,7 +238,7 @@ wait_room : (a : Answer) → is_wait a ≡ true → lacks_room a ≡ false
 unfolding is_wait lacks_room
 wait_room Answer.Done e = refl
 wait_room Answer.Finished e = refl
-wait_room (Answer.Refused refusal span) e = rw (eqb-true number wait e)
+wait_room (Answer.Refused refusal span) e = rw (is_same_one refusal wait e)
 
 joined_longer : (src : List ℕ) (parts : List (List ℕ)) → length src ≤ length (joined src parts)
 unfolding joined

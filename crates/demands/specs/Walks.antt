@@ -9,8 +9,8 @@
 --   joined       the script that parts make
 --   fed          a script in parts: each part is stepped, with more announced, up to a wait; the next part comes after
 --                it, the session, list and pool as the wait found them; after the last part the end is announced
-use Rattle.std.specs.Prelude.{ℕ, zero, suc, Bool, true, false, List, [], ◌∷◌, ◌++◌, eqb, if◌then◌else◌}
-use Rattle.byte.specs.Refusals.{wait}
+use Rattle.std.specs.Prelude.{ℕ, zero, suc, Bool, true, false, List, [], ◌∷◌, ◌++◌, if◌then◌else◌}
+use Rattle.byte.specs.Refusals.{wait, is_same}
 use Rattle.state.specs.declared.Answer.{Answer}
 use Rattle.state.specs.declared.Session.{Session}
 use Rattle.state.specs.Calls.{done}
@@ -59,7 +59,7 @@ is_done Answer.Finished = false
 is_done (Answer.Refused refusal span) = false
 
 unfoldable pub is_wait : Answer → Bool
-is_wait (Answer.Refused refusal span) = eqb number wait
+is_wait (Answer.Refused refusal span) = is_same refusal wait
 is_wait Answer.Done = false
 is_wait Answer.Finished = false
 

@@ -1,5 +1,6 @@
 -- What an outcome comes to, case by case, and that its change of frame finds its place. Assumes nothing.
 --   room, written   what room there is for pieces; an answer, and what is written
+--   shut_cases      what holds behind an open gate and a shut one holds of both
 --   roomy_cases     what holds with room and without it holds of both
 --   settled_cases   one walk over the cases of `settled`, for whatever is to be shown of it
 --   limited_free    a step that refuses keeps the frame, and one that goes on has passed the limit
@@ -20,7 +21,24 @@ use Rattle.outcome.specs.Outcomes.{Piece, Outcome, limited}
 use Rattle.commit.specs.declared.Mark.{Mark}
 use Rattle.commit.specs.Records.{span_at, Tables, put, room_for, Reached, advances, stays, roomy, reached}
 use Rattle.commit.specs.Code.{is_full}
+use Rattle.source.specs.Cursor.{origin}
+use Rattle.lexer.specs.Calls.{unless_shut}
 use Rattle.lexer.specs.Turns.{After, frames_after, depth_after, mark_of, refusing, reaching, settled}
+
+-- what holds behind an open gate and a shut one holds of both
+pub shut_cases : (P : After → Type 0) (told : Result (Unit {0}) Refusal) (s : Session) (l q : List ℕ) (a : After)
+    → (told ≡ Ok tt → P a) → ((refusal : Refusal) → told ≡ Err refusal → P (refusing refusal origin s l q))
+    → P (unless_shut told s l q a)
+shut_cases P (Ok tt) s l q a f g = f refl
+shut_cases P (Err refusal) s l q a f g = g refusal refl
+
+-- and of two sessions behind one gate
+pub shut_both : (P : After → After → Type 0) (told : Result (Unit {0}) Refusal) (s s' : Session) (l q : List ℕ) (a a' : After)
+    → (told ≡ Ok tt → P a a')
+    → ((refusal : Refusal) → told ≡ Err refusal → P (refusing refusal origin s l q) (refusing refusal origin s' l q))
+    → P (unless_shut told s l q a) (unless_shut told s' l q a')
+shut_both P (Ok tt) s s' l q a a' f g = f refl
+shut_both P (Err refusal) s s' l q a a' f g = g refusal refl
 
 -- what holds with room and without it holds of both
 pub roomy_cases : (P : Reached → Type 0) (told : Result (Unit {0}) Refusal) (m : Mark) (t : Tables) (written : Reached)

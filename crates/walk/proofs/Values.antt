@@ -49,7 +49,7 @@ module _ (call : Call) (src : List ℕ) (end : Bool) (s : Session) (l q : List �
       → Same (called_on call most src end s l q)
   unfolding called_on is_done
   unwritten zero e =
-      choice Same (eqb (lent_refusal src (length l) (length q) s) 0) _ _ (λ t. (refl, refl, refl))
+      shut_cases Same (lent_refusal src (length l) (length q) s) s l q _ (λ t. (refl, refl, refl))
       (λ t. (refl, refl, refl))
   unwritten (suc n) e =
       let one = called call src end s l q in
