@@ -3,3 +3,4 @@ pub mod Words
 pub mod Laid
 pub mod Demand
 pub mod Table
+pub mod Refusals

@@ -1,6 +1,6 @@
 -- Laws of tests and of statements: a conjunction, a byte that is none of four, a choice that a test decides, the
 -- arms of a match, a refusal that was not given, and that a statement `r ≡ ..` has one result. Assumes nothing.
-use Rattle.std.specs.Prelude.{if◌then◌else◌}
+use Rattle.std.specs.Prelude.{Result, Ok, Err, if◌then◌else◌}
 use Prim.Native.Nat.{ℕ, suc, ◌+◌}
 use mathlib.Core.Path.{◌≡◌, refl, sym, ◌∙◌}
 use mathlib.Core.Bool.{Bool, true, false, not, ◌&&◌, ◌||◌, false≢true}
@@ -8,6 +8,7 @@ use native.Mathlib.Omega.{arith}
 use native.Mathlib.Numerals.{add-one}
 use lib.Dec.{eqb}
 use borrow.Author.Tests.{eq-eqb, ne_eqb, not-true}
+use Rattle.byte.specs.declared.Refusal.{Refusal}
 use Rattle.byte.specs.Bytes.{is_none_of}
 
 -- both sides of a conjunction that holds
@@ -92,9 +93,9 @@ suc_one n = sym (add-one n)
 pub ruleset arms = (arm_here, arm_none, arm_later, either_here, either_none, flag_true, flag_false, suc_one)
 
 -- where the refusal is 0, its test passed, and so did those after it
-pub unrefused : (t : Bool) (later number : ℕ) → (if t then later else suc number) ≡ 0 → (t ≡ true) × (later ≡ 0)
-unrefused true later number e = (refl, e)
-unrefused false later number e = absurd (omega arith)
+pub unrefused : (t : Bool) (later : Result (Unit {0}) Refusal) (refusal : Refusal) → (if t then later else Err refusal) ≡ Ok tt → (t ≡ true) × (later ≡ Ok tt)
+unrefused true later refusal e = (refl, e)
+unrefused false later refusal e = cc
 
 -- two results that meet one statement are equal: of every function whose contract says `r ≡ ..`
 pub one_result : {A : Type 0} (stated r r' : A) → r ≡ stated → r' ≡ stated → r ≡ r'

@@ -3,8 +3,9 @@
 --   bytes             the bytes of a text in quotes
 --   every             whether all that a list holds passes a test
 --   run               how many bytes from the first on pass a test
+--   is_one_of         whether a number stands in a list
 --   announced         whether a host's number says that the end is announced: any but 0
-use Rattle.std.specs.Prelude.{ℕ, suc, Bool, true, false, not, ◌&&◌, List, [], ◌∷◌, leb, eqb, if◌then◌else◌}
+use Rattle.std.specs.Prelude.{ℕ, suc, Bool, true, false, not, ◌||◌, ◌&&◌, List, [], ◌∷◌, leb, eqb, if◌then◌else◌}
 use Prim.Native.Char.{Char, code}
 use Prim.Native.String.{String}
 
@@ -27,6 +28,10 @@ every test (a ∷ rest) = test a && every test rest
 unfoldable pub run : (ℕ → Bool) → List ℕ → ℕ
 run test [] = 0
 run test (b ∷ rest) = if test b then suc (run test rest) else 0
+
+unfoldable pub is_one_of : ℕ → List ℕ → Bool
+is_one_of number [] = false
+is_one_of number (n ∷ more) = eqb number n || is_one_of number more
 
 abbrev pub announced : ℕ → Bool
 announced end = not (eqb end 0)

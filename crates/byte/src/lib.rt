@@ -4,36 +4,56 @@
 
 ghost use Rattle.std.specs.Prelude.{◌≡◌, ◌≤◌, if◌then◌else◌};
 ghost use Rattle.byte.specs.Bytes.{is_digit, is_octal, is_hex, is_letter, is_start, is_identifier, is_blank, is_no_break, is_none_of};
+ghost use Rattle.byte.specs.Refusals.{number_of};
 ghost use Rattle.byte.specs.Classes.{is_sign, is_alone, classes_of};
 
 mod classes;
 
 // Why a call refuses (document 01, "Refusal numbers").
-pub const UNEXPECTED_END_OF_FILE: u32 = 1;
+#[derive(Clone, Copy, PartialEq, Eq)]
+pub enum Refusal {
+    UnexpectedEndOfFile,
+    InvalidUnicodeEscape,
+    InvalidOctalEscape,
+    InvalidDocIndentation,
+    // Neither arrow nor identifier where a property should stand.
+    NoProperty,
+    // More must come before this can be told.
+    Wait,
+    ListFull,
+    PoolFull,
+    // A frame would be the 65th.
+    StackFull,
+    // The call does not fit: a skip past the end, a pop of the last frame, a pushed label that is none, a reading without Scripting on top.
+    OutOfPlace,
+    TooLarge,
+    BadSession,
+    // Sheet reading: another byte inside the indentation.
+    StrayIndentation,
+}
 
-pub const INVALID_UNICODE_ESCAPE: u32 = 2;
+// The number by which a host knows a refusal.
+impl From<Refusal> for u32 {
+    ghost from_gives = { λ refusal number. number ≡ number_of refusal };
 
-pub const INVALID_OCTAL_ESCAPE: u32 = 3;
-
-pub const INVALID_DOC_INDENTATION: u32 = 4;
-// Neither arrow nor identifier where a property should stand.
-pub const NO_PROPERTY: u32 = 5;
-// More must come before this can be told.
-pub const WAIT: u32 = 6;
-
-pub const LIST_FULL: u32 = 7;
-
-pub const POOL_FULL: u32 = 8;
-// A frame would be the 65th.
-pub const STACK_FULL: u32 = 9;
-// The call does not fit: a skip past the end, a pop of the last frame, a pushed label that is none, a reading without Scripting on top.
-pub const OUT_OF_PLACE: u32 = 10;
-
-pub const TOO_LARGE: u32 = 11;
-
-pub const BAD_SESSION: u32 = 12;
-// Sheet reading: another byte inside the indentation.
-pub const STRAY_INDENTATION: u32 = 13;
+    fn from(refusal: Refusal) -> u32 {
+        match refusal {
+            Refusal::UnexpectedEndOfFile => 1,
+            Refusal::InvalidUnicodeEscape => 2,
+            Refusal::InvalidOctalEscape => 3,
+            Refusal::InvalidDocIndentation => 4,
+            Refusal::NoProperty => 5,
+            Refusal::Wait => 6,
+            Refusal::ListFull => 7,
+            Refusal::PoolFull => 8,
+            Refusal::StackFull => 9,
+            Refusal::OutOfPlace => 10,
+            Refusal::TooLarge => 11,
+            Refusal::BadSession => 12,
+            Refusal::StrayIndentation => 13,
+        }
+    }
+}
 
 // What an octal escape over 255 stands for: `\400` to `\777`.
 #[derive(Clone, Copy)]

@@ -11,6 +11,7 @@ ghost use Rattle.unit.specs.declared.Stop.{Stop};
 ghost use Rattle.unit.specs.declared.TextUnit.{TextUnit};
 ghost use Rattle.unit.specs.Closers.{matched, indented, closer, line};
 
+use byte::Refusal;
 use unit::{Indentation, Match, Stop, TextUnit};
 
 // The label against the text from `at` on.
@@ -73,7 +74,7 @@ fn closer_of(size: usize, ind: Indentation, amount: usize, n: usize) -> TextUnit
 {
     match ind {
         Indentation::Mixed => TextUnit::Fault {
-            number: byte::INVALID_DOC_INDENTATION,
+            refusal: Refusal::InvalidDocIndentation,
             place: n,
         },
         Indentation::None | Indentation::Space | Indentation::Tab => TextUnit::Ends {

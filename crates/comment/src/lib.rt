@@ -8,6 +8,7 @@ ghost use Rattle.outcome.specs.Comments.{is_next, ends, end_taken, comment_end, 
 ghost use Rattle.plan.specs.Code.{Plans};
 ghost use Rattle.comment.specs.Code.{is_inner};
 
+use byte::Refusal;
 use outcome::{Change, CommentEnd, CommentKind};
 use plan::Plan;
 
@@ -95,7 +96,7 @@ fn endless(kind: CommentKind, src: &[u8], at: usize, end: bool) -> Plan
             plan::one_token(token::COMMENT, at, src.len() - at, Change::Keep)
         }
         CommentKind::MultiLine => Plan::Refused {
-            number: byte::UNEXPECTED_END_OF_FILE,
+            refusal: Refusal::UnexpectedEndOfFile,
             place: src.len(),
         },
     }

@@ -1,5 +1,9 @@
 -- From a plan to its next, on each way through `commit`. Assumes nothing.
 use Prim.Native.Nat.{ℕ, ◌+◌, ◌/◌, ◌≤◌}
+use Rattle.std.specs.Prelude.{Ok}
+use Rattle.std.specs.Prelude.{Err}
+use Rattle.std.specs.Prelude.{Result}
+use Rattle.byte.specs.declared.Refusal.{Refusal}
 use mathlib.Core.Path.{◌≡◌, refl, sym, ap, ◌∙◌}
 use mathlib.Core.Bool.{Bool, true, false, false≢true}
 use mathlib.Core.List.{List, [], ◌∷◌}
@@ -51,21 +55,21 @@ module _ (src : List ℕ) (end : Bool) (scratch : List ℕ) (m : Mark) (w : Work
     pub work_len : Fits w32 total
     work_len = record { fits = omega (arith, work_total) }
 
-    module _ (count : ℕ) (k : count ≡ length (drafts_of w.drafts)) (number : ℕ)
-        (e : number ≡ room_refusal (length l) (length q) m.tokens m.bytes count total) where
-      room_pieces : number ≡ room_for m (record { list = l; pool = q }) (pieces_of src end w.drafts)
+    module _ (count : ℕ) (k : count ≡ length (drafts_of w.drafts)) (told : Result (Unit {0}) Refusal)
+        (e : told ≡ room_refusal (length l) (length q) m.tokens m.bytes count total) where
+      room_pieces : told ≡ room_for m (record { list = l; pool = q }) (pieces_of src end w.drafts)
       room_pieces = e ∙ rw (k, t, work_count, work_values)
 
-      pub work_refused : (r : Next) → (number ≡ 0 → ⊥) → r ≡ stays number m.span m
+      pub work_refused : (r : Next) (refusal : Refusal) → told ≡ Err refusal → r ≡ stays refusal m.span m
           → Committed src m l q (outcome_of src end (Plan.Told w)) r l q
       unfolding outcome_of reached
-      work_refused r n h = record {
-        next = h ∙ rw (← room_pieces, ne_eqb number 0 n);
-        list = rw (← room_pieces, ne_eqb number 0 n);
-        pool = rw (← room_pieces, ne_eqb number 0 n);
+      work_refused r refusal n h = record {
+        next = h ∙ rw (← room_pieces, n);
+        list = rw (← room_pieces, n);
+        pool = rw (← room_pieces, n);
       }
 
-      module _ (z : number ≡ 0) where
+      module _ (z : told ≡ Ok tt) where
         room_open : (m.tokens + count ≤ length l / 8) × (m.bytes + total ≤ length q)
         room_open = room_facts (length l) (length q) m.tokens m.bytes count total (sym e ∙ z)
 
@@ -93,7 +97,7 @@ module _ (src : List ℕ) (end : Bool) (scratch : List ℕ) (m : Mark) (w : Work
             → r ≡ advanced src m w count total → Committed src m l q (outcome_of src end (Plan.Told w)) r l' q'
         unfolding outcome_of reached
         work_written after a r l' q' p h =
-            let same : room_for m (record { list = l; pool = q }) (pieces_of src end w.drafts) ≡ 0 = sym room_pieces ∙ z in
+            let same : room_for m (record { list = l; pool = q }) (pieces_of src end w.drafts) ≡ Ok tt = sym room_pieces ∙ z in
             record {
               next = h ∙ rw (k, t, same, work_count, work_values);
               list = p.list ∙ rw (a, same);
@@ -105,7 +109,7 @@ pub ruleset works = (work_total, work_len, work_refused, work_fits, work_advance
 -- the 64-frame limit
 module _ (depth n : ℕ) (pieces : List Piece) (after : ℕ) (finished : Bool) where
   limited_full : (change : Change) → is_full change depth ≡ true
-      → limited depth n (Outcome.Told pieces after change finished) ≡ Outcome.Refused 9 n
+      → limited depth n (Outcome.Told pieces after change finished) ≡ Outcome.Refused Refusal.StackFull n
   unfolding is_full limited
   limited_full Change.Keep e = absurd (false≢true e)
   limited_full (Change.Swap f) e = absurd (false≢true e)
@@ -125,28 +129,28 @@ module _ (src : List ℕ) (end : Bool) (scratch : List ℕ) (m : Mark) (depth : 
   abbrev outcome : Outcome
   outcome = limited depth m.span.position (outcome_of src end plan)
 
-  pub commit_wait : (r : Next) → plan ≡ Plan.Wait → r ≡ stays 6 m.span m → Committed src m l q outcome r l q
+  pub commit_wait : (r : Next) → plan ≡ Plan.Wait → r ≡ stays Refusal.Wait m.span m → Committed src m l q outcome r l q
   unfolding outcome_of limited reached
   commit_wait r e h = rw e (record { next = h; list = refl; pool = refl })
 
-  module _ (number place : ℕ) (e : plan ≡ Plan.Refused number place) where
+  module _ (refusal : Refusal) (place : ℕ) (e : plan ≡ Plan.Refused refusal place) where
     pub commit_behind : Ahead src m.span place
     unfolding outcome_of
     commit_behind =
-        let i : PlaceInside m.span.position (length src) number place = (rw e at f).inside in
+        let i : PlaceInside m.span.position (length src) refusal place = (rw e at f).inside in
         record { cursor = f.marked.cursor; low = i.low; high = i.high }
 
-    pub commit_refused : (r : Next) (span : Span) → span ≡ span_at src m.span place → r ≡ stays number span m
+    pub commit_refused : (r : Next) (span : Span) → span ≡ span_at src m.span place → r ≡ stays refusal span m
         → Committed src m l q outcome r l q
     unfolding outcome_of limited reached
     commit_refused r span p h = rw e (record { next = h ∙ rw p; list = refl; pool = refl })
 
   module _ (w : Work) (e : plan ≡ Plan.Told w) (full : Bool) (g : full ≡ is_full w.change depth) where
-    pub commit_full : (r : Next) → full ≡ true → r ≡ stays 9 m.span m → Committed src m l q outcome r l q
+    pub commit_full : (r : Next) → full ≡ true → r ≡ stays Refusal.StackFull m.span m → Committed src m l q outcome r l q
     unfolding outcome_of reached
     commit_full r t h =
         rw (e, limited_full depth m.span.position (pieces_of src end w.drafts) w.after w.finished w.change (sym g ∙ t))
-        (record { next = h ∙ ap (λ (p : Span). stays 9 p m) (sym (span_at_here src m.span)); list = refl; pool = refl })
+        (record { next = h ∙ ap (λ (p : Span). stays Refusal.StackFull p m) (sym (span_at_here src m.span)); list = refl; pool = refl })
 
     module _ (t : full ≡ false) where
       pub commit_works : Works src end scratch m w (length l) (length q)

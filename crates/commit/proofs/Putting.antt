@@ -7,6 +7,7 @@ use native.Mathlib.Omega.{arith}
 use lib.Dec.{leb}
 use lib.ListN.{length, length-append}
 use borrow.Author.Tests.{leb-true}
+use Rattle.std.specs.Prelude.{Ok}
 use Rattle.byte.specs.Laid.{laid}
 use Rattle.byte.proofs.Tests.{unrefused}
 use Rattle.byte.proofs.Laid.{laid_nil, laid_append, length_laid}
@@ -16,12 +17,12 @@ use Rattle.commit.specs.declared.Mark.{Mark}
 use Rattle.commit.specs.Records.{token_of, Tables, put_piece, past_piece, put, records}
 
 -- there is room
-pub room_facts : (list pool tokens bytes count len : ℕ) → room_refusal list pool tokens bytes count len ≡ 0
+pub room_facts : (list pool tokens bytes count len : ℕ) → room_refusal list pool tokens bytes count len ≡ Ok tt
     → (tokens + count ≤ list / 8) × (bytes + len ≤ pool)
 unfolding room_refusal
 room_facts list pool tokens bytes count len e =
-    let first = unrefused (leb (tokens + count) (list / 8)) _ 6 e in
-    let second = unrefused (leb (bytes + len) pool) 0 7 first.1 in
+    let first = unrefused (leb (tokens + count) (list / 8)) _ _ e in
+    let second = unrefused (leb (bytes + len) pool) _ _ first.1 in
     (leb-true _ _ first.0, leb-true _ _ second.0)
 
 pub records_length : (src : List ℕ) (after : ℕ) (m : Mark) (pieces : List Piece)

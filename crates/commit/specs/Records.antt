@@ -7,12 +7,14 @@
 --   put_piece, past_piece, put   a piece is put at the marks, the marks go past it, the next piece is put
 --   records                      the records of pieces; `put_laid` (proofs/Putting.antt) says that they and the values
 --                                stand from the marks on
---   room_for                     7 for more tokens than places left, then 8 for more value bytes than pool left, or 0
+--   room_for                     7 for more tokens than places left, then 8 for more value bytes than pool left, or neither
 --   answer_of                    done, or finished
 --   stays, advances              a refusal: the numbers are as they were; or an answer, and the numbers after the
 --                                pieces
+--   roomy     what is written where there is room, or a refusal
 --   reached   what contracts cite: room is asked after all that the outcome refuses
-use Rattle.std.specs.Prelude.{ℕ, ◌+◌, ◌-◌, ◌*◌, Bool, List, [], ◌∷◌, ◌++◌, eqb, length, take, drop, if◌then◌else◌}
+use Rattle.std.specs.Prelude.{ℕ, Result, Ok, Err, ◌+◌, ◌-◌, ◌*◌, Bool, List, [], ◌∷◌, ◌++◌, length, take, drop, if◌then◌else◌}
+use Rattle.byte.specs.declared.Refusal.{Refusal}
 use Rattle.byte.specs.Laid.{laid}
 use Rattle.byte.specs.Refusals.{wait}
 use Rattle.source.specs.Cursor.{passed}
@@ -61,7 +63,7 @@ records src after m [] = []
 records src after m (piece ∷ more) =
     record_of (token_of src after m piece) ++ records src after (past_piece m piece) more
 
-abbrev pub room_for : Mark → Tables → List Piece → ℕ
+abbrev pub room_for : Mark → Tables → List Piece → Result (Unit {0}) Refusal
 room_for m t pieces =
     room_refusal (length t.list) (length t.pool) m.tokens m.bytes (length pieces) (length (values pieces))
 
@@ -73,9 +75,9 @@ pub record Reached : Type 0 where
   pub next : Next
   pub tables : Tables
 
-abbrev pub stays : ℕ → Span → Mark → Next
-stays number span m = record {
-  answer = Answer.Refused number span;
+abbrev pub stays : Refusal → Span → Mark → Next
+stays refusal span m = record {
+  answer = Answer.Refused refusal span;
   mark = m;
   change = Change.Keep;
 }
@@ -91,11 +93,15 @@ advances src m pieces after change finished = record {
   change = change;
 }
 
+-- what is written where there is room, or a refusal
+abbrev pub roomy : Result (Unit {0}) Refusal → Mark → Tables → Reached → Reached
+roomy (Ok fits) m t written = written
+roomy (Err refusal) m t written = record { next = stays refusal m.span m; tables = t }
+
 unfoldable pub reached : List ℕ → Mark → Tables → Outcome → Reached
 reached src m t (Outcome.Told pieces after change finished) =
-    if eqb (room_for m t pieces) 0
-    then record { next = advances src m pieces after change finished; tables = put src after m t pieces }
-    else record { next = stays (room_for m t pieces) m.span m; tables = t }
-reached src m t (Outcome.Refused number place) =
-    record { next = stays number (span_at src m.span place) m; tables = t }
+    roomy (room_for m t pieces) m t
+    (record { next = advances src m pieces after change finished; tables = put src after m t pieces })
+reached src m t (Outcome.Refused refusal place) =
+    record { next = stays refusal (span_at src m.span place) m; tables = t }
 reached src m t Outcome.Wait = record { next = stays wait m.span m; tables = t }

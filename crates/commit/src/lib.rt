@@ -12,6 +12,7 @@ ghost use Rattle.commit.specs.Records.{span_at, answer_of, stays};
 ghost use Rattle.commit.specs.Code.{draft_token, total_of, Ahead, Writes, Drawn, DraftFits, DraftPut, past_draft, PastFits};
 ghost use Rattle.commit.specs.Code.{DraftsFit, DraftsPut, is_full, advanced, Advances, Works, Commits, Committed};
 
+use byte::Refusal;
 use outcome::Change;
 use plan::{Draft, Drafts, Making, Plan, Work};
 use source::Span;
@@ -58,11 +59,11 @@ pub fn span_at(src: &[u8], p: Span, place: usize) -> Span
 }
 
 // A refusal: the numbers are as they were.
-fn stay(number: u32, span: Span, m: Mark) -> Next
-    ensures { result ≡ stays number span m }
+fn stay(refusal: Refusal, span: Span, m: Mark) -> Next
+    ensures { result ≡ stays refusal span m }
 {
     Next {
-        answer: Answer::Refused { number, span },
+        answer: Answer::Refused { refusal, span },
         mark: m,
         change: Change::Keep,
     }
@@ -232,9 +233,9 @@ fn write_work(step: Step, m: Mark, w: Work, list: &mut [u32], pool: &mut [u8]) -
     let drafts = w.drafts;
     let count = count_of(drafts);
     let len = total(drafts) as u32;
-    let number = token::room(list.len(), pool.len(), m.tokens, m.bytes, count, len);
-    if number != 0 {
-        return stay(number, m.span, m);
+    let room = token::room(list.len(), pool.len(), m.tokens, m.bytes, count, len);
+    if let Err(refusal) = room {
+        return stay(refusal, m.span, m);
     }
     put_drafts(step, m, drafts, list, pool);
     advance(step.src, m, w, count, len)
@@ -260,7 +261,7 @@ pub fn commit(
         Plan::Told(w) => {
             let change = w.change;
             if is_full(change, depth) {
-                return stay(byte::STACK_FULL, m.span, m);
+                return stay(Refusal::StackFull, m.span, m);
             }
             let after = w.after;
             let step = Step {
@@ -271,10 +272,10 @@ pub fn commit(
             };
             write_work(step, m, w, list, pool)
         }
-        Plan::Refused { number, place } => {
+        Plan::Refused { refusal, place } => {
             let span = span_at(src, m.span, place);
-            stay(number, span, m)
+            stay(refusal, span, m)
         }
-        Plan::Wait => stay(byte::WAIT, m.span, m),
+        Plan::Wait => stay(Refusal::Wait, m.span, m),
     }
 }

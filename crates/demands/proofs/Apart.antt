@@ -13,7 +13,7 @@ use mathlib.Core.List.{List, [], ◌∷◌}
 use native.Mathlib.Omega.{arith}
 use lib.ListN.{length, get_or, drop, set}
 use lib.Seq.{get_or-set_same}
-use borrow.Author.Tests.{eq-eqb}
+use Rattle.byte.proofs.Refusals.{same_here}
 use Rattle.byte.specs.Refusals.{wait}
 use Rattle.source.specs.declared.Span.{Span}
 use Rattle.state.specs.declared.Frame.{Frame}
@@ -90,7 +90,7 @@ Shows s Change.Leave = Unit {0}
 
 abbrev pub ShowsAll : Session → Outcome → Type 0
 ShowsAll s (Outcome.Told pieces after change finished) = Shows s change
-ShowsAll s (Outcome.Refused number place) = Unit {0}
+ShowsAll s (Outcome.Refused refusal place) = Unit {0}
 ShowsAll s Outcome.Wait = Unit {0}
 
 -- the slot at i, which is there, holds f
@@ -159,27 +159,27 @@ module _ (src : List ℕ) (s : Session) (some : 1 ≤ s.depth) (slots : s.depth 
       (ap (λ (x : Session). x.frames) session) in
       let over = answers_apart finished finished' (ap (λ (h : Handed). h.answer) e) in
       rw (all, place, same, over)
-  handed_apart (Outcome.Told pieces after change finished) (Outcome.Refused number place) i i' e =
-      absurd (answer_told finished number _ (ap (λ (h : Handed). h.answer) e))
+  handed_apart (Outcome.Told pieces after change finished) (Outcome.Refused refusal place) i i' e =
+      absurd (answer_told finished refusal _ (ap (λ (h : Handed). h.answer) e))
   handed_apart (Outcome.Told pieces after change finished) Outcome.Wait i i' e =
       absurd (answer_told finished wait _ (ap (λ (h : Handed). h.answer) e))
-  handed_apart (Outcome.Refused number place) (Outcome.Told pieces after change finished) i i' e =
-      absurd (answer_told finished number _ (sym (ap (λ (h : Handed). h.answer) e)))
-  handed_apart (Outcome.Refused number place) (Outcome.Refused number' place') i i' e =
+  handed_apart (Outcome.Refused refusal place) (Outcome.Told pieces after change finished) i i' e =
+      absurd (answer_told finished refusal _ (sym (ap (λ (h : Handed). h.answer) e)))
+  handed_apart (Outcome.Refused refusal place) (Outcome.Refused refusal' place') i i' e =
       let answer = ap (λ (h : Handed). h.answer) e in
-      let one : number ≡ number' = cc in
+      let one : refusal ≡ refusal' = cc in
       let span : span_at src (span_of s) place ≡ span_at src (span_of s) place' = cc in
       rw (one, place_apart src (span_of s) place place' i.0.low i.0.high i'.0.low i'.0.high span)
-  handed_apart (Outcome.Refused number place) Outcome.Wait i i' e =
+  handed_apart (Outcome.Refused refusal place) Outcome.Wait i i' e =
       let answer = ap (λ (h : Handed). h.answer) e in
-      let one : number ≡ wait = cc in
-      absurd (false≢true (sym i.0.told ∙ eq-eqb number wait one))
+      let one : refusal ≡ wait = cc in
+      absurd (false≢true (sym i.0.told ∙ same_here refusal wait one))
   handed_apart Outcome.Wait (Outcome.Told pieces after change finished) i i' e =
       absurd (answer_told finished wait _ (sym (ap (λ (h : Handed). h.answer) e)))
-  handed_apart Outcome.Wait (Outcome.Refused number place) i i' e =
+  handed_apart Outcome.Wait (Outcome.Refused refusal place) i i' e =
       let answer = ap (λ (h : Handed). h.answer) e in
-      let one : number ≡ wait = cc in
-      absurd (false≢true (sym i'.0.told ∙ eq-eqb number wait one))
+      let one : refusal ≡ wait = cc in
+      absurd (false≢true (sym i'.0.told ∙ same_here refusal wait one))
   handed_apart Outcome.Wait Outcome.Wait i i' e = refl
 
   pub outcomes_apart : (l q : List ℕ) (o o' : Outcome) → Inside s.position (length src) o
@@ -205,7 +205,7 @@ module _ (src : List ℕ) (s : Session) (size : length s.frames ≡ 64) where
       λ e. not_own (is_scripting f) (c.other ∙ ap (λ (g : Frame). not (is_scripting g)) (sym e))
   shows (Outcome.Told pieces after (Change.Enter f) finished) c r = omega (arith, r, size)
   shows (Outcome.Told pieces after Change.Leave finished) c r = tt
-  shows (Outcome.Refused number place) c r = tt
+  shows (Outcome.Refused refusal place) c r = tt
   shows Outcome.Wait c r = tt
 
   module _ (l q : List ℕ) (h : Sound src (length l) (length q) s) where

@@ -8,6 +8,7 @@ use mathlib.Core.Bool.{Bool}
 use mathlib.Core.List.{List}
 use lib.Dec.{eqb}
 use lib.ListN.{length}
+use Rattle.lexer.proofs.Nexts.{shut_cases}
 use Rattle.byte.proofs.Tests.{choice}
 use Rattle.state.specs.declared.Session.{Session}
 use Rattle.state.specs.Gates.{lent_refusal}
@@ -26,12 +27,12 @@ pub call_choices : (call : Call) (src : List ℕ) (end : Bool) (s : Session) (l 
     → (called call src end s l q).turn.session.choices ≡ s.choices
 unfolding called
 call_choices call src end s l q =
-    choice (Same s) (eqb (lent_refusal src (length l) (length q) s) 0) _ _
+    shut_cases (Same s) (lent_refusal src (length l) (length q) s) s l q _
     (λ e.
     settled_cases src s l q (λ o. Same s) (λ pieces after change finished e. refl)
-    (λ pieces after change finished. refl)
-    (λ number place. refl) refl (call_outcome call src end s))
-    (λ e. refl)
+    (λ pieces after change finished refusal e. refl)
+    (λ refusal place. refl) refl (call_outcome call src end s))
+    (λ refusal e. refl)
 
 pub walk_choices : (n : ℕ) (src : List ℕ) (end : Bool) (s : Session) (l q : List ℕ)
     → (walked n src end s l q).turn.session.choices ≡ s.choices
@@ -47,7 +48,7 @@ pub called_on_choices : (call : Call) (n : ℕ) (src : List ℕ) (end : Bool) (s
     → (called_on call n src end s l q).turn.session.choices ≡ s.choices
 unfolding called_on
 called_on_choices call zero src end s l q =
-    choice (Same s) (eqb (lent_refusal src (length l) (length q) s) 0) _ _ (λ e. refl) (λ e. refl)
+    shut_cases (Same s) (lent_refusal src (length l) (length q) s) s l q _ (λ e. refl) (λ refusal e. refl)
 called_on_choices call (suc n) src end s l q =
     let now = called call src end s l q in
     let first = call_choices call src end s l q in

@@ -35,7 +35,7 @@ use Rattle.demands.proofs.Waiting.{call_waits_exactly}
 abbrev pub Ended : Answer → Type 0
 Ended Answer.Done = ⊥
 Ended Answer.Finished = Unit {0}
-Ended (Answer.Refused number span) = Unit {0}
+Ended (Answer.Refused refusal span) = Unit {0}
 
 -- with more steps allowed it is the same
 pub walk_more : (m k : ℕ) (src : List ℕ) (end : Bool) (s : Session) (l q : List ℕ)
@@ -53,7 +53,7 @@ walk_more (suc m) k src end s l q e =
         → gone_on a now later' ≡ gone_on a now later
     go Answer.Done now later later' same f = same f
     go Answer.Finished now later later' same f = refl
-    go (Answer.Refused number span) now later later' same f = refl
+    go (Answer.Refused refusal span) now later later' same f = refl
 
 -- ---- a walk over a part
 
@@ -77,13 +77,13 @@ module _ (n : ℕ) (src : List ℕ) (end : Bool) (s : Session) (l q : List ℕ) 
   unfolding walked gone_on
   walked_last Answer.Done e f = absurd f
   walked_last Answer.Finished e f = rw e
-  walked_last (Answer.Refused number span) e f = rw e
+  walked_last (Answer.Refused refusal span) e f = rw e
 
 wait_refused : (a : Answer) → is_wait a ≡ true → Ended a
 unfolding is_wait
 wait_refused Answer.Done e = absurd (false≢true e)
 wait_refused Answer.Finished e = tt
-wait_refused (Answer.Refused number span) e = tt
+wait_refused (Answer.Refused refusal span) e = tt
 
 -- a refusal keeps session, list and pool, so a step more from there is the step again
 wait_kept : (a : Answer) (src : List ℕ) (s : Session) (l q : List ℕ) → (stepped src false s l q).turn.answer ≡ a → is_wait a ≡ true
@@ -91,7 +91,7 @@ wait_kept : (a : Answer) (src : List ℕ) (s : Session) (l q : List ℕ) → (st
 unfolding is_wait
 wait_kept Answer.Done src s l q e f = absurd (false≢true f)
 wait_kept Answer.Finished src s l q e f = absurd (false≢true f)
-wait_kept (Answer.Refused number span) src s l q e f = (call_kept src s l q Call.Step false).back number span e
+wait_kept (Answer.Refused refusal span) src s l q e f = (call_kept src s l q Call.Step false).back refusal span e
 
 module _ (part rest : List ℕ) (bytes : every is_byte part ≡ true) (short : length (part ++ rest) ≤ 65536) where
   part_short : length part ≤ 65536
@@ -137,7 +137,7 @@ module _ (part rest : List ℕ) (bytes : every is_byte part ≡ true) (short : l
             (record { sound = rw (sym k.list, sym k.pool) y.sound; list = y.list ∙ k.list; pool = y.pool ∙ k.pool }))
             m (suc i) (omega (arith, j)) (whole_on ∙ z ∙ ap (λ (x : After). walked m (part ++ rest) true x.turn.session x.list x.pool) (sym part_on))
     settled_fate Answer.Finished e f g k ih = over_fate Answer.Finished e f tt g
-    settled_fate (Answer.Refused number span) e f g k ih = over_fate (Answer.Refused number span) e f tt g
+    settled_fate (Answer.Refused refusal span) e f g k ih = over_fate (Answer.Refused refusal span) e f tt g
 
     waiting_fate : (a : Answer) → partly.turn.answer ≡ a → is_wait a ≡ true → StaysSound part l q partly
         → Fate (suc n) part (part ++ rest) s l q (walked (suc n) part false s l q)

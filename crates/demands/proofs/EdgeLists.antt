@@ -52,7 +52,7 @@ module _ (src : List ℕ) (s : Session) (l q : List ℕ) where
       (λ h.
       settled_cases src s l q (λ o a. Grows s l q a)
       (λ pieces after change finished e. written_grows src s l q pieces after change finished e)
-      (λ pieces after change finished. grows_none s l q _) (λ number place. grows_none s l q _)
+      (λ pieces after change finished refusal e. grows_none s l q _) (λ refusal place. grows_none s l q _)
       (grows_none s l q _) (call_outcome c src end s))
       (λ number e. grows_none s l q _)
 
@@ -257,7 +257,7 @@ module _ (src : List ℕ) (end : Bool) where
           })
       go Answer.Finished e =
           alone (first_ending s l q i now (grows_none _ _ _ _) (new.0, rw e at new.1)) (rw e) (rw e)
-      go (Answer.Refused number span) e =
+      go (Answer.Refused refusal span) e =
           alone (first_ending s l q i now (grows_none _ _ _ _) (new.0, rw e at new.1)) (rw e) (rw e)
 
   pub walk_new : (n : ℕ) (s : Session) (l q : List ℕ) (i : ℕ) → IsNew s (walked n src end s l q) i

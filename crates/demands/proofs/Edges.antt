@@ -9,6 +9,7 @@ use native.Mathlib.Omega.{arith}
 use lib.ListN.{length, take, drop, length-append}
 use lib.Seq.{take-append_seam}
 use borrow.Author.Tests.{not-true}
+use Rattle.std.specs.Prelude.{Ok}
 use Rattle.byte.specs.Words.{every}
 use Rattle.byte.proofs.Tests.{&&-left, &&-right}
 use Rattle.byte.specs.Laid.{laid}
@@ -130,7 +131,7 @@ abbrev NewAfter : Call → List ℕ → Session → After → Type 0
 NewAfter call src s a = (i : ℕ) → IsNew s a i → NewToken call src a (token_in a.list i)
 
 module _ (call : Call) (src : List ℕ) (s : Session) (l q : List ℕ) where
-  written_new : (pieces : List Piece) (after : ℕ) (change : Change) (finished : Bool) → room src s l q pieces ≡ 0
+  written_new : (pieces : List Piece) (after : ℕ) (change : Change) (finished : Bool) → room src s l q pieces ≡ Ok tt
       → ToldInside s.position (length src) pieces after
       → PiecesWritten call s.choices.octals s.position (rest src s) after pieces
       → NewAfter call src s (written src s l q pieces after change finished)
@@ -183,7 +184,7 @@ module _ (call : Call) (src : List ℕ) (s : Session) (l q : List ℕ) where
       Inside s.position (length src) o → OutcomeWritten call s.choices.octals s.position
       (rest src s) o → NewAfter call src s a)
       (λ pieces after change finished e i w. written_new pieces after change finished e i w)
-      (λ pieces after change finished i w. none_new _) (λ number place i w. none_new _) (λ i w. none_new _)
+      (λ pieces after change finished refusal e i w. none_new _) (λ refusal place i w. none_new _) (λ i w. none_new _)
 
   pub call_new : (end : Bool) → NewAfter call src s (called call src end s l q)
   call_new end =

@@ -13,6 +13,7 @@ use mathlib.Core.List.{List, [], ◌∷◌, ◌++◌}
 use native.Mathlib.Omega.{arith}
 use lib.ListN.{length, length-append}
 use borrow.Author.Tests.{eqb-true}
+use Rattle.byte.proofs.Refusals.{is_same_one}
 use Rattle.byte.specs.Refusals.{wait}
 use Rattle.byte.specs.Words.{every}
 use Rattle.byte.specs.Demand.{is_byte}
@@ -128,13 +129,13 @@ done_room : (a : Answer) → is_done a ≡ true → lacks_room a ≡ false
 unfolding is_done lacks_room
 done_room Answer.Done e = refl
 done_room Answer.Finished e = refl
-done_room (Answer.Refused number span) e = absurd (false≢true e)
+done_room (Answer.Refused refusal span) e = absurd (false≢true e)
 
 go_on_done : (a : Answer) (now later : After) → gone_on a now later ≡ (if is_done a then later else now)
 unfolding gone_on is_done
 go_on_done Answer.Done now later = refl
 go_on_done Answer.Finished now later = refl
-go_on_done (Answer.Refused number span) now later = refl
+go_on_done (Answer.Refused refusal span) now later = refl
 
 walk_handed : ℕ → List ℕ → Bool → Session → Handed
 walk_handed zero src end s = record { tokens = []; answer = Answer.Done; session = s }
@@ -163,7 +164,7 @@ module _ (src : List ℕ) (end : Bool) where
             pool = y.pool ∙ x.pool;
           }
       go Answer.Finished now later x y = x
-      go (Answer.Refused number span) now later x y = x
+      go (Answer.Refused refusal span) now later x y = x
 
 module _ (src : List ℕ) (short : length src ≤ 65536) (end : Bool) where
   walk_hands : (n : ℕ) (s : Session) (l q : List ℕ) → tables_fit (length l) (length q) ≡ true
@@ -237,7 +238,7 @@ wait_room : (a : Answer) → is_wait a ≡ true → lacks_room a ≡ false
 unfolding is_wait lacks_room
 wait_room Answer.Done e = refl
 wait_room Answer.Finished e = refl
-wait_room (Answer.Refused number span) e = rw (eqb-true number wait e)
+wait_room (Answer.Refused refusal span) e = rw (is_same_one refusal wait e)
 
 joined_longer : (src : List ℕ) (parts : List (List ℕ)) → length src ≤ length (joined src parts)
 unfolding joined

@@ -6,12 +6,14 @@
 --   cuts_whole   a script in parts gives what the uncut one gives, with enough steps and from a fresh session
 --   cuts_same    so two ways to cut a script give the same: a host may leave out a look, and have it at a later part
 use Prim.Native.Nat.{ℕ, zero, suc, ◌+◌, ◌-◌, ◌*◌, ◌≤◌, ◌<◌}
+use Rattle.byte.specs.declared.Refusal.{Refusal}
 use mathlib.Core.Path.{sym, ◌≡◌, refl, ◌∙◌}
 use mathlib.Core.Bool.{Bool, true, false}
 use mathlib.Core.List.{List, [], ◌∷◌}
 use native.Mathlib.Omega.{arith}
 use lib.Dec.{eqb}
 use lib.ListN.{length, get_or, set}
+use Rattle.lexer.proofs.Nexts.{shut_cases}
 use Rattle.byte.specs.Words.{every}
 use Rattle.byte.specs.Demand.{is_byte}
 use Rattle.byte.specs.Refusals.{wait}
@@ -89,8 +91,8 @@ module _ (src : List ℕ) (s : Session) (l q : List ℕ) where
   abbrev pub Falls : After → Type 0
   Falls a = a.turn.answer ≡ Answer.Done → remaining src a.turn.session < remaining src s
 
-  refusing_falls : (number : ℕ) (span : Span) → Falls (refusing number span s l q)
-  refusing_falls number span e = absurd (done_told (sym e))
+  refusing_falls : (refusal : Refusal) (span : Span) → Falls (refusing refusal span s l q)
+  refusing_falls refusal span e = absurd (done_told (sym e))
 
   module _ (h : Sound src (length l) (length q) s) where
     swapped_falls : (after tokens bytes : ℕ) → s.position ≤ after → after ≤ length src → top_frame s ≡ Frame.LookingForVarname
@@ -123,17 +125,17 @@ module _ (src : List ℕ) (s : Session) (l q : List ℕ) where
     settled_falls =
         settled_cases src s l q (λ o a. Inside s.position (length src) o → Progress (top_frame s) s.position o → Falls a)
         (λ pieces after change finished e i p. written_falls pieces after change finished i.order i.inside p)
-        (λ pieces after change finished i p. refusing_falls _ (span_of s)) (λ number place i p. refusing_falls number _)
+        (λ pieces after change finished refusal e i p. refusing_falls refusal (span_of s)) (λ refusal place i p. refusing_falls refusal _)
         (λ i p. refusing_falls wait (span_of s))
 
     pub step_falls : (end : Bool) → Falls (stepped src end s l q)
     unfolding called
     step_falls end =
-        choice Falls (eqb (lent_refusal src (length l) (length q) s) 0) _ _
+        shut_cases Falls (lent_refusal src (length l) (length q) s) s l q _
         (λ e.
         let w = call_ways Call.Step src end s (position_inside src s l q h) in
         settled_falls (step_outcome src end s) w.lies (w.on (top_sound src s l q h)))
-        (λ e. refusing_falls _ origin)
+        (λ refusal e. refusing_falls refusal origin)
 
 -- ---- many steps
 
@@ -153,7 +155,7 @@ walk_falls (suc n) src end s l q h less =
         → Ended (gone_on a now later).turn.answer
     go Answer.Done now later e ends = ends refl
     go Answer.Finished now later e ends = rw e tt
-    go (Answer.Refused number span) now later e ends = rw e tt
+    go (Answer.Refused refusal span) now later e ends = rw e tt
 
 pub walk_ends : (n : ℕ) (src : List ℕ) (end : Bool) (s : Session) (l q : List ℕ) → Sound src (length l) (length q) s
     → 2 * (length src - s.position) + 1 < n

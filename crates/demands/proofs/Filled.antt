@@ -6,12 +6,17 @@
 --                                                never fall
 --   call_size, steps_size, walk_size, fed_size   the list keeps its length
 use Prim.Native.Nat.{ℕ, zero, suc}
+use Rattle.byte.specs.declared.Refusal.{Refusal}
 use mathlib.Core.Bool.{Bool, true, false}
 use mathlib.Core.List.{List, [], ◌∷◌, ◌++◌}
 use mathlib.Core.Path.{◌≡◌, refl, ◌∙◌}
 use lib.Dec.{eqb}
 use lib.ListN.{length}
 use borrow.Author.Tests.{eqb-true}
+use Rattle.lexer.proofs.Nexts.{shut_cases}
+use Rattle.std.specs.Prelude.{Ok}
+use Rattle.std.specs.Prelude.{Err}
+use Rattle.std.specs.Prelude.{Result}
 use Rattle.byte.proofs.Tests.{choice}
 use Rattle.state.specs.declared.Session.{Session}
 use Rattle.state.specs.Gates.{lent_refusal}
@@ -49,7 +54,7 @@ pub called_on_filled : (c : Call) (most : ℕ) (src : List ℕ) (end : Bool) (s 
     → FilledAfter (called_on c most src end s l q)
 unfolding called_on
 called_on_filled c zero src end s l q f =
-    choice FilledAfter (eqb (lent_refusal src (length l) (length q) s) 0) _ _ (λ e. f) (λ e. f)
+    shut_cases FilledAfter (lent_refusal src (length l) (length q) s) s l q _ (λ e. f) (λ refusal e. f)
 called_on_filled c (suc n) src end s l q f =
     let now = called c src end s l q in
     let next = call c src end f in
@@ -88,12 +93,12 @@ filled_ordered s l q (pop {s = t} src f) = stays_rising src t l _ (pop_stays src
 pub call_size : (c : Call) (src : List ℕ) (end : Bool) (s : Session) (l q : List ℕ)
     → length (called c src end s l q).list ≡ length l
 unfolding called
-call_size c src end s l q = go (eqb (lent_refusal src (length l) (length q) s) 0) refl
+call_size c src end s l q = go (lent_refusal src (length l) (length q) s) refl
   where
-    go : (t : Bool) → eqb (lent_refusal src (length l) (length q) s) 0 ≡ t
+    go : (told : Result (Unit {0}) Refusal) → lent_refusal src (length l) (length q) s ≡ told
         → length (called c src end s l q).list ≡ length l
-    go true e = (call_sound src s l q (let_sound src s (length l) (length q) (eqb-true _ 0 e)) c end).list
-    go false e = rw e
+    go (Ok tt) e = (call_sound src s l q (let_sound src s (length l) (length q) e) c end).list
+    go (Err refusal) e = rw e
 
 pub steps_size : (rounds : List Round) (s : Session) (l q : List ℕ) → length (stepped_on rounds s l q).list ≡ length l
 unfolding stepped_on

@@ -4,6 +4,7 @@
 --   settled_sound   of an outcome that lies within the source and changes the stack well
 --   call_sound      of every call
 use Prim.Native.Nat.{ℕ, zero, suc, ◌+◌, ◌-◌, ◌/◌, ◌≤◌}
+use Rattle.byte.specs.declared.Refusal.{Refusal}
 use mathlib.Core.Path.{◌≡◌, refl, sym, subst, ◌∙◌}
 use mathlib.Core.Bool.{Bool, true, false, false≢true}
 use mathlib.Core.List.{List, [], ◌∷◌}
@@ -11,6 +12,8 @@ use native.Mathlib.Omega.{arith}
 use lib.Dec.{eqb, leb}
 use lib.ListN.{length, get_or, set}
 use borrow.Author.Tests.{leb-true, leb-false}
+use Rattle.lexer.proofs.Nexts.{shut_cases}
+use Rattle.std.specs.Prelude.{Ok}
 use Rattle.source.specs.Cursor.{origin}
 use Rattle.byte.specs.Refusals.{wait}
 use Rattle.source.specs.declared.Span.{Span}
@@ -44,7 +47,7 @@ pub record Sound (src : List ℕ) (list pool : ℕ) (s : Session) : Type 0 where
   pub tokens : s.tokens ≤ list / 8
   pub bytes : s.bytes ≤ pool
 
-pub let_sound : (src : List ℕ) (s : Session) (list pool : ℕ) → lent_refusal src list pool s ≡ 0 → Sound src list pool s
+pub let_sound : (src : List ℕ) (s : Session) (list pool : ℕ) → lent_refusal src list pool s ≡ Ok tt → Sound src list pool s
 let_sound src s list pool e =
     let opened = lent_opened src s list pool e in
     record { good = opened.good; tokens = opened.tokens; bytes = opened.bytes }
@@ -106,12 +109,12 @@ module _ (src : List ℕ) (s : Session) (e : is_good src s ≡ true) where
 -- ---- a call
 
 module _ (src : List ℕ) (s : Session) (l q : List ℕ) (h : Sound src (length l) (length q) s) where
-  same_sound : (number : ℕ) (span : Span) → StaysSound src l q (refusing number span s l q)
-  same_sound number span = record { sound = h; list = refl; pool = refl }
+  same_sound : (refusal : Refusal) (span : Span) → StaysSound src l q (refusing refusal span s l q)
+  same_sound refusal span = record { sound = h; list = refl; pool = refl }
 
   written_sound : (pieces : List Piece) (after : ℕ) (change : Change) (finished : Bool) → s.position ≤ after
       → after ≤ length src → ChangeGood src (top_frame s) s.depth change → Room s.depth change
-      → room src s l q pieces ≡ 0
+      → room src s l q pieces ≡ Ok tt
       → StaysSound src l q (written src s l q pieces after change finished)
   written_sound pieces after change finished low high c r e =
       let fits = room_facts (length l) (length q) s.tokens s.bytes (length pieces) (length (values pieces)) e in
@@ -135,7 +138,7 @@ module _ (src : List ℕ) (s : Session) (l q : List ℕ) (h : Sound src (length 
       Inside s.position (length src) o → Changes src (top_frame s) s.depth o → Limited s.depth o
       → StaysSound src l q a)
       (λ pieces after change finished e i c r. written_sound pieces after change finished i.order i.inside c r e)
-      (λ pieces after change finished i c r. same_sound _ (span_of s)) (λ number place i c r. same_sound number _)
+      (λ pieces after change finished refusal e i c r. same_sound refusal (span_of s)) (λ refusal place i c r. same_sound refusal _)
       (λ i c r. same_sound wait (span_of s))
 
   pub position_inside : s.position ≤ length src
@@ -156,7 +159,7 @@ module _ (src : List ℕ) (s : Session) (l q : List ℕ) (h : Sound src (length 
   unfolding called call_outcome
   call_sound call end =
       let w = call_ways call src end s position_inside in
-      choice (StaysSound src l q) (eqb (lent_refusal src (length l) (length q) s) 0) _ _
+      shut_cases (StaysSound src l q) (lent_refusal src (length l) (length q) s) s l q _
       (λ e.
       settled_sound (call_outcome call src end s) w.lies (w.stack top_sound) (limited_room s.depth s.position _))
-      (λ e. same_sound _ origin)
+      (λ refusal e. same_sound refusal origin)

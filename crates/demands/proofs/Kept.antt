@@ -3,12 +3,14 @@
 --   call_kept                  a refusal keeps everything
 --   gives_one, committed_one   one result, for every call, and for commit
 use Prim.Native.Nat.{ℕ}
+use Rattle.byte.specs.declared.Refusal.{Refusal}
 use mathlib.Core.Path.{◌≡◌, refl, sym, ◌∙◌}
 use mathlib.Core.Bool.{Bool, true, false}
 use mathlib.Core.List.{List}
 use native.Mathlib.Omega.{arith}
 use lib.Dec.{eqb}
 use lib.ListN.{length}
+use Rattle.lexer.proofs.Nexts.{shut_cases}
 use Rattle.byte.specs.Refusals.{wait}
 use Rattle.source.specs.Cursor.{origin}
 use Rattle.source.specs.declared.Span.{Span}
@@ -30,33 +32,33 @@ use Rattle.lexer.specs.Calls.{called}
 use Rattle.lexer.proofs.Nexts.{settled_cases}
 
 pub record Kept (s : Session) (l q : List ℕ) (a : After) : Type 0 where
-  pub back : (number : ℕ) (span : Span) → a.turn.answer ≡ Answer.Refused number span
+  pub back : (refusal : Refusal) (span : Span) → a.turn.answer ≡ Answer.Refused refusal span
       → (a.turn.session ≡ s) × (a.list ≡ l) × (a.pool ≡ q)
 
-finished_told : {number : ℕ} {span : Span} → Answer.Finished ≡ Answer.Refused number span → ⊥
+finished_told : {refusal : Refusal} {span : Span} → Answer.Finished ≡ Answer.Refused refusal span → ⊥
 finished_told e = let z : ◌≡◌ {A = ℕ} 0 1 = cc in omega arith
 
-pub done_told : {number : ℕ} {span : Span} → Answer.Done ≡ Answer.Refused number span → ⊥
+pub done_told : {refusal : Refusal} {span : Span} → Answer.Done ≡ Answer.Refused refusal span → ⊥
 done_told e = let z : ◌≡◌ {A = ℕ} 0 1 = cc in omega arith
 
-pub answer_told : (finished : Bool) (number : ℕ) (span : Span) → answer_of finished ≡ Answer.Refused number span → ⊥
-answer_told true number span e = finished_told e
-answer_told false number span e = done_told e
+pub answer_told : (finished : Bool) (refusal : Refusal) (span : Span) → answer_of finished ≡ Answer.Refused refusal span → ⊥
+answer_told true refusal span e = finished_told e
+answer_told false refusal span e = done_told e
 
 module _ (src : List ℕ) (s : Session) (l q : List ℕ) where
-  refusing_kept : (number : ℕ) (span : Span) → Kept s l q (refusing number span s l q)
-  refusing_kept number span = record { back = λ n p e. (refl, refl, refl) }
+  refusing_kept : (refusal : Refusal) (span : Span) → Kept s l q (refusing refusal span s l q)
+  refusing_kept refusal span = record { back = λ n p e. (refl, refl, refl) }
 
   pub call_kept : (call : Call) (end : Bool) → Kept s l q (called call src end s l q)
   unfolding called
   call_kept call end =
-      choice (Kept s l q) (eqb (lent_refusal src (length l) (length q) s) 0) _ _
+      shut_cases (Kept s l q) (lent_refusal src (length l) (length q) s) s l q _
       (λ e.
       settled_cases src s l q (λ o. Kept s l q)
       (λ pieces after change finished e. record { back = λ n p e. absurd (answer_told finished n p e) })
-      (λ pieces after change finished. refusing_kept _ (span_of s)) (λ number place. refusing_kept number _)
+      (λ pieces after change finished refusal e. refusing_kept refusal (span_of s)) (λ refusal place. refusing_kept refusal _)
       (refusing_kept wait (span_of s)) (call_outcome call src end s))
-      (λ e. refusing_kept _ origin)
+      (λ refusal e. refusing_kept refusal origin)
 
 pub gives_one : (a : After) (r r' : Turn) (l l' q q' : List ℕ) → Gives a r l q → Gives a r' l' q' → (r ≡ r') × (l ≡ l') × (q ≡ q')
 gives_one a r r' l l' q q' x y = (x.turn ∙ sym y.turn, x.list ∙ sym y.list, x.pool ∙ sym y.pool)

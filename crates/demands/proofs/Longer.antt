@@ -9,6 +9,7 @@ use mathlib.Core.List.{List, [], ◌∷◌, ◌++◌}
 use native.Mathlib.Omega.{arith}
 use lib.ListN.{length}
 use borrow.Author.Tests.{le-leb}
+use Rattle.std.specs.Prelude.{Ok}
 use Rattle.source.specs.Cursor.{passed}
 use Rattle.source.specs.declared.Span.{Span}
 use Rattle.byte.proofs.Tests.{&&-both}
@@ -53,11 +54,11 @@ module _ (part rest : List ℕ) where
           put_append (span_of s) h s.position after pieces (omega arith) i.inside i.all s.tokens s.bytes
               (record { list = l; pool = q }),
         )
-    settled_append (Outcome.Refused number place) i = rw (span_at_append (span_of s) h place i.low i.high)
+    settled_append (Outcome.Refused refusal place) i = rw (span_at_append (span_of s) h place i.low i.high)
     settled_append Outcome.Wait i = refl
 
 pub gate_open : (src : List ℕ) (list pool : ℕ) (s : Session) → Sound src list pool s → length src ≤ 65536
-    → tables_fit list pool ≡ true → lent_refusal src list pool s ≡ 0
+    → tables_fit list pool ≡ true → lent_refusal src list pool s ≡ Ok tt
 unfolding lent_refusal source_fits fits_tables
 gate_open src list pool s h short fit =
     let marks = &&-both _ _ (le-leb s.tokens (list / 8) h.tokens) (le-leb s.bytes pool h.bytes) in

@@ -5,6 +5,7 @@ use mathlib.Core.List.{List}
 use native.Mathlib.Omega.{arith}
 use lib.Dec.{eqb}
 use lib.ListN.{length}
+use Rattle.lexer.proofs.Nexts.{shut_cases}
 use Rattle.byte.proofs.Tests.{choice}
 use Rattle.state.specs.declared.Session.{Session}
 use Rattle.state.specs.Calls.{span_of}
@@ -37,10 +38,10 @@ module _ (src : List ℕ) (s : Session) (l q : List ℕ) (h : s.position ≤ len
       (λ pieces after change finished e i.
       let there = span_place src (span_of s) after i.order i.inside in
       record { forward = omega (arith, there, i.order); bytes = omega (arith, there, i.narrow) })
-      (λ pieces after change finished i. same) (λ number place i. same) (λ i. same)
+      (λ pieces after change finished refusal e i. same) (λ refusal place i. same) (λ i. same)
 
   pub call_narrow : (call : Call) (end : Bool) → NarrowAfter (called call src end s l q)
   unfolding called
   call_narrow call end =
-      choice NarrowAfter (eqb (lent_refusal src (length l) (length q) s) 0) _ _
-      (λ e. settled_narrow (call_outcome call src end s) (call_inside call src end s h)) (λ e. same)
+      shut_cases NarrowAfter (lent_refusal src (length l) (length q) s) s l q _
+      (λ e. settled_narrow (call_outcome call src end s) (call_inside call src end s h)) (λ refusal e. same)

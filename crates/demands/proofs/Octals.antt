@@ -9,11 +9,14 @@
 --   calls_done_chosen         as many calls are done
 use Rattle.std.specs.Prelude.{if◌then◌else◌}
 use Prim.Native.Nat.{ℕ, zero, suc}
+use Rattle.byte.specs.declared.Refusal.{Refusal}
 use mathlib.Core.Path.{◌≡◌, refl, sym, ap, ◌∙◌}
 use mathlib.Core.Bool.{Bool, true, false, ◌||◌, false≢true}
 use mathlib.Core.List.{List, [], ◌∷◌, ◌++◌}
 use lib.Dec.{eqb}
 use lib.ListN.{length}
+use Rattle.lexer.proofs.Nexts.{shut_both}
+use Rattle.byte.specs.Refusals.{is_same}
 use Rattle.byte.specs.declared.Octal.{Octal}
 use Rattle.byte.specs.Refusals.{invalid_octal_escape, octal_refusals, is_among}
 use Rattle.byte.proofs.Tests.{choice, if_both}
@@ -41,15 +44,15 @@ use Rattle.demands.proofs.Refusals.{call_refusals, walk_refusals, called_on_refu
 
 -- ---- 3 under the Rust's choice alone
 
-among_append : (number : ℕ) (numbers others : List ℕ) → is_among number numbers ≡ true
-    → is_among number (numbers ++ others) ≡ true
+among_append : (refusal : Refusal) (refused others : List Refusal) → is_among refusal refused ≡ true
+    → is_among refusal (refused ++ others) ≡ true
 unfolding is_among
-among_append number [] others e = absurd (false≢true e)
-among_append number (n ∷ numbers) others e = go (eqb number n) e (among_append number numbers others)
+among_append refusal [] others e = absurd (false≢true e)
+among_append refusal (n ∷ refused) others e = go (is_same refusal n) e (among_append refusal refused others)
   where
-    go : (t : Bool) → (t || is_among number numbers) ≡ true
-        → (is_among number numbers ≡ true → is_among number (numbers ++ others) ≡ true)
-        → (t || is_among number (numbers ++ others)) ≡ true
+    go : (t : Bool) → (t || is_among refusal refused) ≡ true
+        → (is_among refusal refused ≡ true → is_among refusal (refused ++ others) ≡ true)
+        → (t || is_among refusal (refused ++ others)) ≡ true
     go true f later = refl
     go false f later = later f
 
@@ -121,10 +124,10 @@ module _ (call : Call) (src : List ℕ) (end : Bool) (s : Session) (rust : s.cho
       → called call src end (chosen Octal.Manual s) l q ≡ chosen_after Octal.Manual (called call src end s l q)
   unfolding called lent_refusal is_good is_within is_stack fits_tables
   call_chosen =
-      if_both Chosen (eqb (lent_refusal src (length l) (length q) s) 0)
+      shut_both Chosen (lent_refusal src (length l) (length q) s) s (chosen Octal.Manual s) l q _ _
       (λ e h.
       ap (settled src (chosen Octal.Manual s) l q) (outcome_same h) ∙ settled_chosen (call_outcome call src end s))
-      (λ e h. refl)
+      (λ refusal e h. refl)
 
 -- ---- many steps
 
@@ -137,13 +140,13 @@ go_on_three : (a : Answer) (now later : After) → now.turn.answer ≡ a → Not
 unfolding gone_on
 go_on_three Answer.Done now later x h = λ span e. done_told (sym x ∙ e)
 go_on_three Answer.Finished now later x h = h
-go_on_three (Answer.Refused number place) now later x h = h
+go_on_three (Answer.Refused refusal place) now later x h = h
 
 go_on_chosen : (a : Answer) (now later later' : After) → Chosen later later' → Later a now later later'
 unfolding gone_on
 go_on_chosen Answer.Done now later later' x h = x h
 go_on_chosen Answer.Finished now later later' x h = refl
-go_on_chosen (Answer.Refused number span) now later later' x h = refl
+go_on_chosen (Answer.Refused refusal span) now later later' x h = refl
 
 -- a call, and what is known of the steps after it
 on_chosen : (call : Call) (n : ℕ) (src : List ℕ) (end : Bool) (s : Session) → s.choices.octals ≡ Octal.Rust
@@ -183,7 +186,7 @@ pub called_on_chosen : (call : Call) (n : ℕ) (src : List ℕ) (end : Bool) (s 
     → called_on call n src end (chosen Octal.Manual s) l q ≡ chosen_after Octal.Manual (called_on call n src end s l q)
 unfolding called_on lent_refusal is_good is_within is_stack fits_tables
 called_on_chosen call zero src end s rust l q =
-    if_both Chosen (eqb (lent_refusal src (length l) (length q) s) 0) (λ e h. refl) (λ e h. refl)
+    shut_both Chosen (lent_refusal src (length l) (length q) s) s (chosen Octal.Manual s) l q _ _ (λ e h. refl) (λ refusal e h. refl)
 called_on_chosen call (suc n) src end s rust l q =
     let now = called call src end s l q in
     on_chosen call n src end s rust l q
@@ -241,7 +244,7 @@ counted_chosen : (a : Answer) (k k' : ℕ) → (a ≡ Answer.Done → k' ≡ k) 
 unfolding counted
 counted_chosen Answer.Done k k' x = ap suc (x refl)
 counted_chosen Answer.Finished k k' x = refl
-counted_chosen (Answer.Refused number span) k k' x = refl
+counted_chosen (Answer.Refused refusal span) k k' x = refl
 
 -- after a call that is done the walk is no 3 either
 go_on_done : (a : Answer) (now later : After) → a ≡ Answer.Done → NotThree (gone_on a now later) → NotThree later

@@ -5,14 +5,18 @@
 --   called_on_refusals a call and the steps after it give the call's and the step's; steps-refusals: of steps alone
 --   refusals_told   every number is 1 to 13
 use Prim.Native.Nat.{ℕ, zero, suc, ◌+◌, ◌/◌, ◌≤◌}
+use Rattle.std.specs.Prelude.{Result}
+use Rattle.byte.specs.declared.Refusal.{Refusal}
 use mathlib.Core.Path.{◌≡◌, refl, sym}
 use mathlib.Core.Bool.{Bool, true, false, ◌&&◌, false≢true}
 use mathlib.Core.List.{List, [], ◌∷◌, ◌++◌}
 use lib.Dec.{leb, eqb}
 use lib.ListN.{length}
 use borrow.Author.Tests.{eqb-true}
+use Rattle.std.specs.Prelude.{Ok}
+use Rattle.std.specs.Prelude.{Err, if◌then◌else◌}
 use Rattle.byte.specs.declared.Octal.{Octal}
-use Rattle.byte.specs.Refusals.{octal_refusals, wait, list_full, pool_full, too_large, bad_session, is_among}
+use Rattle.byte.specs.Refusals.{number_of, octal_refusals, wait, list_full, pool_full, too_large, bad_session, is_among}
 use Rattle.byte.specs.Words.{every}
 use Rattle.byte.proofs.Tests.{choice}
 use Rattle.source.specs.Cursor.{origin}
@@ -26,7 +30,9 @@ use Rattle.token.specs.Records.{room_refusal}
 use Rattle.outcome.specs.declared.Call.{Call}
 use Rattle.outcome.specs.Outcomes.{Outcome, values}
 use Rattle.outcome.specs.Steps.{call_outcome}
-use Rattle.outcome.proofs.Ways.{Numbers, among_every}
+use Rattle.byte.proofs.Refusals.{among_every}
+use Rattle.lexer.proofs.Nexts.{shut_cases, roomy_cases}
+use Rattle.outcome.proofs.Ways as outcome
 use Rattle.outcome.proofs.StepWays.{call_numbers, call_ways}
 use Rattle.commit.specs.Records.{answer_of, Reached, reached}
 use Rattle.lexer.specs.Turns.{After, refusing, reaching, settled}
@@ -37,7 +43,7 @@ use Rattle.demands.specs.Refusals.{refusals}
 use Rattle.demands.specs.Walks.{gone_on, walked, called_on}
 use Rattle.demands.proofs.Choices.{call_choices}
 
-pub refusals_told : (octals : Octal) (call : Call) → every (λ n. leb 1 n && leb n 13) (refusals octals call) ≡ true
+pub refusals_told : (octals : Octal) (call : Call) → every (λ r. leb 1 (number_of r) && leb (number_of r) 13) (refusals octals call) ≡ true
 unfolding refusals octal_refusals every
 refusals_told Octal.Rust Call.Step = refl
 refusals_told Octal.Rust Call.Number = refl
@@ -50,28 +56,28 @@ refusals_told Octal.Manual Call.Double = refl
 
 -- ---- a call
 
-pub lent_among : (src : List ℕ) (list pool : ℕ) (s : Session) → eqb (lent_refusal src list pool s) 0 ≡ false
-    → is_among (lent_refusal src list pool s) gate_refusals ≡ true
+pub lent_among : (src : List ℕ) (list pool : ℕ) (s : Session) (refusal : Refusal) → lent_refusal src list pool s ≡ Err refusal
+    → is_among refusal gate_refusals ≡ true
 unfolding lent_refusal
-lent_among src list pool s =
-    checked_among (tables_fit list pool && source_fits src) (is_good src s && fits_tables list pool s)
+lent_among src list pool s refusal =
+    checked_among (tables_fit list pool && source_fits src) (is_good src s && fits_tables list pool s) refusal
 
 pub called_cases : (call : Call) (src : List ℕ) (end : Bool) (s : Session) (l q : List ℕ) (P : After → Type 0)
     → (s.position ≤ length src → P (settled src s l q (call_outcome call src end s)))
-    → ((number : ℕ) → is_among number gate_refusals ≡ true → P (refusing number origin s l q))
+    → ((refusal : Refusal) → is_among refusal gate_refusals ≡ true → P (refusing refusal origin s l q))
     → P (called call src end s l q)
 unfolding called
 called_cases call src end s l q P opened shut =
-    choice P (eqb (lent_refusal src (length l) (length q) s) 0) _ _
-    (λ e. opened (lent_opened src s (length l) (length q) (eqb-true _ 0 e)).numbers.position)
-    (λ e. shut _ (lent_among src (length l) (length q) s e))
+    shut_cases P (lent_refusal src (length l) (length q) s) s l q _
+    (λ e. opened (lent_opened src s (length l) (length q) e).numbers.position)
+    (λ refusal e. shut refusal (lent_among src (length l) (length q) s refusal e))
 
 -- the wait, room and the gate
-abbrev common : List ℕ
+abbrev common : List Refusal
 common = wait ∷ list_full ∷ pool_full ∷ too_large ∷ bad_session ∷ []
 
-abbrev AllIn : List ℕ → List ℕ → Type 0
-AllIn others numbers = every (λ n. is_among n others) numbers ≡ true
+abbrev AllIn : List Refusal → List Refusal → Type 0
+AllIn others refusals = every (λ r. is_among r others) refusals ≡ true
 
 refusals_all : (octals : Octal) (call : Call)
     → AllIn (refusals octals call) common × AllIn (refusals octals call) (call_numbers octals call)
@@ -85,19 +91,25 @@ refusals_all Octal.Manual Call.Number = (refl, refl)
 refusals_all Octal.Manual Call.Single = (refl, refl)
 refusals_all Octal.Manual Call.Double = (refl, refl)
 
-pub room_among : (list pool tokens bytes count len : ℕ) → eqb (room_refusal list pool tokens bytes count len) 0 ≡ false
-    → is_among (room_refusal list pool tokens bytes count len) (list_full ∷ pool_full ∷ []) ≡ true
-unfolding room_refusal is_among
-room_among list pool tokens bytes count len =
-    choice Full (leb (tokens + count) (list / 8)) _ _
-    (λ e. choice Full (leb (bytes + len) pool) 0 8 (λ f z. absurd (false≢true (sym z))) (λ f z. refl)) (λ e z. refl)
-  where
-    Full : ℕ → Type 0
-    Full n = eqb n 0 ≡ false → is_among n (list_full ∷ pool_full ∷ []) ≡ true
+abbrev told_room : Bool → Bool → Result (Unit {0}) Refusal
+told_room places room = if places then (if room then Ok tt else Err pool_full) else Err list_full
 
-refuses_answer : (numbers : List ℕ) (finished : Bool) → Refuses numbers (answer_of finished)
-refuses_answer numbers true = record { among = λ n p f. cc }
-refuses_answer numbers false = refuses_none numbers
+pub room_among : (list pool tokens bytes count len : ℕ) (refusal : Refusal)
+    → room_refusal list pool tokens bytes count len ≡ Err refusal
+    → is_among refusal (list_full ∷ pool_full ∷ []) ≡ true
+unfolding room_refusal is_among
+room_among list pool tokens bytes count len refusal =
+    go (leb (tokens + count) (list / 8)) (leb (bytes + len) pool)
+  where
+    go : (places room : Bool) → told_room places room ≡ Err refusal
+        → is_among refusal (list_full ∷ pool_full ∷ []) ≡ true
+    go true true e = cc
+    go true false e = let z : pool_full ≡ refusal = cc in rw (← z) refl
+    go false room e = let z : list_full ≡ refusal = cc in rw (← z) refl
+
+refuses_answer : (refused : List Refusal) (finished : Bool) → Refuses refused (answer_of finished)
+refuses_answer refused true = record { among = λ n p f. cc }
+refuses_answer refused false = refuses_none refused
 
 module _ (call : Call) (src : List ℕ) (end : Bool) (s : Session) (l q : List ℕ) where
   abbrev octals : Octal
@@ -107,23 +119,23 @@ module _ (call : Call) (src : List ℕ) (end : Bool) (s : Session) (l q : List �
   Among a = Refuses (refusals octals call) a.turn.answer
 
   -- some of what every call may refuse
-  shared : (numbers : List ℕ) → AllIn common numbers → (number : ℕ) → is_among number numbers ≡ true
-      → is_among number (refusals octals call) ≡ true
-  shared numbers part number e =
-      among_every _ common (refusals_all octals call).0 number (among_every _ numbers part number e)
+  shared : (refused : List Refusal) → AllIn common refused → (refusal : Refusal) → is_among refusal refused ≡ true
+      → is_among refusal (refusals octals call) ≡ true
+  shared refused part refusal e =
+      among_every _ common (refusals_all octals call).0 refusal (among_every _ refused part refusal e)
 
-  settled_refuses : (o : Outcome) → Numbers (call_numbers octals call) o → Among (settled src s l q o)
+  settled_refuses : (o : Outcome) → outcome.Refuses (call_numbers octals call) o → Among (settled src s l q o)
   unfolding reached is_among every
   settled_refuses (Outcome.Told pieces after change finished) n =
-      choice (λ (r : Reached). Among (reaching s r)) (eqb (room src s l q pieces) 0) _ _
+      roomy_cases (λ (r : Reached). Among (reaching s r)) (room src s l q pieces) _ _ _
       (λ e. refuses_answer (refusals octals call) finished)
-      (λ e.
-      refuses_one (refusals octals call) (room src s l q pieces) (span_of s)
-      (shared (list_full ∷ pool_full ∷ []) refl _
-      (room_among (length l) (length q) s.tokens s.bytes (length pieces) (length (values pieces)) e)))
-  settled_refuses (Outcome.Refused number place) n =
-      refuses_one (refusals octals call) number _
-      (among_every _ (call_numbers octals call) (refusals_all octals call).1 number n)
+      (λ refusal e.
+      refuses_one (refusals octals call) refusal (span_of s)
+      (shared (list_full ∷ pool_full ∷ []) refl refusal
+      (room_among (length l) (length q) s.tokens s.bytes (length pieces) (length (values pieces)) refusal e)))
+  settled_refuses (Outcome.Refused refusal place) n =
+      refuses_one (refusals octals call) refusal _
+      (among_every _ (call_numbers octals call) (refusals_all octals call).1 refusal n)
   settled_refuses Outcome.Wait n =
       refuses_one (refusals octals call) wait (span_of s) (shared (wait ∷ []) refl wait refl)
 
@@ -131,20 +143,20 @@ module _ (call : Call) (src : List ℕ) (end : Bool) (s : Session) (l q : List �
   unfolding is_among every
   call_refusals =
       called_cases call src end s l q Among
-      (λ h. settled_refuses (call_outcome call src end s) (call_ways call src end s h).numbers)
-      (λ number e. refuses_one (refusals octals call) number origin (shared gate_refusals refl number e))
+      (λ h. settled_refuses (call_outcome call src end s) (call_ways call src end s h).refusals)
+      (λ refusal e. refuses_one (refusals octals call) refusal origin (shared gate_refusals refl refusal e))
 
 -- ---- many steps
 
-refuses_more : (numbers others : List ℕ) → AllIn others numbers → (a : Answer) → Refuses numbers a → Refuses others a
-refuses_more numbers others part a r = record { among = λ n p f. among_every _ numbers part n (r.among n p f) }
+refuses_more : (refused others : List Refusal) → AllIn others refused → (a : Answer) → Refuses refused a → Refuses others a
+refuses_more refused others part a r = record { among = λ n p f. among_every _ refused part n (r.among n p f) }
 
-go_on_refuses : (numbers : List ℕ) (a : Answer) (now later : After) → Refuses numbers now.turn.answer
-    → Refuses numbers later.turn.answer → Refuses numbers (gone_on a now later).turn.answer
+go_on_refuses : (refused : List Refusal) (a : Answer) (now later : After) → Refuses refused now.turn.answer
+    → Refuses refused later.turn.answer → Refuses refused (gone_on a now later).turn.answer
 unfolding gone_on
-go_on_refuses numbers Answer.Done now later x y = y
-go_on_refuses numbers Answer.Finished now later x y = x
-go_on_refuses numbers (Answer.Refused number span) now later x y = x
+go_on_refuses refused Answer.Done now later x y = y
+go_on_refuses refused Answer.Finished now later x y = x
+go_on_refuses refused (Answer.Refused refusal span) now later x y = x
 
 pub walk_refusals : (n : ℕ) (src : List ℕ) (end : Bool) (s : Session) (l q : List ℕ)
     → Refuses (refusals s.choices.octals Call.Step) (walked n src end s l q).turn.answer
@@ -158,7 +170,7 @@ walk_refusals (suc n) src end s l q =
     (walk_refusals n src end now.turn.session now.list now.pool))
 
 -- the call's and the step's
-abbrev both : Octal → Call → List ℕ
+abbrev both : Octal → Call → List Refusal
 both octals call = refusals octals call ++ refusals octals Call.Step
 
 both_all : (octals : Octal) (call : Call)
@@ -180,12 +192,11 @@ pub called_on_refusals : (call : Call) (n : ℕ) (src : List ℕ) (end : Bool) (
 unfolding called_on
 called_on_refusals call zero src end s l q =
     let octals = s.choices.octals in
-    choice (λ (a : After). Refuses (both octals call) a.turn.answer)
-    (eqb (lent_refusal src (length l) (length q) s) 0) _ _
+    shut_cases (λ (a : After). Refuses (both octals call) a.turn.answer) (lent_refusal src (length l) (length q) s) s l q _
     (λ e. refuses_none (both octals call))
-    (λ e.
-    refuses_one (both octals call) (lent_refusal src (length l) (length q) s) origin
-    (among_every _ gate_refusals (both_all octals call).2 _ (lent_among src (length l) (length q) s e)))
+    (λ refusal e.
+    refuses_one (both octals call) refusal origin
+    (among_every _ gate_refusals (both_all octals call).2 refusal (lent_among src (length l) (length q) s refusal e)))
 called_on_refusals call (suc n) src end s l q =
     let octals = s.choices.octals in
     let now = called call src end s l q in

@@ -15,6 +15,8 @@ use lib.Dec.{eqb}
 use borrow.Author.Tests.{eqb-true}
 use lib.ListN.{length, get_or, take, drop, length-take, length-drop}
 use lib.Seq.{drop-drop, drop-nil, take-nil, get_or-take, take_at, drop_at, length-take-le}
+use Rattle.lexer.proofs.Nexts.{shut_cases}
+use Rattle.std.specs.Prelude.{Ok}
 use Rattle.byte.specs.Laid.{laid}
 use Rattle.source.specs.declared.Span.{Span}
 use Rattle.byte.proofs.Tests.{choice}
@@ -133,7 +135,7 @@ OrderedAfter a = Ordered a.list a.turn.session
 
 module _ (src : List ℕ) (s : Session) (l q : List ℕ) (h : Sound src (length l) (length q) s) (o : Ordered l s) where
   written_rising : (pieces : List Piece) (after : ℕ) (change : Change) (finished : Bool)
-      → Inside s.position (length src) (Outcome.Told pieces after change finished) → room src s l q pieces ≡ 0
+      → Inside s.position (length src) (Outcome.Told pieces after change finished) → room src s l q pieces ≡ Ok tt
       → OrderedAfter (written src s l q pieces after change finished)
   written_rising pieces after change finished i e =
       let fits = room_facts (length l) (length q) s.tokens s.bytes (length pieces) (length (values pieces)) e in
@@ -161,26 +163,26 @@ module _ (src : List ℕ) (s : Session) (l q : List ℕ) (h : Sound src (length 
   settled_rising =
       settled_cases src s l q (λ u a. Inside s.position (length src) u → OrderedAfter a)
       (λ pieces after change finished e i. written_rising pieces after change finished i e)
-      (λ pieces after change finished i. o) (λ number place i. o) (λ i. o)
+      (λ pieces after change finished refusal e i. o) (λ refusal place i. o) (λ i. o)
 
 -- also where the gate is shut
 pub call_rising : (src : List ℕ) (s : Session) (l q : List ℕ) (call : Call) (end : Bool) → Ordered l s
     → OrderedAfter (called call src end s l q)
 unfolding called
 call_rising src s l q call end o =
-    choice OrderedAfter (eqb (lent_refusal src (length l) (length q) s) 0) _ _
+    shut_cases OrderedAfter (lent_refusal src (length l) (length q) s) s l q _
     (λ e.
-    let h = let_sound src s (length l) (length q) (eqb-true _ 0 e) in
+    let h = let_sound src s (length l) (length q) e in
     settled_rising src s l q h o (call_outcome call src end s)
     (call_inside call src end s (position_inside src s l q h)))
-    (λ e. o)
+    (λ refusal e. o)
 
 -- what holds after the step and after the walk that goes on holds after both
 pub go_on_either : (P : After → Type 0) (a : Answer) (now later : After) → P now → P later → P (gone_on a now later)
 unfolding gone_on
 go_on_either P Answer.Done now later x y = y
 go_on_either P Answer.Finished now later x y = x
-go_on_either P (Answer.Refused number span) now later x y = x
+go_on_either P (Answer.Refused refusal span) now later x y = x
 
 pub walk_rising : (n : ℕ) (src : List ℕ) (end : Bool) (s : Session) (l q : List ℕ) → Ordered l s
     → OrderedAfter (walked n src end s l q)

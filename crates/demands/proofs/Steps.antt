@@ -8,6 +8,7 @@
 --   steps_one                    only one number of done steps is followed by a step that is not done
 --   calls_done_steps             of a step and the steps after it as many are done as of a walk
 use Prim.Native.Nat.{ℕ, zero, suc, ◌+◌, ◌-◌, ◌<◌}
+use Rattle.byte.specs.declared.Refusal.{Refusal}
 use mathlib.Core.Path.{◌≡◌, refl, sym, ap, subst, ◌∙◌}
 use mathlib.Core.Bool.{Bool, true, false, false≢true}
 use mathlib.Core.List.{List}
@@ -16,6 +17,9 @@ use native.Mathlib.Nat.{zero-add, suc-add}
 use lib.Dec.{eqb}
 use lib.ListN.{length}
 use borrow.Author.Tests.{eqb-true, le-leb}
+use Rattle.std.specs.Prelude.{Ok}
+use Rattle.std.specs.Prelude.{Err}
+use Rattle.std.specs.Prelude.{Result}
 use Rattle.byte.proofs.Tests.{&&-both}
 use Rattle.source.specs.declared.Span.{Span}
 use Rattle.state.specs.declared.Answer.{Answer}
@@ -35,10 +39,10 @@ use Rattle.demands.proofs.Cuts.{Ended, walk_more, walked_on, walked_last}
 
 -- the gate is open after it
 abbrev pub Open : List ℕ → After → Type 0
-Open src a = lent_refusal src (length a.list) (length a.pool) a.turn.session ≡ 0
+Open src a = lent_refusal src (length a.list) (length a.pool) a.turn.session ≡ Ok tt
 
 module _ (call : Call) (src : List ℕ) (end : Bool) (s : Session) (l q : List ℕ) where
-  pub call_open : lent_refusal src (length l) (length q) s ≡ 0 → Open src (called call src end s l q)
+  pub call_open : lent_refusal src (length l) (length q) s ≡ Ok tt → Open src (called call src end s l q)
   unfolding tables_fit
   call_open gate =
       let opened = lent_opened src s (length l) (length q) gate in
@@ -49,14 +53,14 @@ module _ (call : Call) (src : List ℕ) (end : Bool) (s : Session) (l q : List �
       (gate_open src (length l) (length q) _ sound.sound opened.source
       (&&-both _ _ (le-leb _ _ opened.room) (le-leb _ _ opened.places)))
 
-  pub done_open : is_done (called call src end s l q).turn.answer ≡ true → lent_refusal src (length l) (length q) s ≡ 0
+  pub done_open : is_done (called call src end s l q).turn.answer ≡ true → lent_refusal src (length l) (length q) s ≡ Ok tt
   unfolding called is_done
-  done_open d = go (eqb (lent_refusal src (length l) (length q) s) 0) refl
+  done_open d = go (lent_refusal src (length l) (length q) s) refl
     where
-      go : (t : Bool) → eqb (lent_refusal src (length l) (length q) s) 0 ≡ t
-          → lent_refusal src (length l) (length q) s ≡ 0
-      go true e = eqb-true _ _ e
-      go false e = absurd (false≢true (rw e at d))
+      go : (told : Result (Unit {0}) Refusal) → lent_refusal src (length l) (length q) s ≡ told
+          → lent_refusal src (length l) (length q) s ≡ Ok tt
+      go (Ok tt) e = e
+      go (Err refusal) e = absurd (false≢true (rw e at d))
 
 -- ---- walks
 
@@ -79,7 +83,7 @@ module _ (src : List ℕ) (end : Bool) (s : Session) (l q : List ℕ) where
       go : (a : Answer) → now.turn.answer ≡ a → P
       go Answer.Done e = on e
       go Answer.Finished e = over Answer.Finished e tt
-      go (Answer.Refused number span) e = over (Answer.Refused number span) e tt
+      go (Answer.Refused refusal span) e = over (Answer.Refused refusal span) e tt
 
   one : walked 1 src end s l q ≡ now
   unfolding walked
@@ -146,30 +150,30 @@ module _ (src : List ℕ) (end : Bool) where
       over Answer.Done e k = absurd k
       over Answer.Finished e k =
           rw e (record { fewer = omega arith; before = refl; last = walked_last n src end s l q _ e tt })
-      over (Answer.Refused number span) e k =
+      over (Answer.Refused refusal span) e k =
           rw e (record { fewer = omega arith; before = refl; last = walked_last n src end s l q _ e tt })
 
   -- ---- by the answer
 
   -- m steps are done, and one more is refused: it changed nothing
-  pub record WalkRefused (number : ℕ) (span : Span) (n m : ℕ) (s : Session) (l q : List ℕ) : Type 0 where
+  pub record WalkRefused (refusal : Refusal) (span : Span) (n m : ℕ) (s : Session) (l q : List ℕ) : Type 0 where
     pub fewer : m < n
     pub before : (walked m src end s l q).turn.answer ≡ Answer.Done
     pub session : (walked n src end s l q).turn.session ≡ (walked m src end s l q).turn.session
     pub list : (walked n src end s l q).list ≡ (walked m src end s l q).list
     pub pool : (walked n src end s l q).pool ≡ (walked m src end s l q).pool
-    pub step : (next src end (walked m src end s l q)).turn.answer ≡ Answer.Refused number span
+    pub step : (next src end (walked m src end s l q)).turn.answer ≡ Answer.Refused refusal span
 
   module _ (n : ℕ) (s : Session) (l q : List ℕ) where
-    pub walk_refused : (number : ℕ) (span : Span) → (walked n src end s l q).turn.answer ≡ Answer.Refused number span
-        → WalkRefused number span n (steps_done n src end s l q) s l q
-    walk_refused number span e =
+    pub walk_refused : (refusal : Refusal) (span : Span) → (walked n src end s l q).turn.answer ≡ Answer.Refused refusal span
+        → WalkRefused refusal span n (steps_done n src end s l q) s l q
+    walk_refused refusal span e =
         let w = walk_last n s l q (rw e tt) in
         let there = walked (steps_done n src end s l q) src end s l q in
-        let told : (next src end there).turn.answer ≡ Answer.Refused number span =
+        let told : (next src end there).turn.answer ≡ Answer.Refused refusal span =
         ap (λ (x : After). x.turn.answer) (sym w.last) ∙ e in
         let keeps = call_kept src there.turn.session there.list there.pool Call.Step end in
-        let kept = keeps.back number span told in
+        let kept = keeps.back refusal span told in
         record {
           fewer = w.fewer;
           before = w.before;

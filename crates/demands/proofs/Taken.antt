@@ -10,6 +10,7 @@
 --   settled_hands   what it comes to in tables that do not lack room
 --   call_taken      so of a call that is not refused
 use Prim.Native.Nat.{ℕ, zero, suc, ◌+◌, ◌-◌, ◌*◌, ◌≤◌}
+use Rattle.byte.specs.declared.Refusal.{Refusal}
 use mathlib.Core.Path.{◌≡◌, refl, sym, ap, ◌∙◌}
 use mathlib.Core.Bool.{Bool, true, false, ◌||◌, false≢true}
 use mathlib.Core.List.{List, [], ◌∷◌, ◌++◌, append_assoc}
@@ -19,6 +20,9 @@ use lib.Dec.{eqb}
 use lib.ListN.{length, take, drop, take-append-drop}
 use lib.Seq.{drop-drop, take-take, take-append_seam, drop-append_seam}
 use borrow.Author.Tests.{eqb-true}
+use Rattle.lexer.proofs.Nexts.{roomy_cases}
+use Rattle.std.specs.Prelude.{Ok}
+use Rattle.byte.specs.Refusals.{is_same}
 use Rattle.byte.specs.Laid.{laid}
 use Rattle.byte.specs.Refusals.{wait, list_full, pool_full, is_among}
 use Rattle.byte.specs.Words.{every}
@@ -31,7 +35,7 @@ use Rattle.outcome.specs.declared.Call.{Call}
 use Rattle.outcome.specs.declared.Change.{Change}
 use Rattle.outcome.specs.Outcomes.{Piece, Outcome, values}
 use Rattle.outcome.specs.Steps.{call_outcome}
-use Rattle.outcome.proofs.Ways.{among_every}
+use Rattle.byte.proofs.Refusals.{among_every}
 use Rattle.commit.specs.declared.Mark.{Mark}
 use Rattle.commit.specs.Records.{span_at, past_piece, records, answer_of, Reached, reached}
 use Rattle.commit.proofs.Putting.{room_facts, records_length, put_laid}
@@ -147,7 +151,7 @@ wrote_both {s} {l} {q} {a} {b} {ts} {us} v w =
     }
 
 module _ (src : List ℕ) (s : Session) (l q : List ℕ) where
-  pub written_grows : (pieces : List Piece) (after : ℕ) (change : Change) (finished : Bool) → room src s l q pieces ≡ 0
+  pub written_grows : (pieces : List Piece) (after : ℕ) (change : Change) (finished : Bool) → room src s l q pieces ≡ Ok tt
       → Grows s l q (written src s l q pieces after change finished)
   written_grows pieces after change finished e =
       let fits = room_facts (length l) (length q) s.tokens s.bytes (length pieces) (length (values pieces)) e in
@@ -159,7 +163,7 @@ module _ (src : List ℕ) (s : Session) (l q : List ℕ) where
         pool = rw put-so.1 (laid_front q s.bytes _ (omega (arith, fits.1)));
       }
 
-  wrote_pieces : (pieces : List Piece) (after : ℕ) (change : Change) (finished : Bool) → room src s l q pieces ≡ 0
+  wrote_pieces : (pieces : List Piece) (after : ℕ) (change : Change) (finished : Bool) → room src s l q pieces ≡ Ok tt
       → Wrote s l q (written src s l q pieces after change finished) (takens src after (span_of s) pieces)
   wrote_pieces pieces after change finished e =
       let fits = room_facts (length l) (length q) s.tokens s.bytes (length pieces) (length (values pieces)) e in
@@ -188,8 +192,8 @@ handed_of src s (Outcome.Told pieces after change finished) = record {
   answer = answer_of finished;
   session = changed s (span_at src (span_of s) after) 0 0 change;
 }
-handed_of src s (Outcome.Refused number place) =
-    record { tokens = []; answer = Answer.Refused number (span_at src (span_of s) place); session = s }
+handed_of src s (Outcome.Refused refusal place) =
+    record { tokens = []; answer = Answer.Refused refusal (span_at src (span_of s) place); session = s }
 handed_of src s Outcome.Wait = record { tokens = []; answer = Answer.Refused wait (span_of s); session = s }
 
 -- a has written, answered and left what is handed
@@ -202,10 +206,10 @@ pub record Hands (s : Session) (l q : List ℕ) (a : After) (h : Handed) : Type 
 pub hands_taking : {s : Session} {l q : List ℕ} {a : After} {h : Handed} → Hands s l q a h → taking s a ≡ h
 hands_taking x = rw (wrote_new x.wrote, x.answer, x.session)
 
-full_lacks : (number : ℕ) (span : Span) → is_among number (list_full ∷ pool_full ∷ []) ≡ true
-    → lacks_room (Answer.Refused number span) ≡ true
+full_lacks : (refusal : Refusal) (span : Span) → is_among refusal (list_full ∷ pool_full ∷ []) ≡ true
+    → lacks_room (Answer.Refused refusal span) ≡ true
 unfolding lacks_room every
-full_lacks number span e = among_every (λ n. eqb n list_full || eqb n pool_full) (list_full ∷ pool_full ∷ []) refl number e
+full_lacks refusal span e = among_every (λ r. is_same r list_full || is_same r pool_full) (list_full ∷ pool_full ∷ []) refl refusal e
 
 module _ (src : List ℕ) (s : Session) (l q : List ℕ) where
   pub settled_hands : (o : Outcome) → lacks_room (settled src s l q o).turn.answer ≡ false
@@ -213,19 +217,19 @@ module _ (src : List ℕ) (s : Session) (l q : List ℕ) where
   unfolding reached frames_after depth_after
   settled_hands (Outcome.Told pieces after change finished) =
       let h = handed_of src (emptied s) (Outcome.Told pieces after change finished) in
-      choice
+      roomy_cases
       (λ (r : Reached). lacks_room (reaching s r).turn.answer ≡ false → Hands s l q (reaching s r) h)
-      (eqb (room src s l q pieces) 0) _ _
+      (room src s l q pieces) _ _ _
       (λ e f.
       record {
-        wrote = wrote_pieces src s l q pieces after change finished (eqb-true _ 0 e);
+        wrote = wrote_pieces src s l q pieces after change finished e;
         answer = refl;
         session = refl;
       })
-      (λ e f.
-      let full = room_among (length l) (length q) s.tokens s.bytes (length pieces) (length (values pieces)) e in
-      absurd (false≢true (sym f ∙ full_lacks (room src s l q pieces) (span_of s) full)))
-  settled_hands (Outcome.Refused number place) =
+      (λ refusal e f.
+      let full = room_among (length l) (length q) s.tokens s.bytes (length pieces) (length (values pieces)) refusal e in
+      absurd (false≢true (sym f ∙ full_lacks refusal (span_of s) full)))
+  settled_hands (Outcome.Refused refusal place) =
       λ f. record { wrote = wrote_none s l q _; answer = refl; session = refl }
   settled_hands Outcome.Wait = λ f. record { wrote = wrote_none s l q _; answer = refl; session = refl }
 
@@ -233,13 +237,13 @@ module _ (src : List ℕ) (s : Session) (l q : List ℕ) where
 abbrev pub Answered : Answer → Type 0
 Answered Answer.Done = Unit {0}
 Answered Answer.Finished = Unit {0}
-Answered (Answer.Refused number span) = ⊥
+Answered (Answer.Refused refusal span) = ⊥
 
 pub answered_room : (a : Answer) → Answered a → lacks_room a ≡ false
 unfolding lacks_room
 answered_room Answer.Done r = refl
 answered_room Answer.Finished r = refl
-answered_room (Answer.Refused number span) r = absurd r
+answered_room (Answer.Refused refusal span) r = absurd r
 
 module _ (call : Call) (src : List ℕ) (end : Bool) (s : Session) (l q : List ℕ) where
   abbrev outcome : Outcome
@@ -250,7 +254,7 @@ module _ (call : Call) (src : List ℕ) (end : Bool) (s : Session) (l q : List �
   answered_taken =
       called_cases call src end s l q
       (λ (a : After). Answered a.turn.answer → new_in s a ≡ (handed_of src (emptied s) outcome).tokens)
-      (λ h r. wrote_new (settled_hands src s l q outcome (answered_room _ r)).wrote) (λ number e r. absurd r)
+      (λ h r. wrote_new (settled_hands src s l q outcome (answered_room _ r)).wrote) (λ refusal e r. absurd r)
 
   pub call_taken : (pieces : List Piece) (after : ℕ) (change : Change) (finished : Bool)
       → call_outcome call src end s ≡ Outcome.Told pieces after change finished

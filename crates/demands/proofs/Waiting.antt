@@ -4,12 +4,16 @@
 --                                              outcome's own are others
 --   wait_first                                 a wait comes before 7 and 8, however small the tables
 use Prim.Native.Nat.{ℕ, ◌+◌, ◌/◌, ◌≤◌}
+use Rattle.std.specs.Prelude.{Ok}
+use Rattle.byte.specs.declared.Refusal.{Refusal}
 use mathlib.Core.Path.{◌≡◌, refl, sym, ap, ◌∙◌}
-use mathlib.Core.Bool.{Bool, true, false, false≢true}
-use mathlib.Core.List.{List, [], ◌++◌, append-nil}
+use mathlib.Core.Bool.{Bool, true, false, false≢true, not}
+use mathlib.Core.List.{List, [], ◌∷◌, ◌++◌, append-nil}
 use lib.Dec.{eqb, leb}
 use lib.ListN.{length}
-use borrow.Author.Tests.{le-leb}
+use borrow.Author.Tests.{le-leb, not-true}
+use Rattle.std.specs.Prelude.{Err}
+use Rattle.byte.specs.Refusals.{is_same, list_full, pool_full}
 use Rattle.byte.specs.Words.{every}
 use Rattle.byte.specs.Demand.{is_byte}
 use Rattle.byte.specs.Refusals.{wait}
@@ -29,18 +33,20 @@ use Rattle.lexer.specs.Turns.{settled}
 use Rattle.lexer.specs.Calls.{called}
 use Rattle.lexer.proofs.Nexts.{settled_cases}
 use Rattle.lexer.proofs.Calls.{lent_opened}
+use Rattle.byte.proofs.Refusals.{among_every}
+use Rattle.demands.proofs.Refusals.{room_among}
 use Rattle.demands.specs.Walks.{is_wait}
 use Rattle.demands.specs.Waits.{WaitsExactly}
 use Rattle.demands.proofs.Good.{Sound, let_sound, position_inside}
 use Rattle.demands.proofs.Longer.{settled_append, gate_open, sound_append}
 
-room_other : (list pool tokens bytes count len : ℕ) → eqb (room_refusal list pool tokens bytes count len) wait ≡ false
-unfolding room_refusal
-room_other list pool tokens bytes count len =
-    choice Other (leb (tokens + count) (list / 8)) _ _ (λ e. choice Other (leb (bytes + len) pool) 0 8 (λ f. refl) (λ f. refl)) (λ e. refl)
-  where
-    Other : ℕ → Type 0
-    Other n = eqb n 6 ≡ false
+room_other : (list pool tokens bytes count len : ℕ) (refusal : Refusal) → room_refusal list pool tokens bytes count len ≡ Err refusal
+    → is_same refusal wait ≡ false
+unfolding every
+room_other list pool tokens bytes count len refusal e =
+    not-true _
+    (among_every (λ r. not (is_same r wait)) (list_full ∷ pool_full ∷ []) refl refusal
+    (room_among list pool tokens bytes count len refusal e))
 
 answer_other : (finished : Bool) → is_wait (answer_of finished) ≡ false
 unfolding is_wait
@@ -55,16 +61,16 @@ module _ (src : List ℕ) (s : Session) (l q : List ℕ) where
       settled_cases src s l q
       (λ o a. Inside s.position hi o → (o ≡ Outcome.Wait → ⊥) → is_wait a.turn.answer ≡ false)
       (λ pieces after change finished e i k. answer_other finished)
-      (λ pieces after change finished i k.
-      room_other (length l) (length q) s.tokens s.bytes (length pieces) (length (values pieces)))
-      (λ number place i k. i.told) (λ i k. absurd (k refl)) o
+      (λ pieces after change finished refusal e i k.
+      room_other (length l) (length q) s.tokens s.bytes (length pieces) (length (values pieces)) refusal e)
+      (λ refusal place i k. i.told) (λ i k. absurd (k refl)) o
 
   settled_wait : (o : Outcome) (hi : ℕ) → Inside s.position hi o → is_wait (settled src s l q o).turn.answer ≡ true
       → o ≡ Outcome.Wait
   settled_wait (Outcome.Told pieces after change finished) hi i e =
       absurd (false≢true (sym (settled_other (Outcome.Told pieces after change finished) hi i told_waits) ∙ e))
-  settled_wait (Outcome.Refused number place) hi i e =
-      absurd (false≢true (sym (settled_other (Outcome.Refused number place) hi i refused_waits) ∙ e))
+  settled_wait (Outcome.Refused refusal place) hi i e =
+      absurd (false≢true (sym (settled_other (Outcome.Refused refusal place) hi i refused_waits) ∙ e))
   settled_wait Outcome.Wait hi i e = refl
 
   settled_six : (o : Outcome) → o ≡ Outcome.Wait → is_wait (settled src s l q o).turn.answer ≡ true
@@ -113,7 +119,7 @@ module _ (call : Call) (part : List ℕ) (s : Session) (l q : List ℕ) (bytes :
 
 -- whatever frame is on top: a reading out of place is among them
 pub called_let : (call : Call) (part : List ℕ) (s : Session) (l q : List ℕ) → every is_byte part ≡ true
-    → lent_refusal part (length l) (length q) s ≡ 0
+    → lent_refusal part (length l) (length q) s ≡ Ok tt
     → WaitsExactly (λ xs end. called call xs end s l q) (λ xs. call_outcome call xs true s) part
 unfolding tables_fit
 called_let call part s l q bytes gate =

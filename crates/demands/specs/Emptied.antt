@@ -11,8 +11,8 @@
 --   taking           what a call from any session has given, but for its marks; unmarked: of what was handed
 --   walked_emptied   at most so many steps, the tables emptied before each
 --   fed_emptied      a script in parts, the tables emptied before each part
-use Rattle.std.specs.Prelude.{ℕ, zero, suc, ◌-◌, ◌*◌, Bool, true, false, ◌||◌, List, [], ◌∷◌, ◌++◌, eqb, get_or, take, drop, if◌then◌else◌}
-use Rattle.byte.specs.Refusals.{list_full, pool_full}
+use Rattle.std.specs.Prelude.{ℕ, zero, suc, ◌-◌, ◌*◌, Bool, true, false, ◌||◌, List, [], ◌∷◌, ◌++◌, get_or, take, drop, if◌then◌else◌}
+use Rattle.byte.specs.Refusals.{list_full, pool_full, is_same}
 use Rattle.source.specs.declared.Span.{Span}
 use Rattle.state.specs.declared.Answer.{Answer}
 use Rattle.state.specs.declared.Session.{Session}
@@ -71,7 +71,7 @@ emptied s = record {
 }
 
 unfoldable pub lacks_room : Answer → Bool
-lacks_room (Answer.Refused number span) = eqb number list_full || eqb number pool_full
+lacks_room (Answer.Refused refusal span) = is_same refusal list_full || is_same refusal pool_full
 lacks_room Answer.Done = false
 lacks_room Answer.Finished = false
 

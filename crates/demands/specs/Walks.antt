@@ -9,8 +9,8 @@
 --   joined       the script that parts make
 --   fed          a script in parts: each part is stepped, with more announced, up to a wait; the next part comes after
 --                it, the session, list and pool as the wait found them; after the last part the end is announced
-use Rattle.std.specs.Prelude.{ℕ, zero, suc, Bool, true, false, List, [], ◌∷◌, ◌++◌, eqb, if◌then◌else◌}
-use Rattle.byte.specs.Refusals.{wait}
+use Rattle.std.specs.Prelude.{ℕ, zero, suc, Bool, true, false, List, [], ◌∷◌, ◌++◌, if◌then◌else◌}
+use Rattle.byte.specs.Refusals.{wait, is_same}
 use Rattle.state.specs.declared.Answer.{Answer}
 use Rattle.state.specs.declared.Session.{Session}
 use Rattle.state.specs.Calls.{done}
@@ -21,7 +21,7 @@ use Rattle.lexer.specs.Calls.{gated, called, stepped}
 unfoldable pub gone_on : Answer → After → After → After
 gone_on Answer.Done now later = later
 gone_on Answer.Finished now later = now
-gone_on (Answer.Refused number span) now later = now
+gone_on (Answer.Refused refusal span) now later = now
 
 unfoldable pub walked : ℕ → List ℕ → Bool → Session → List ℕ → List ℕ → After
 walked zero src end s list pool = record { turn = done s; list = list; pool = pool }
@@ -39,7 +39,7 @@ called_on call (suc n) src end s list pool =
 unfoldable pub counted : Answer → ℕ → ℕ
 counted Answer.Done later = suc later
 counted Answer.Finished later = 0
-counted (Answer.Refused number span) later = 0
+counted (Answer.Refused refusal span) later = 0
 
 unfoldable pub steps_done : ℕ → List ℕ → Bool → Session → List ℕ → List ℕ → ℕ
 steps_done zero src end s list pool = 0
@@ -56,10 +56,10 @@ calls_done call (suc n) src end s list pool =
 unfoldable pub is_done : Answer → Bool
 is_done Answer.Done = true
 is_done Answer.Finished = false
-is_done (Answer.Refused number span) = false
+is_done (Answer.Refused refusal span) = false
 
 unfoldable pub is_wait : Answer → Bool
-is_wait (Answer.Refused number span) = eqb number wait
+is_wait (Answer.Refused refusal span) = is_same refusal wait
 is_wait Answer.Done = false
 is_wait Answer.Finished = false
 

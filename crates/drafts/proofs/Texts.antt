@@ -5,6 +5,7 @@
 --   text_planned   the same of what the scan answered
 use Rattle.std.specs.Prelude.{if◌then◌else◌, Option, None, Some}
 use Prim.Native.Nat.{ℕ, ◌+◌, ◌≤◌}
+use Rattle.byte.specs.declared.Refusal.{Refusal}
 use mathlib.Core.Path.{◌≡◌, refl, sym, ap, ◌∙◌}
 use mathlib.Core.Bool.{Bool, true, false, false≢true}
 use mathlib.Core.List.{List, [], ◌∷◌}
@@ -93,15 +94,15 @@ module _ (place n : ℕ) (xs : List ℕ) where
   text_read_as (Mode.Heredoc octals) r = refl
   text_read_as Mode.Nowdoc r = refl
 
-  text_read_refused : (mode : Mode) (number fault : ℕ)
-      → text_read mode place n xs (unit.Refused number fault) ≡ Outcome.Refused number fault
+  text_read_refused : (mode : Mode) (refusal : Refusal) (fault : ℕ)
+      → text_read mode place n xs (unit.Refused refusal fault) ≡ Outcome.Refused refusal fault
   unfolding text_read texted literal
-  text_read_refused Mode.Single number fault = refl
-  text_read_refused (Mode.Double octals) number fault = refl
-  text_read_refused (Mode.DoubleQuote octals) number fault = refl
-  text_read_refused Mode.ShellExec number fault = refl
-  text_read_refused (Mode.Heredoc octals) number fault = refl
-  text_read_refused Mode.Nowdoc number fault = refl
+  text_read_refused Mode.Single refusal fault = refl
+  text_read_refused (Mode.Double octals) refusal fault = refl
+  text_read_refused (Mode.DoubleQuote octals) refusal fault = refl
+  text_read_refused Mode.ShellExec refusal fault = refl
+  text_read_refused (Mode.Heredoc octals) refusal fault = refl
+  text_read_refused Mode.Nowdoc refusal fault = refl
 
   text_read_waits : (mode : Mode) → text_read mode place n xs unit.Wait ≡ Outcome.Wait
   unfolding text_read texted literal
@@ -167,7 +168,7 @@ reading_placed : (m : Mode) (at hi : ℕ) (xs : List ℕ) (r : unit.Reading) →
     → Placed at (text-scans.measured r)
 unfolding text-scans.measured Placed
 reading_placed m at hi xs (unit.Text value stop from after) i = (i.fits, i.order)
-reading_placed m at hi xs (unit.Refused number place) i = tt
+reading_placed m at hi xs (unit.Refused refusal place) i = tt
 reading_placed m at hi xs unit.Wait i = tt
 
 -- a held draft's value stands in the scratch part
@@ -261,8 +262,8 @@ module _ (mode : Mode) (src : List ℕ) (label : Label) (end : Bool) (at : ℕ) 
           let xs = drop at src in
           let found = unit.Text value stop from after in
           rw (text_read_as place at xs mode found) (read_plans_as (literal_kind mode) from after stop value e)
-      text_plans (unit.Refused number fault) e =
-          rw (text_read_refused place at (drop at src) mode number fault) (refused_plans src end number fault)
+      text_plans (unit.Refused refusal fault) e =
+          rw (text_read_refused place at (drop at src) mode refusal fault) (refused_plans src end refusal fault)
       text_plans unit.Wait e = rw (text_read_waits place at (drop at src) mode) (wait_plans src end)
 
   module _ (part : List ℕ) (p : part ≡ label_bytes src label) (dst : List ℕ) (scan : Scanned)

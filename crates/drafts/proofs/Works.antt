@@ -3,6 +3,7 @@
 --   .. -arm                    the same on each arm of a match on the scan
 use Rattle.std.specs.Prelude.{Option, Some, None}
 use Prim.Native.Nat.{ℕ, ◌+◌, ◌-◌, ◌≤◌}
+use Rattle.byte.specs.declared.Refusal.{Refusal}
 use mathlib.Core.Path.{◌≡◌, refl, sym, ◌∙◌}
 use mathlib.Core.Bool.{Bool}
 use mathlib.Core.List.{List, []}
@@ -71,8 +72,8 @@ measures scan (unit.Text value stop' from' after') len stop from after s a =
     let y : after' ≡ after = cc in
     let w : len ≡ length value = cc in
     record { value = value; same = rw (v, x, y); size = w }
-measures scan (unit.Refused number place) len stop from after s a =
-    let z : Scanned.Text len stop from after ≡ Scanned.Refused number place = sym a ∙ s in
+measures scan (unit.Refused refusal place) len stop from after s a =
+    let z : Scanned.Text len stop from after ≡ Scanned.Refused refusal place = sym a ∙ s in
     absurd (let y : ◌≡◌ {A = ℕ} 0 1 = cc in omega arith)
 measures scan unit.Wait len stop from after s a =
     let z : Scanned.Text len stop from after ≡ Scanned.Wait = sym a ∙ s in
@@ -83,8 +84,8 @@ module _ {scratch : List ℕ} (mode : Mode) (src : List ℕ) (end : Bool) (at : 
     (read : unit.Reading)
     (makes : (value : List ℕ) (stop : Stop) (from after : ℕ) → read ≡ unit.Text value stop from after
     → Makes src end scratch (piece string_part at value) (draft (length value) stop from))
-    (numbers : List ℕ) where
-  pub read-plans : (r : unit.Reading) → read ≡ r → unit-inside.InsideReading numbers at (length src) r
+    (refusals : List Refusal) where
+  pub read-plans : (r : unit.Reading) → read ≡ r → unit-inside.InsideReading refusals at (length src) r
       → PlansIn src end scratch (texted mode at (drop at src) r) (text_work mode draft (text-scans.measured r))
   unfolding texted text_work text_plan text-scans.measured made_by outcome_of
   read-plans (unit.Text value stop from after) e i =
@@ -93,10 +94,10 @@ module _ {scratch : List ℕ} (mode : Mode) (src : List ℕ) (end : Bool) (at : 
       (λ k. copied_draft (stop_kind mode stop) (stop_detail stop) k from after)
       (makes value stop from after e)
       (λ k. copied_ready src end (stop_kind mode stop) (stop_detail stop) k from after i.order i.inside))
-  read-plans (unit.Refused number place) e i = record { told = refl; ready = tt }
+  read-plans (unit.Refused refusal place) e i = record { told = refl; ready = tt }
   read-plans unit.Wait e i = record { told = refl; ready = tt }
 
-  scan_plans : unit-inside.InsideReading numbers at (length src) read → (scan arm : Scanned) → scan ≡ text-scans.measured read → scan ≡ arm
+  scan_plans : unit-inside.InsideReading refusals at (length src) read → (scan arm : Scanned) → scan ≡ text-scans.measured read → scan ≡ arm
       → (r : Plan) → r ≡ text_work mode draft arm → PlansIn src end scratch (texted mode at (drop at src) read) r
   scan_plans i scan arm s a r e =
       let work : r ≡ text_work mode draft (text-scans.measured read) = e ∙ rw (← a, s) in

@@ -67,7 +67,7 @@ text_plan mode part stop from after =
 -- where a text of so many bytes before a stop makes this draft
 unfoldable pub text_work : Mode → (ℕ → Stop → ℕ → Draft) → Scanned → Plan
 text_work mode draft (Scanned.Text len stop from after) = text_plan mode (draft len stop from) stop from after
-text_work mode draft (Scanned.Refused number place) = Plan.Refused number place
+text_work mode draft (Scanned.Refused refusal place) = Plan.Refused refusal place
 text_work mode draft Scanned.Wait = Plan.Wait
 
 unfoldable pub literal_kind : Mode → Option ℕ
@@ -84,7 +84,7 @@ literal_plan d left after = one_plan d after (if left then Change.Swap Frame.Dou
 
 unfoldable pub Placed : ℕ → Scanned → Type 0
 Placed at (Scanned.Text len stop from after) = (at + len + gap stop ≤ from) × (from ≤ after)
-Placed at (Scanned.Refused number place) = Unit {0}
+Placed at (Scanned.Refused refusal place) = Unit {0}
 Placed at Scanned.Wait = Unit {0}
 
 -- a mode's text, or a literal of a kind
@@ -99,7 +99,7 @@ unfoldable pub read_plan : Mode → ℕ → Label → ℕ → ℕ → Scanned �
 read_plan mode place label at room (Scanned.Text len stop from after) =
     let making = text_making mode label (is_held mode len room) in
     text_read_plan (literal_kind mode) mode place making at len stop from after
-read_plan mode place label at room (Scanned.Refused number fault) = Plan.Refused number fault
+read_plan mode place label at room (Scanned.Refused refusal fault) = Plan.Refused refusal fault
 read_plan mode place label at room Scanned.Wait = Plan.Wait
 
 unfoldable pub number_plan : ℕ → ℕ → Literal → ℕ → ℕ → Plan

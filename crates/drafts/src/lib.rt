@@ -207,7 +207,7 @@ pub fn sheet_mode(src: &[u8], label: Label, at: usize, end: bool) -> Plan
             let part = sheet_draft(at, len, stop, from);
             text_plan(Mode::Nowdoc, part, stop, from, after)
         }
-        Scanned::Refused { number, place } => Plan::Refused { number, place },
+        Scanned::Refused { refusal, place } => Plan::Refused { refusal, place },
         Scanned::Wait => Plan::Wait,
     }
 }
@@ -280,7 +280,7 @@ fn read_plan(mode: Mode, place: usize, label: Label, at: usize, room: usize, sca
                 }
             }
         }
-        Scanned::Refused { number, place } => Plan::Refused { number, place },
+        Scanned::Refused { refusal, place } => Plan::Refused { refusal, place },
         Scanned::Wait => Plan::Wait,
     }
 }

@@ -2,6 +2,7 @@
 use Rattle.std.specs.Prelude.{if◌then◌else◌, Option, Some, None, is_some, unwrap_or}
 use Rattle.std.proofs.Math.Nat.{mul-le-mul_left}
 use Prim.Native.Nat.{ℕ, zero, suc, ◌+◌, ◌-◌, ◌*◌, ◌≤◌, ◌<◌}
+use Rattle.byte.specs.declared.Refusal.{Refusal}
 use mathlib.Core.Path.{◌≡◌, refl, sym, ◌∙◌, ap}
 use mathlib.Core.Bool.{Bool, true, false, ◌&&◌, ◌||◌}
 use mathlib.Core.List.{List, [], ◌∷◌}
@@ -165,7 +166,7 @@ module _ (src : List ℕ) (at : ℕ) (end : Bool) where
   pointing_first h = record { inside = h; same = refl }
 
   module _ (value : Option ℕ) (n : ℕ) (p : Pointing src at end (is_some value) (unwrap_or value 0) n) where
-    pub pointing_past : (r : TextUnit) → length src ≤ n → r ≡ last end (TextUnit.Fault 2 (length src))
+    pub pointing_past : (r : TextUnit) → length src ≤ n → r ≡ last end (TextUnit.Fault Refusal.InvalidUnicodeEscape (length src))
         → r ≡ code_point end false 0 at (drop at src)
     unfolding code_point
     pointing_past r past f =
@@ -175,21 +176,21 @@ module _ (src : List ℕ) (at : ℕ) (end : Bool) where
     module _ (h : n < length src) where
       module _ (g : 16 ≤ digit_value (get_or src n 0)) where
         pub pointing_closed : (code : ℕ) (r : TextUnit) → value ≡ Some code → get_or src n 0 ≡ 125
-            → r ≡ (if is_scalar code then TextUnit.Point code (n + 1) else TextUnit.Fault 2 (n + 1)) → r ≡ code_point end false 0 at (drop at src)
+            → r ≡ (if is_scalar code then TextUnit.Point code (n + 1) else TextUnit.Fault Refusal.InvalidUnicodeEscape (n + 1)) → r ≡ code_point end false 0 at (drop at src)
         unfolding code_point
         pointing_closed code r e t f =
             f ∙ sym (p.same ∙ rw (drop-one src n h, le-ltb (digit_value (get_or src n 0)) 16 g, e, eq-eqb (get_or src n 0) 125 t, add-one))
 
-        pub pointing_none : value ≡ None → TextUnit.Fault 2 n ≡ code_point end false 0 at (drop at src)
+        pub pointing_none : value ≡ None → TextUnit.Fault Refusal.InvalidUnicodeEscape n ≡ code_point end false 0 at (drop at src)
         unfolding code_point
         pointing_none e = sym (p.same ∙ rw (drop-one src n h, le-ltb (digit_value (get_or src n 0)) 16 g, e))
 
-        pub pointing_other : (get_or src n 0 ≡ 125 → ⊥) → TextUnit.Fault 2 n ≡ code_point end false 0 at (drop at src)
+        pub pointing_other : (get_or src n 0 ≡ 125 → ⊥) → TextUnit.Fault Refusal.InvalidUnicodeEscape n ≡ code_point end false 0 at (drop at src)
         unfolding code_point
         pointing_other t =
             sym (p.same ∙ rw (drop-one src n h, le-ltb (digit_value (get_or src n 0)) 16 g, ne_eqb (get_or src n 0) 125 t) (neither (is_some value)))
           where
-            neither : (some : Bool) → (if some && false then (if is_scalar (unwrap_or value 0) then TextUnit.Point (unwrap_or value 0) (suc n) else TextUnit.Fault 2 (suc n)) else TextUnit.Fault 2 n) ≡ TextUnit.Fault 2 n
+            neither : (some : Bool) → (if some && false then (if is_scalar (unwrap_or value 0) then TextUnit.Point (unwrap_or value 0) (suc n) else TextUnit.Fault Refusal.InvalidUnicodeEscape (suc n)) else TextUnit.Fault Refusal.InvalidUnicodeEscape n) ≡ TextUnit.Fault Refusal.InvalidUnicodeEscape n
             neither true = refl
             neither false = refl
 

@@ -8,7 +8,7 @@ ghost use Rattle.unit.specs.declared.TextUnit.{TextUnit};
 ghost use Rattle.unit.specs.Digits.{digit_value, is_scalar, utf8};
 ghost use Rattle.unit.specs.Escapes.{last, backslash, letter_value, overflowing, fitted, digits, hex, code_point, braced, escape, quote_escape};
 
-use byte::Octal;
+use byte::{Octal, Refusal};
 use unit::TextUnit;
 
 // The value of a digit of this base; none of any other byte.
@@ -118,7 +118,7 @@ fn overflowing(octals: Octal, value: u32, n: usize) -> TextUnit
 {
     match octals {
         Octal::Rust => TextUnit::Fault {
-            number: byte::INVALID_OCTAL_ESCAPE,
+            refusal: Refusal::InvalidOctalEscape,
             place: n,
         },
         Octal::Manual => TextUnit::Byte {
@@ -203,13 +203,13 @@ fn grown(value: u32, digit: u32) -> u32
 // A value in closed braces.
 #[tactic(auto, using(crate::proofs::Digits::scalar_point))]
 fn closed(code: u32, after: usize) -> TextUnit
-    ensures { result ≡ (if is_scalar code then TextUnit.Point code after else TextUnit.Fault 2 after) }
+    ensures { result ≡ (if is_scalar code then TextUnit.Point code after else TextUnit.Fault Refusal.InvalidUnicodeEscape after) }
 {
     if char::from_u32(code).is_some() {
         return TextUnit::Point { code, after };
     }
     TextUnit::Fault {
-        number: byte::INVALID_UNICODE_ESCAPE,
+        refusal: Refusal::InvalidUnicodeEscape,
         place: after,
     }
 }
@@ -226,7 +226,7 @@ fn code_point_at(src: &[u8], at: usize, end: bool) -> TextUnit
             return match value {
                 Some(code) if src[n] == b'}' => closed(code, n + 1),
                 _ => TextUnit::Fault {
-                    number: byte::INVALID_UNICODE_ESCAPE,
+                    refusal: Refusal::InvalidUnicodeEscape,
                     place: n,
                 },
             };
@@ -234,7 +234,7 @@ fn code_point_at(src: &[u8], at: usize, end: bool) -> TextUnit
         value = Some(grown(value.unwrap_or(0), digit));
     }
     let fault = TextUnit::Fault {
-        number: byte::INVALID_UNICODE_ESCAPE,
+        refusal: Refusal::InvalidUnicodeEscape,
         place: src.len(),
     };
     last(end, fault)

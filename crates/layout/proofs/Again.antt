@@ -29,7 +29,8 @@ use Rattle.state.specs.declared.Choices.{Choices}
 use Rattle.state.specs.declared.Session.{Session}
 use Rattle.state.specs.Bounds.{is_label, is_frame, is_bottom, no_slot, is_slot, is_stack, is_within, is_good, no_label}
 use Rattle.state.specs.Calls.{moved, entered, left}
-use Rattle.state.specs.Gates.{source_fits, tables_fit, gate_refusal, lent_refusal}
+use Rattle.std.specs.Prelude.{Result, Err}
+use Rattle.state.specs.Gates.{checked, source_fits, tables_fit, gate_refusal, lent_refusal}
 use Rattle.state.proofs.Bounds.{is_within_facts}
 use Rattle.layout.specs.Sessions.{frame_number, label_of, frames_numbers, reading_flag, octal_flag, choices_number, numbers_of, is_label_numbers, label_in, frame_in, frames_in, reading_in, octal_in, are_choices, choices_in, depth_in, session_in, is_frame_numbers, are_slots, is_session}
 use Rattle.layout.proofs.Sessions.{length_frames_in, reading_flag_small, octal_flag_small}
@@ -231,12 +232,16 @@ not_good src numbers e = go (is_good src (session_in numbers)) refl
     go true h = absurd (false≢true (sym e ∙ good_session src numbers h))
     go false h = refl
 
+shut : (fits : Bool) → checked fits false ≡ Err (if fits then bad_session else too_large)
+shut true = refl
+shut false = refl
+
 module _ (src numbers : List ℕ) (e : is_session numbers ≡ false) where
-  pub no_session : gate_refusal src (session_in numbers) ≡ (if source_fits src then bad_session else too_large)
+  pub no_session : gate_refusal src (session_in numbers) ≡ Err (if source_fits src then bad_session else too_large)
   unfolding gate_refusal
-  no_session = rw (not_good src numbers e)
+  no_session = rw (not_good src numbers e) (shut (source_fits src))
 
   pub no_session_lent : (list pool : ℕ)
-      → lent_refusal src list pool (session_in numbers) ≡ (if tables_fit list pool && source_fits src then bad_session else too_large)
+      → lent_refusal src list pool (session_in numbers) ≡ Err (if tables_fit list pool && source_fits src then bad_session else too_large)
   unfolding lent_refusal
-  no_session_lent list pool = rw (not_good src numbers e)
+  no_session_lent list pool = rw (not_good src numbers e) (shut (tables_fit list pool && source_fits src))

@@ -2,12 +2,14 @@
 --   frame_in_at     the frame in a slot
 --   alone_session   the gate over numbers is the gate of their session
 use Prim.Native.Nat.{ℕ, zero, suc, ◌+◌, ◌*◌, ◌≤◌, ◌<◌}
+use Rattle.byte.specs.declared.Refusal.{Refusal}
 use mathlib.Core.Path.{◌≡◌, refl, sym, ap, ◌∙◌}
 use mathlib.Core.List.{List}
 use native.Mathlib.Omega.{arith}
 use lib.ListN.{length, get_or, drop}
 use lib.Seq.{drop-drop}
 use Rattle.source.specs.declared.Span.{Span}
+use Rattle.std.specs.Prelude.{Result}
 use Rattle.state.specs.declared.Frame.{Frame}
 use Rattle.state.specs.declared.Slot.{Slot}
 use Rattle.state.specs.Bounds.{no_slot}
@@ -38,7 +40,7 @@ abbrev pub frame_told : List ℕ → ℕ → Frame
 frame_told numbers i = (get_or (frames_in 64 (drop 7 numbers)) i no_slot).frame
 
 -- the gate over the numbers is the gate of their session
-pub alone_session : (src numbers : List ℕ) (p : Span) (depth alone : ℕ) → p ≡ span_of (session_in numbers)
+pub alone_session : (src numbers : List ℕ) (p : Span) (depth : ℕ) (alone : Result (Unit {0}) Refusal) → p ≡ span_of (session_in numbers)
     → depth ≡ depth_in (get_or numbers 3 0) (get_or numbers 6 0) → alone ≡ gate_over src p depth (frame_told numbers)
     → alone ≡ gate_refusal src (session_in numbers)
 alone_session src numbers p depth alone e d a = a ∙ rw d (gate_session src (session_in numbers) p e)

@@ -10,6 +10,7 @@ ghost use Rattle.layout.specs.Sessions.{frame_number, label_of, slot_numbers, fr
 ghost use Rattle.layout.specs.Lent.{place_numbers};
 ghost use Rattle.layout.specs.Answers.{answer_numbers, refusal_in, Turned};
 
+use byte::Refusal;
 use source::Span;
 use state::{Answer, Frame, Label, Session, Slot, Turn};
 
@@ -92,26 +93,23 @@ pub fn span_in(numbers: &[u32]) -> Span
     }
 }
 
-// Refusals 11 and 12 where a list of `list` numbers and a pool of `pool` bytes are lent. 0 for neither. Slots from the depth on are not
+// Refusals 11 and 12 where a list of `list` numbers and a pool of `pool` bytes are lent. Slots from the depth on are not
 // looked at.
-pub fn gate_in(src: &[u8], list: usize, pool: usize, numbers: &[u32]) -> u32
+pub fn gate_in(src: &[u8], list: usize, pool: usize, numbers: &[u32]) -> Result<(), Refusal>
     requires { 199 ≤ length numbers.now }
     ensures { result ≡ lent_refusal src.now list pool (session_in numbers.now) }
 {
     if 65536 < pool || 65537 < list / 8 {
-        return byte::TOO_LARGE;
+        return Err(Refusal::TooLarge);
     }
     let depth = depth_in(numbers[3], numbers[6]);
-    let alone = state::gate_over(src, span_in(numbers), depth, |i| frame_at(numbers, i));
-    if alone != 0 {
-        return alone;
-    }
+    state::gate_over(src, span_in(numbers), depth, |i| frame_at(numbers, i))?;
     let tokens = numbers[4] as usize;
     let bytes = numbers[5] as usize;
     if list / 8 < tokens || pool < bytes {
-        return byte::BAD_SESSION;
+        return Err(Refusal::BadSession);
     }
-    0
+    Ok(())
 }
 
 // The session in 199 numbers.
@@ -225,7 +223,10 @@ pub fn put_answer(answer: &mut [u32], a: Answer)
     let numbers = match a {
         Answer::Done => [0, 0, 0, 0, 0],
         Answer::Finished => [1, 0, 0, 0, 0],
-        Answer::Refused { number, span } => [2, number, span.line, span.column, span.position],
+        Answer::Refused { refusal, span } => {
+            let number = u32::from(refusal);
+            [2, number, span.line, span.column, span.position]
+        }
     };
     answer[..5].copy_from_slice(&numbers);
 }
@@ -237,7 +238,7 @@ pub fn refusal_in(a: Answer) -> u32
 {
     match a {
         Answer::Done | Answer::Finished => 0,
-        Answer::Refused { number, span: _ } => number,
+        Answer::Refused { refusal, span: _ } => u32::from(refusal),
     }
 }
 
@@ -247,10 +248,12 @@ pub fn put_turn(t: Turn, session: &mut [u32], answer: &mut [u32]) -> u32
     ensures { Turned t session.old answer.old result session.new answer.new }
 {
     let a = t.answer;
-    let refusal = refusal_in(a);
     put_answer(answer, a);
-    if refusal == 0 {
-        put_session(session, t.session);
+    match a {
+        Answer::Refused { refusal, span: _ } => u32::from(refusal),
+        Answer::Done | Answer::Finished => {
+            put_session(session, t.session);
+            0
+        }
     }
-    refusal
 }

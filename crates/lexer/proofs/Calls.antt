@@ -4,6 +4,7 @@
 --   steps                  the plan is committed
 --   called_shut, open-..   in a session: the gate is shut, or what holds after it
 use Prim.Native.Nat.{ℕ, ◌+◌, ◌/◌, ◌≤◌}
+use Rattle.byte.specs.declared.Refusal.{Refusal}
 use mathlib.Core.Path.{◌≡◌, refl, ap, ◌∙◌}
 use mathlib.Core.Bool.{Bool, true, false, ◌&&◌}
 use mathlib.Core.List.{List}
@@ -19,6 +20,7 @@ use Rattle.state.specs.declared.Choices.{Choices}
 use Rattle.state.specs.declared.Session.{Session}
 use Rattle.state.specs.declared.Turn.{Turn}
 use Rattle.state.specs.Bounds.{is_within, is_stack, is_good, fits_tables}
+use Rattle.std.specs.Prelude.{Ok, Err}
 use Rattle.state.specs.Gates.{source_fits, tables_fit, lent_refusal}
 use Rattle.state.specs.Calls.{refused}
 use Rattle.state.proofs.Bounds.{Within, is_within_facts}
@@ -51,14 +53,14 @@ pub record Lent (src : List ℕ) (s : Session) (list pool : ℕ) : Type 0 where
   pub places : list / 8 ≤ 65537
   pub room : pool ≤ 65536
 
-pub lent_opened : (src : List ℕ) (s : Session) (list pool : ℕ) → lent_refusal src list pool s ≡ 0 → Lent src s list pool
+pub lent_opened : (src : List ℕ) (s : Session) (list pool : ℕ) → lent_refusal src list pool s ≡ Ok tt → Lent src s list pool
 unfolding lent_refusal tables_fit source_fits is_good fits_tables
 lent_opened src s list pool e =
     let tables = leb pool 65536 && leb (list / 8) 65537 in
     let good = is_within (length src) s && is_stack src s in
     let marks = leb s.tokens (list / 8) && leb s.bytes pool in
-    let large = unrefused (tables && leb (length src) 65536) _ 10 e in
-    let bad = (unrefused (good && marks) 0 11 large.1).0 in
+    let large = unrefused (tables && leb (length src) 65536) _ _ e in
+    let bad = (unrefused (good && marks) _ _ large.1).0 in
     let fits = &&-left tables (leb (length src) 65536) large.0 in
     record {
       source = leb-true _ _ (&&-right tables (leb (length src) 65536) large.0);
@@ -121,13 +123,13 @@ pub ruleset steps = (step_here, step_commits, step_committed)
 -- ---- in a session
 
 module _ (call : Call) (src : List ℕ) (end : Bool) (s : Session) (l q : List ℕ) where
-  pub called_shut : (shut : ℕ) → shut ≡ lent_refusal src (length l) (length q) s → (r : Turn) → (shut ≡ 0 → ⊥)
-      → r ≡ refused shut origin s → Gives (called call src end s l q) r l q
+  pub called_shut : (refusal : Refusal) → lent_refusal src (length l) (length q) s ≡ Err refusal → (r : Turn)
+      → r ≡ refused refusal origin s → Gives (called call src end s l q) r l q
   unfolding called
-  called_shut shut e r n h = rw (← e, ne_eqb shut 0 n) (record { turn = h; list = refl; pool = refl })
+  called_shut refusal e r h = rw e (record { turn = h; list = refl; pool = refl })
 
   -- after an open gate
-  module _ (gate : lent_refusal src (length l) (length q) s ≡ 0) where
+  module _ (gate : lent_refusal src (length l) (length q) s ≡ Ok tt) where
     opened : Lent src s (length l) (length q)
     opened = lent_opened src s (length l) (length q) gate
 

@@ -8,6 +8,7 @@
 --   refusing                             a refusal: session, list and pool are as they were
 --   settled   what an outcome comes to
 use Rattle.std.specs.Prelude.{ℕ, ◌+◌, ◌-◌, List, ◌≡◌, set}
+use Rattle.byte.specs.declared.Refusal.{Refusal}
 use Rattle.source.specs.declared.Span.{Span}
 use Rattle.state.specs.declared.Slot.{Slot}
 use Rattle.state.specs.declared.Session.{Session}
@@ -62,8 +63,8 @@ turn_of s x = record {
   session = changed s x.mark.span x.mark.tokens x.mark.bytes x.change;
 }
 
-abbrev pub refusing : ℕ → Span → Session → List ℕ → List ℕ → After
-refusing number span s list pool = record { turn = refused number span s; list = list; pool = pool }
+abbrev pub refusing : Refusal → Span → Session → List ℕ → List ℕ → After
+refusing refusal span s list pool = record { turn = refused refusal span s; list = list; pool = pool }
 
 abbrev pub reaching : Session → Reached → After
 reaching s r = record { turn = turn_of s r.next; list = r.tables.list; pool = r.tables.pool }

@@ -126,7 +126,7 @@ find_bounded list count e =
     record { places = leb-true (list / 8) 65537 large.0; counted = leb-true count (list / 8) above.0 }
 
 module _ (list : List ℕ) (count byte number : ℕ) (f : number ≡ find_refusal (length list) count) where
-  pub find_refused : (r : Lookup) → (number ≡ 0 → ⊥) → r ≡ Lookup.Refused number origin → r ≡ looked_up list count byte
+  pub find_refused : (r : Lookup) → (number ≡ 0 → ⊥) → r ≡ Lookup.Refused refusal origin → r ≡ looked_up list count byte
   unfolding looked_up
   find_refused r h e = rw (← f, ne_eqb number 0 h) e
 

@@ -106,13 +106,13 @@ find_which list count =
     (λ e. refl)
 
 pub find_refusals : (list : List ℕ) (count byte number : ℕ) (span : Span)
-    → looked_up list count byte ≡ Lookup.Refused number span
+    → looked_up list count byte ≡ Lookup.Refused refusal span
     → (is_among number (too_large ∷ bad_session ∷ []) ≡ true) × (span ≡ origin)
 unfolding looked_up is_among
 find_refusals list count byte number span =
     choice
     (λ (r : Lookup).
-    r ≡ Lookup.Refused number span → (is_among number (too_large ∷ bad_session ∷ []) ≡ true) × (span ≡ origin))
+    r ≡ Lookup.Refused refusal span → (is_among number (too_large ∷ bad_session ∷ []) ≡ true) × (span ≡ origin))
     (eqb (find_refusal (length list) count) 0) _ _
     (λ e f. let never : ◌≡◌ {A = ℕ} 0 1 = cc in absurd (omega arith))
     (λ e f.

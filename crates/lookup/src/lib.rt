@@ -8,6 +8,7 @@ ghost use Rattle.source.specs.Cursor.{origin};
 ghost use Rattle.lookup.specs.declared.Lookup.{Lookup};
 ghost use Rattle.lookup.specs.Lookups.{position_in, end_in, record_before, searched, told, find_refusal, looked_up};
 
+use byte::Refusal;
 use source::Span;
 
 // What a look-up comes to.
@@ -32,10 +33,10 @@ fn find_refusal(list: usize, count: usize) -> u32
     ensures { result ≡ find_refusal list count }
 {
     if 65537 < list / 8 {
-        return byte::TOO_LARGE;
+        return Refusal::TooLarge;
     }
     if list / 8 < count {
-        return byte::BAD_SESSION;
+        return Refusal::BadSession;
     }
     0
 }
@@ -49,7 +50,7 @@ fn refuse(number: u32) -> Lookup
         column: 1,
         position: 0,
     };
-    Lookup::Refused { number, span }
+    Lookup::Refused { refusal, span }
 }
 
 // The number of the last of so many records.

@@ -10,6 +10,7 @@ ghost use Rattle.state.specs.Bounds.{is_frame};
 ghost use Rattle.outcome.specs.Steps.{call_at};
 ghost use Rattle.plan.specs.Code.{Here, PlansIn};
 
+use byte::Refusal;
 use outcome::Call;
 use plan::Plan;
 use rows::Way;
@@ -51,7 +52,7 @@ pub fn plan_of(
         Way::Property => lookings::looking_for_property(src, at, end),
         Way::Offset => lookings::var_offset(src, at, end),
         Way::Refused => Plan::Refused {
-            number: byte::OUT_OF_PLACE,
+            refusal: Refusal::OutOfPlace,
             place: at,
         },
     }

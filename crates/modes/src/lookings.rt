@@ -5,6 +5,7 @@ ghost use Rattle.byte.specs.Refusals.{no_property};
 ghost use Rattle.outcome.specs.Lookings.{named, is_bracketed, varname, looking_for_varname, arrow_head, questioned, looking_for_property, var_offset};
 ghost use Rattle.plan.specs.Code.{Here, Plans};
 
+use byte::Refusal;
 use outcome::Change;
 use plan::Plan;
 use state::Frame;
@@ -65,7 +66,7 @@ fn no_property(at: usize) -> Plan
     ensures { result ≡ Plan.Refused no_property at }
 {
     Plan::Refused {
-        number: byte::NO_PROPERTY,
+        refusal: Refusal::NoProperty,
         place: at,
     }
 }
@@ -135,7 +136,7 @@ pub fn var_offset(src: &[u8], at: usize, end: bool) -> Plan
 {
     if src.len() <= at {
         let refusal = Plan::Refused {
-            number: byte::UNEXPECTED_END_OF_FILE,
+            refusal: Refusal::UnexpectedEndOfFile,
             place: at,
         };
         return plan::ending(end, refusal);

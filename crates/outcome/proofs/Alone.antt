@@ -23,7 +23,7 @@ use borrow.Author.Tests.{eq-eqb, not-true}
 use Rattle.byte.specs.declared.Octal.{Octal}
 use Rattle.byte.specs.Words.{every}
 use Rattle.byte.specs.Bytes.{is_digit}
-use Rattle.byte.specs.Refusals.{is_among}
+use Rattle.byte.specs.Words.{is_one_of}
 use Rattle.byte.proofs.Tests.{choice, &&-left}
 use Rattle.state.specs.declared.Frame.{Frame}
 use Rattle.state.specs.declared.Reading.{Reading}
@@ -65,7 +65,7 @@ PiecesWritten call octals n xs after (p ∷ q ∷ more) = every (λ r. not (is_l
 abbrev pub OutcomeWritten : Call → Octal → ℕ → List ℕ → Outcome → Type 0
 OutcomeWritten call octals n xs (Outcome.Told pieces after change finished) =
     PiecesWritten call octals n xs after pieces
-OutcomeWritten call octals n xs (Outcome.Refused number place) = Unit {0}
+OutcomeWritten call octals n xs (Outcome.Refused refusal place) = Unit {0}
 OutcomeWritten call octals n xs Outcome.Wait = Unit {0}
 
 pub others_written : (call : Call) (octals : Octal) (n : ℕ) (xs : List ℕ) (o : Outcome) → TellsNone o
@@ -77,7 +77,7 @@ others_written call octals n xs (Outcome.Told pieces after change finished) e = 
     go [] z = tt
     go (p ∷ []) z = λ l. absurd (false≢true (sym (not-true (is_literal p.kind) (&&-left _ true z)) ∙ l))
     go (p ∷ q ∷ more) z = z
-others_written call octals n xs (Outcome.Refused number place) e = tt
+others_written call octals n xs (Outcome.Refused refusal place) e = tt
 others_written call octals n xs Outcome.Wait e = tt
 
 -- ---- what a literal and a comment ask
@@ -208,14 +208,14 @@ module _ (octals : Octal) (m : Mode) (c : Char) (kind : ℕ) (quoting : Quoting 
       → ((value : List ℕ) (from after : ℕ) → Quoted m c p ys value from after
       → AsWritten call octals kind value (take (after - n) xs))
       → OutcomeWritten call octals n xs (literal kind n (unit.text_at m [] end p ys))
-  unfolding literal is_literal is_among
+  unfolding literal is_literal is_one_of
   read-written call xs p ys w = go (unit.text_at m [] end p ys) refl
     where
       go : (r : unit.Reading) → unit.text_at m [] end p ys ≡ r → OutcomeWritten call octals n xs (literal kind n r)
       go (unit.Text value stop from after) e =
           choice (OutcomeWritten call octals n xs) (is_left stop) _ _ (λ l. λ z. absurd (false≢true z))
           (λ l. λ z. (refl, w value from after (quoting end p ys value stop from after e l)))
-      go (unit.Refused number place) e = tt
+      go (unit.Refused refusal place) e = tt
       go unit.Wait e = tt
 
   -- a step, from its quote on

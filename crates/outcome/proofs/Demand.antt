@@ -6,6 +6,7 @@
 --   limited_waits   a mode's demand 3 at each depth, with the limit of 64 frames
 --   waits_along     demand 3 of the rest of a text is demand 3 of the text
 use Rattle.std.specs.Prelude.{if◌then◌else◌}
+use Rattle.byte.specs.declared.Refusal.{Refusal}
 use mathlib.Core.Path.{◌≡◌, refl, sym, ap, ◌∙◌}
 use mathlib.Core.Bool.{Bool, true, false}
 use mathlib.Core.List.{List, [], ◌∷◌, ◌++◌, append-nil}
@@ -51,7 +52,7 @@ closed_limited depth p (Outcome.Told pieces after (Change.Enter f) finished) = g
 closed_limited depth p (Outcome.Told pieces after Change.Keep finished) = refl
 closed_limited depth p (Outcome.Told pieces after (Change.Swap f) finished) = refl
 closed_limited depth p (Outcome.Told pieces after Change.Leave finished) = refl
-closed_limited depth p (Outcome.Refused number place) = refl
+closed_limited depth p (Outcome.Refused refusal place) = refl
 closed_limited depth p Outcome.Wait = refl
 
 pub limited_wait : (depth p : ℕ) (o : Outcome) → limited depth p o ≡ Outcome.Wait → o ≡ Outcome.Wait
@@ -66,14 +67,14 @@ limited_wait depth p (Outcome.Told pieces after (Change.Enter f) finished) e = g
 limited_wait depth p (Outcome.Told pieces after Change.Keep finished) e = clash cc
 limited_wait depth p (Outcome.Told pieces after (Change.Swap f) finished) e = clash cc
 limited_wait depth p (Outcome.Told pieces after Change.Leave finished) e = clash cc
-limited_wait depth p (Outcome.Refused number place) e = clash cc
+limited_wait depth p (Outcome.Refused refusal place) e = clash cc
 limited_wait depth p Outcome.Wait e = refl
 
 pub told_waits : {A : Type 0} {pieces : List Piece} {after : ℕ} {change : Change} {finished : Bool}
     → Outcome.Told pieces after change finished ≡ Outcome.Wait → A
 told_waits e = clash cc
 
-pub refused_waits : {A : Type 0} {number place : ℕ} → Outcome.Refused number place ≡ Outcome.Wait → A
+pub refused_waits : {A : Type 0} {refusal : Refusal} {place : ℕ} → Outcome.Refused refusal place ≡ Outcome.Wait → A
 refused_waits e = clash cc
 
 -- outcomes that are not the same
@@ -86,13 +87,13 @@ pub after_apart : {pieces pieces' : List Piece} {after after' : ℕ} {change cha
     → Outcome.Told pieces after change finished ≡ Outcome.Told pieces' after' change' finished' → ⊥
 after_apart n e = n cc
 
-pub refused_apart : {pieces : List Piece} {after number place : ℕ} {change : Change} {finished : Bool}
-    → Outcome.Refused number place ≡ Outcome.Told pieces after change finished → ⊥
+pub refused_apart : {pieces : List Piece} {refusal : Refusal} {after place : ℕ} {change : Change} {finished : Bool}
+    → Outcome.Refused refusal place ≡ Outcome.Told pieces after change finished → ⊥
 refused_apart e = clash cc
 
 is-wait : (o : Outcome) → Dec (o ≡ Outcome.Wait)
 is-wait (Outcome.Told pieces after change finished) = no told_waits
-is-wait (Outcome.Refused number place) = no refused_waits
+is-wait (Outcome.Refused refusal place) = no refused_waits
 is-wait Outcome.Wait = yes refl
 
 -- two continuations, of which f tells

@@ -61,7 +61,7 @@ texted_chosen : (m : Mode) (n : ℕ) (xs : List ℕ) (r : unit.Reading)
     → texted (with_octals Octal.Manual m) n xs r ≡ texted (with_octals Octal.Rust m) n xs r
 unfolding texted
 texted_chosen m n xs (unit.Text value stop from after) = rw (stop_kind_chosen m stop)
-texted_chosen m n xs (unit.Refused number place) = refl
+texted_chosen m n xs (unit.Refused refusal place) = refl
 texted_chosen m n xs unit.Wait = refl
 
 text_mode_chosen : (m : Mode) (label : List ℕ) (end : Bool) (n : ℕ) (xs : List ℕ)

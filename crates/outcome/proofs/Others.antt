@@ -30,7 +30,7 @@ NoLiteral pieces = every (λ p. not (is_literal p.kind)) pieces ≡ true
 
 abbrev pub TellsNone : Outcome → Type 0
 TellsNone (Outcome.Told pieces after change finished) = NoLiteral pieces
-TellsNone (Outcome.Refused number place) = Unit {0}
+TellsNone (Outcome.Refused refusal place) = Unit {0}
 TellsNone Outcome.Wait = Unit {0}
 
 stop_kind_other : (m : Mode) (stop : Stop) → is_literal (stop_kind m stop) ≡ false
@@ -69,7 +69,7 @@ parted_none kind n (b ∷ vs) p e f = rw (e, f)
 pub texted_none : (m : Mode) (n : ℕ) (xs : List ℕ) (r : unit.Reading) → TellsNone (texted m n xs r)
 unfolding texted is_literal is_among
 texted_none m n xs (unit.Text value stop from after) = parted_none string_part n value _ refl (stop_kind_other m stop)
-texted_none m n xs (unit.Refused number place) = tt
+texted_none m n xs (unit.Refused refusal place) = tt
 texted_none m n xs unit.Wait = tt
 
 module _ (end : Bool) (n : ℕ) where

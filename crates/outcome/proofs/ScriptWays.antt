@@ -43,7 +43,7 @@ use Rattle.outcome.proofs.Pieces.{take-length, goes_inside, one_inside, parted_i
 use Rattle.outcome.proofs.Comments.{CommentInside, comment_end_inside}
 use Rattle.outcome.proofs.Openings.{LabelInside, OpeningInside, opening_inside}
 use Rattle.outcome.proofs.Initials.{TaggedInside, tagged_within}
-use Rattle.outcome.proofs.Ways.{Welcome, ChangeGood, Asked, step_numbers, quoted_may, Ways, if_ways, waits, ending_ways}
+use Rattle.outcome.proofs.Ways.{Welcome, ChangeGood, Asked, step_refusals, quoted_may, Ways, if_ways, waits, ending_ways}
 use Rattle.outcome.proofs.Ways.{fault_ways, told_ways, goes_ways, token_ways, scripting_in, literal_ways}
 use Rattle.outcome.proofs.Ways.{numbered_ways, RunInside, named_inside}
 
@@ -103,12 +103,12 @@ module _ {src : List ℕ} {n : ℕ} (a : Asked src n) (end : Bool) where
             on = λ g. tt;
             still = refl;
             few = omega arith;
-            numbers = tt;
+            refusals = tt;
           }
       go Tagged.Undecided i = waits a
 
 module _ {src : List ℕ} {n : ℕ} (a : Asked src n) (top : is_scripting a.top ≡ true)
-    (octals : Octal) (step : a.numbers ≡ step_numbers octals) (end : Bool) where
+    (octals : Octal) (step : a.refusals ≡ step_refusals octals) (end : Bool) where
   abbrev Way : Outcome → Type 0
   Way o = Ways a o
 
@@ -181,7 +181,7 @@ module _ {src : List ℕ} {n : ℕ} (a : Asked src n) (top : is_scripting a.top 
 
   -- ---- the table
 
-  quoted_ways : (m : Mode) → every (λ k. is_among k (step_numbers octals)) (faults m) ≡ true → (kind : ℕ) (xs : List ℕ)
+  quoted_ways : (m : Mode) → every (λ k. is_among k (step_refusals octals)) (faults m) ≡ true → (kind : ℕ) (xs : List ℕ)
       → suc n + length xs ≡ length src
       → Way (literal kind n (unit.text_at m [] end (suc n) xs))
   quoted_ways m may kind xs h =
@@ -200,7 +200,7 @@ module _ {src : List ℕ} {n : ℕ} (a : Asked src n) (top : is_scripting a.top 
         on = λ g. tt;
         still = refl;
         few = omega arith;
-        numbers = tt;
+        refusals = tt;
       })
   scripting_ways (b ∷ xs) e y =
       if_ways a (b is "'") _ _ (quoted_ways Mode.Single refl _ xs (omega arith))

@@ -7,6 +7,7 @@
 --   Room, Limited, limited_room   with the limit of 64 frames there is room for the frame that is entered
 -- Assumes nothing.
 use Prim.Native.Nat.{ℕ, ◌+◌, ◌≤◌, ◌<◌}
+use Rattle.byte.specs.declared.Refusal.{Refusal}
 use mathlib.Core.Path.{◌≡◌, refl}
 use mathlib.Core.Bool.{Bool, true, false, not}
 use mathlib.Core.List.{List, [], ◌∷◌}
@@ -16,7 +17,8 @@ use lib.ListN.{length, drop, length-take, length-drop}
 use borrow.Author.Tests.{ltb-true}
 use Rattle.byte.specs.declared.Octal.{Octal}
 use Rattle.byte.specs.Refusals.{unexpected_end_of_file, invalid_unicode_escape, octal_refusals, wait}
-use Rattle.byte.specs.Refusals.{stack_full, out_of_place, is_among}
+use Rattle.byte.specs.Refusals.{wait, stack_full, out_of_place, is_same, is_among}
+use Rattle.byte.proofs.Refusals.{among_every}
 use Rattle.byte.specs.Words.{every}
 use Rattle.byte.proofs.Tests.{choice}
 use Rattle.state.specs.declared.Frame.{Frame}
@@ -39,7 +41,7 @@ use Rattle.outcome.specs.Outcomes.{Outcome, limited}
 use Rattle.outcome.specs.Insides.{Inside}
 use Rattle.outcome.specs.Texts.{is_left, literal, numbered}
 use Rattle.outcome.specs.Steps.{text_mode, nowdoc, framed, top_frame, scripted, call_at, rest, call_outcome}
-use Rattle.outcome.proofs.Ways.{Asked, step_numbers, quoted_may, heredoc_may, Ways, fault_ways, texted_ways, literal_ways}
+use Rattle.outcome.proofs.Ways.{Asked, step_refusals, quoted_may, heredoc_may, Ways, fault_ways, texted_ways, literal_ways}
 use Rattle.outcome.proofs.Ways.{numbered_ways, looking_for_varname_ways, looking_for_property_ways, var_offset_ways}
 use Rattle.outcome.proofs.ScriptWays.{initial_ways, scripting_ways}
 
@@ -63,14 +65,14 @@ Moving Call.Single src f depth = ⊥
 Moving Call.Double src f depth = ⊥
 
 -- what a call may refuse of itself, octal escapes by this choice
-abbrev pub call_numbers : Octal → Call → List ℕ
-call_numbers octals Call.Step = step_numbers octals
+abbrev pub call_numbers : Octal → Call → List Refusal
+call_numbers octals Call.Step = step_refusals octals
 call_numbers octals Call.Number = out_of_place ∷ []
 call_numbers octals Call.Single = out_of_place ∷ unexpected_end_of_file ∷ []
 call_numbers octals Call.Double = out_of_place ∷ unexpected_end_of_file ∷ invalid_unicode_escape ∷ octal_refusals octals
 
 -- the wait is none of them
-pub call_numbers_others : (octals : Octal) (call : Call) → every (λ k. not (eqb k wait)) (call_numbers octals call) ≡ true
+pub call_numbers_others : (octals : Octal) (call : Call) → every (λ k. not (is_same k wait)) (call_numbers octals call) ≡ true
 unfolding every octal_refusals
 call_numbers_others Octal.Rust Call.Step = refl
 call_numbers_others Octal.Rust Call.Double = refl
@@ -95,7 +97,7 @@ module _ (octals : Octal) (src : List ℕ) (depth n : ℕ) (h : n ≤ length src
         depth = depth;
         Good = TopGood src f depth;
         Moving = Moving call src f depth;
-        numbers = call_numbers octals call;
+        refusals = call_numbers octals call;
         others = call_numbers_others octals call;
       }
 
@@ -112,7 +114,7 @@ module _ (choices : Choices) (src : List ℕ) (depth n : ℕ) (end : Bool) (h : 
   asked f = called_by choices.octals src depth n h f Call.Step
 
   text_mode_ways : (f : Frame) → is_scripting f ≡ false → (m : Mode) → is_literal m ≡ false
-      → every (λ k. is_among k (step_numbers choices.octals)) (faults m) ≡ true
+      → every (λ k. is_among k (step_refusals choices.octals)) (faults m) ≡ true
       → (label : List ℕ) → Ways (asked f) (text_mode m label end n left)
   unfolding text_mode
   text_mode_ways f e m moving may label =
@@ -160,7 +162,7 @@ Room depth Change.Leave = Unit {0}
 
 abbrev pub Limited : ℕ → Outcome → Type 0
 Limited depth (Outcome.Told pieces after change finished) = Room depth change
-Limited depth (Outcome.Refused number place) = Unit {0}
+Limited depth (Outcome.Refused refusal place) = Unit {0}
 Limited depth Outcome.Wait = Unit {0}
 
 -- what holds of the refusal and, where there is room, of the outcome, holds with the limit
@@ -173,7 +175,7 @@ limited_either P depth n (Outcome.Told pieces after (Change.Enter f) finished) x
 limited_either P depth n (Outcome.Told pieces after Change.Keep finished) x y = y tt
 limited_either P depth n (Outcome.Told pieces after (Change.Swap f) finished) x y = y tt
 limited_either P depth n (Outcome.Told pieces after Change.Leave finished) x y = y tt
-limited_either P depth n (Outcome.Refused number place) x y = y tt
+limited_either P depth n (Outcome.Refused refusal place) x y = y tt
 limited_either P depth n Outcome.Wait x y = y tt
 
 pub limited_room : (depth n : ℕ) (o : Outcome) → Limited depth (limited depth n o)
@@ -224,7 +226,7 @@ module _ (depth n : ℕ) where
   literal_free : (kind place : ℕ) (r : unit.Reading) → Free (literal kind place r)
   unfolding limited literal
   literal_free kind place (unit.Text value stop from after) = choice Free (is_left stop) _ _ (λ e. refl) (λ e. refl)
-  literal_free kind place (unit.Refused number fault) = refl
+  literal_free kind place (unit.Refused refusal fault) = refl
   literal_free kind place unit.Wait = refl
 
   numbered_free : (place : ℕ) (r : number.Reading) → Free (numbered place r)

@@ -4,6 +4,7 @@
 -- A wait's two continuations are the reading's own, and the outcome tells them apart: of a text by its ending, of a number
 -- altogether.
 use Rattle.std.specs.Prelude.{if◌then◌else◌}
+use Rattle.byte.specs.declared.Refusal.{Refusal}
 use mathlib.Core.Path.{◌≡◌, refl, sym, ap, ◌∙◌}
 use mathlib.Core.Bool.{Bool, true, false, false≢true}
 use mathlib.Core.List.{List, [], ◌∷◌, ◌++◌}
@@ -56,22 +57,22 @@ slice_append n part rest from after low order high =
 texted_wait : (m : Mode) (n : ℕ) (xs : List ℕ) (r : unit.Reading) → texted m n xs r ≡ Outcome.Wait → r ≡ unit.Wait
 unfolding texted
 texted_wait m n xs (unit.Text value stop from after) e = told_waits e
-texted_wait m n xs (unit.Refused number place) e = refused_waits e
+texted_wait m n xs (unit.Refused refusal place) e = refused_waits e
 texted_wait m n xs unit.Wait e = refl
 
-texted_append : (numbers : List ℕ) (m : Mode) (n : ℕ) (part rest : List ℕ) (r : unit.Reading)
-    → within.InsideReading numbers n (n + length part) r
+texted_append : (refusals : List Refusal) (m : Mode) (n : ℕ) (part rest : List ℕ) (r : unit.Reading)
+    → within.InsideReading refusals n (n + length part) r
     → texted m n (part ++ rest) r ≡ texted m n part r
 unfolding texted
-texted_append numbers m n part rest (unit.Text value stop from after) x =
+texted_append refusals m n part rest (unit.Text value stop from after) x =
     rw (slice_append n part rest from after (omega (arith, x.narrow)) x.order x.inside)
-texted_append numbers m n part rest (unit.Refused number place) x = refl
-texted_append numbers m n part rest unit.Wait x = refl
+texted_append refusals m n part rest (unit.Refused refusal place) x = refl
+texted_append refusals m n part rest unit.Wait x = refl
 
 -- what an outcome tells of the reading's ending
 abbrev ended : Outcome → unit.Reading
 ended (Outcome.Told pieces after change finished) = unit.Text [] Stop.Quote 0 0
-ended (Outcome.Refused number place) = unit.Refused number place
+ended (Outcome.Refused refusal place) = unit.Refused refusal place
 ended Outcome.Wait = unit.Wait
 
 texted_ended : (p : ℕ) (m : Mode) (n : ℕ) (xs : List ℕ) (r : unit.Reading) → ended (closed p (texted m n xs r)) ≡ ending p r
@@ -84,13 +85,13 @@ texted_ended p m n xs (unit.Text value (Stop.Variable Follow.Other) from after) 
 texted_ended p m n xs (unit.Text value (Stop.Variable Follow.Offset) from after) = refl
 texted_ended p m n xs (unit.Text value (Stop.Variable Follow.Property) from after) = refl
 texted_ended p m n xs (unit.Text value (Stop.Label ind amount) from after) = refl
-texted_ended p m n xs (unit.Refused number place) = refl
+texted_ended p m n xs (unit.Refused refusal place) = refl
 texted_ended p m n xs unit.Wait = refl
 
 -- what demand 3 asks of a reading from n on
 pub record Reads (n : ℕ) (read : Bool → List ℕ → unit.Reading) : Type 0 where
-  pub numbers : List ℕ
-  pub inside : (part : List ℕ) → within.InsideReading numbers n (n + length part) (read false part)
+  pub refusals : List Refusal
+  pub inside : (part : List ℕ) → within.InsideReading refusals n (n + length part) (read false part)
   pub stays : (part : List ℕ) → (read false part ≡ unit.Wait → ⊥) → (rest : List ℕ) → read true (part ++ rest) ≡ read false part
   pub endings : (p : ℕ) (part : List ℕ) → read false part ≡ unit.Wait → Apart (λ xs. ending p (read true xs)) part
   pub told : (xs : List ℕ) → read true xs ≡ unit.Wait → ⊥
@@ -101,7 +102,7 @@ module _ (m : Mode) (n : ℕ) (read : Bool → List ℕ → unit.Reading) (h : R
   unfolding texted
   texted_stays part rest k =
       ap (texted m n (part ++ rest)) (h.stays part (λ z. k (ap (texted m n part) z)) rest)
-      ∙ texted_append h.numbers m n part rest (read false part) (h.inside part)
+      ∙ texted_append h.refusals m n part rest (read false part) (h.inside part)
 
   texted_demands : (p : ℕ) → Demands p (λ end xs. texted m n xs (read end xs))
   texted_demands p =
@@ -119,7 +120,7 @@ unfolding text_mode
 text_mode_demands m label h n p =
     texted_demands m n (λ end. unit.text_at m label end n)
     (record {
-      numbers = faults m;
+      refusals = faults m;
       inside = within.text_inside m label false n;
       stays = text_stays m label h n;
       endings = text_endings m label h n;
@@ -134,7 +135,7 @@ nowdoc_demands label h n p state.Reading.Ported = text_mode_demands Mode.Nowdoc 
 nowdoc_demands label h n p state.Reading.Sheet =
     texted_demands Mode.Nowdoc n (λ end. sheet_at label end n)
     (record {
-      numbers = sheet_faults;
+      refusals = sheet_faults;
       inside = sheet_inside label false n;
       stays = sheet_stays label h n;
       endings = sheet_endings label h n;
@@ -155,7 +156,7 @@ module _ (form place : ℕ) where
           → unit.Text value stop from after ≡ unit.Wait
       go true z = told_waits z
       go false z = told_waits z
-  literal_wait (unit.Refused number fault) e = refused_waits e
+  literal_wait (unit.Refused refusal fault) e = refused_waits e
   literal_wait unit.Wait e = refl
 
   -- a literal enters no frame
@@ -174,7 +175,7 @@ module _ (form place : ℕ) where
   literal_ended m l p n hi xs (unit.Text value (Stop.Variable Follow.Offset) from after) x = entered (x.keeps l)
   literal_ended m l p n hi xs (unit.Text value (Stop.Variable Follow.Property) from after) x = entered (x.keeps l)
   literal_ended m l p n hi xs (unit.Text value (Stop.Label ind amount) from after) x = refl
-  literal_ended m l p n hi xs (unit.Refused number fault) x = refl
+  literal_ended m l p n hi xs (unit.Refused refusal fault) x = refl
   literal_ended m l p n hi xs unit.Wait x = refl
 
   -- a literal has no label

@@ -6,13 +6,14 @@
 --   Onward, Progress               the cursor has moved, or LookingForVarname was swapped for Scripting
 --   Still                          where nothing is left to read, the frame stays
 --   Few                            at most two pieces are told
---   Numbers                        what is refused is one of these numbers
+--   Refuses                        what is refused is one of these
 --   Asked                          the frame on top, under which premises the stack stays good and the cursor moves,
 --                                  and what may be refused
 --   Ways                           of an outcome from the place n on
 -- Assumes nothing.
 use Rattle.std.specs.Prelude.{if◌then◌else◌, Option, Some, None}
 use Prim.Native.Nat.{ℕ, suc, ◌+◌, ◌-◌, ◌≤◌, ◌<◌}
+use Rattle.byte.specs.declared.Refusal.{Refusal}
 use mathlib.Core.Path.{◌≡◌, refl, sym}
 use mathlib.Core.Bool.{Bool, true, false, not, ◌||◌, false≢true}
 use mathlib.Core.List.{List, [], ◌∷◌}
@@ -23,7 +24,8 @@ use borrow.Author.Tests.{eqb-true, not-true}
 use Rattle.byte.specs.declared.Octal.{Octal}
 use Rattle.byte.specs.Words.{◌is◌, every}
 use Rattle.byte.specs.Refusals.{unexpected_end_of_file, invalid_unicode_escape, octal_refusals, invalid_doc_indentation}
-use Rattle.byte.specs.Refusals.{no_property, wait, stack_full, stray_indentation, is_among}
+use Rattle.byte.specs.Refusals.{no_property, wait, stack_full, stray_indentation, is_same, is_among}
+use Rattle.byte.proofs.Refusals.{among_every}
 use Rattle.byte.specs.Bytes.{is_start, is_identifier}
 use Rattle.byte.proofs.Tests.{choice, &&-left, &&-right}
 use Rattle.state.specs.declared.Frame.{Frame}
@@ -60,7 +62,7 @@ ChangeGood src top depth Change.Leave = 2 ≤ depth
 
 abbrev pub Changes : List ℕ → Frame → ℕ → Outcome → Type 0
 Changes src top depth (Outcome.Told pieces after change finished) = ChangeGood src top depth change
-Changes src top depth (Outcome.Refused number place) = Unit {0}
+Changes src top depth (Outcome.Refused refusal place) = Unit {0}
 Changes src top depth Outcome.Wait = Unit {0}
 
 -- from n on, with f on top
@@ -72,25 +74,25 @@ pub data Onward (f : Frame) (n after : ℕ) (change : Change) : Type 0 where
 abbrev pub Progress : Frame → ℕ → Outcome → Type 0
 Progress f n (Outcome.Told pieces after change true) = Unit {0}
 Progress f n (Outcome.Told pieces after change false) = Onward f n after change
-Progress f n (Outcome.Refused number place) = Unit {0}
+Progress f n (Outcome.Refused refusal place) = Unit {0}
 Progress f n Outcome.Wait = Unit {0}
 
 -- where nothing is left to read, the frame stays
 abbrev pub Still : Outcome → Type 0
 Still (Outcome.Told pieces after change true) = change ≡ Change.Keep
 Still (Outcome.Told pieces after change false) = Unit {0}
-Still (Outcome.Refused number place) = Unit {0}
+Still (Outcome.Refused refusal place) = Unit {0}
 Still Outcome.Wait = Unit {0}
 
 abbrev pub Few : Outcome → Type 0
 Few (Outcome.Told pieces after change finished) = length pieces ≤ 2
-Few (Outcome.Refused number place) = Unit {0}
+Few (Outcome.Refused refusal place) = Unit {0}
 Few Outcome.Wait = Unit {0}
 
-abbrev pub Numbers : List ℕ → Outcome → Type 0
-Numbers numbers (Outcome.Told pieces after change finished) = Unit {0}
-Numbers numbers (Outcome.Refused number place) = is_among number numbers ≡ true
-Numbers numbers Outcome.Wait = Unit {0}
+abbrev pub Refuses : List Refusal → Outcome → Type 0
+Refuses refusals (Outcome.Told pieces after change finished) = Unit {0}
+Refuses refusals (Outcome.Refused refusal place) = is_among refusal refusals ≡ true
+Refuses refusals Outcome.Wait = Unit {0}
 
 -- from n on; of a reading `Moving` never holds
 pub record Asked (src : List ℕ) (n : ℕ) : Type 1 where
@@ -99,22 +101,22 @@ pub record Asked (src : List ℕ) (n : ℕ) : Type 1 where
   pub depth : ℕ
   pub Good : Type 0
   pub Moving : Type 0
-  pub numbers : List ℕ
-  pub others : every (λ k. not (eqb k wait)) numbers ≡ true
+  pub refusals : List Refusal
+  pub others : every (λ k. not (is_same k wait)) refusals ≡ true
 
 -- what a step may refuse of itself
-abbrev pub step_numbers : Octal → List ℕ
-step_numbers octals =
+abbrev pub step_refusals : Octal → List Refusal
+step_refusals octals =
     unexpected_end_of_file ∷ invalid_unicode_escape ∷ invalid_doc_indentation ∷ no_property ∷ stack_full ∷ stray_indentation
     ∷ octal_refusals octals
 
 -- those of texts with escapes are among them
-pub quoted_may : (octals : Octal) → every (λ k. is_among k (step_numbers octals)) (faults (Mode.Double octals)) ≡ true
+pub quoted_may : (octals : Octal) → every (λ k. is_among k (step_refusals octals)) (faults (Mode.Double octals)) ≡ true
 unfolding is_among every octal_refusals
 quoted_may Octal.Rust = refl
 quoted_may Octal.Manual = refl
 
-pub heredoc_may : (octals : Octal) → every (λ k. is_among k (step_numbers octals)) (faults (Mode.Heredoc octals)) ≡ true
+pub heredoc_may : (octals : Octal) → every (λ k. is_among k (step_refusals octals)) (faults (Mode.Heredoc octals)) ≡ true
 unfolding is_among every octal_refusals
 heredoc_may Octal.Rust = refl
 heredoc_may Octal.Manual = refl
@@ -125,7 +127,7 @@ pub record Ways {src : List ℕ} {n : ℕ} (a : Asked src n) (o : Outcome) : Typ
   pub on : a.Moving → Progress a.top n o
   pub still : Still o
   pub few : Few o
-  pub numbers : Numbers a.numbers o
+  pub refusals : Refuses a.refusals o
 
 pub scripting_in : (src : List ℕ) (top : Frame) → is_scripting top ≡ false → Welcome src top Frame.Scripting
 unfolding is_frame is_bottom is_scripting
@@ -161,20 +163,6 @@ stop_stack src top depth e (Stop.Variable Follow.Offset) i = refl
 stop_stack src top depth e (Stop.Variable Follow.Property) i = refl
 stop_stack src top depth e (Stop.Label ind amount) i = scripting_in src top e
 
--- what holds of all numbers of a list holds of each
-pub among_every : (test : ℕ → Bool) (numbers : List ℕ) → every test numbers ≡ true
-    → (number : ℕ) → is_among number numbers ≡ true → test number ≡ true
-unfolding is_among every
-among_every test [] h number e = absurd (false≢true e)
-among_every test (n ∷ numbers) h number e =
-    go (eqb number n) refl e (among_every test numbers (&&-right (test n) _ h) number)
-  where
-    go : (t : Bool) → eqb number n ≡ t → (t || is_among number numbers) ≡ true
-        → (is_among number numbers ≡ true → test number ≡ true)
-        → test number ≡ true
-    go true z f later = rw (eqb-true number n z) (&&-left (test n) _ h)
-    go false z f later = later f
-
 module _ {src : List ℕ} {n : ℕ} (a : Asked src n) where
   abbrev Way : Outcome → Type 0
   Way o = Ways a o
@@ -185,28 +173,28 @@ module _ {src : List ℕ} {n : ℕ} (a : Asked src n) where
   if_ways t o p x y = choice Way t o p (λ e. x) (λ e. y)
 
   pub waits : Way Outcome.Wait
-  waits = record { lies = tt; stack = λ g. tt; on = λ g. tt; still = tt; few = tt; numbers = tt }
+  waits = record { lies = tt; stack = λ g. tt; on = λ g. tt; still = tt; few = tt; refusals = tt }
 
   -- no byte is left: decided at the announced end alone
   pub ending_ways : (end : Bool) {o : Outcome} → Way o → Way (if end then o else Outcome.Wait)
   ending_ways end x = if_ways end _ _ x waits
 
-  pub fault_ways : {number place : ℕ} → is_among number a.numbers ≡ true → n ≤ place → place ≤ length src
-      → Way (Outcome.Refused number place)
-  fault_ways {number} e x y =
+  pub fault_ways : {refusal : Refusal} {place : ℕ} → is_among refusal a.refusals ≡ true → n ≤ place → place ≤ length src
+      → Way (Outcome.Refused refusal place)
+  fault_ways {refusal} e x y =
       record {
-        lies = record { told = not-true _ (among_every _ a.numbers a.others number e); low = x; high = y };
+        lies = record { told = not-true _ (among_every _ a.refusals a.others refusal e); low = x; high = y };
         stack = λ g. tt;
         on = λ g. tt;
         still = tt;
         few = tt;
-        numbers = e;
+        refusals = e;
       }
 
   pub told_ways : {pieces : List Piece} {after : ℕ} {change : Change} → ToldInside n (length src) pieces after
       → length pieces ≤ 2 → (a.Good → ChangeGood src a.top a.depth change) → (a.Moving → n < after)
       → Way (Outcome.Told pieces after change false)
-  told_ways i f c o = record { lies = i; stack = c; on = λ g. moves (o g); still = tt; few = f; numbers = tt }
+  told_ways i f c o = record { lies = i; stack = c; on = λ g. moves (o g); still = tt; few = f; refusals = tt }
 
   pub goes_ways : {after : ℕ} {change : Change} → n < after → after ≤ length src
       → (a.Good → ChangeGood src a.top a.depth change)
@@ -221,17 +209,17 @@ module _ {src : List ℕ} {n : ℕ} (a : Asked src n) where
       told_ways (one_inside n (length src) kind _ (take k xs) (omega (arith, take-length k xs)) y) (omega arith) c
       (λ g. omega arith)
 
-  -- ---- texts, literals, numbers
+  -- ---- texts, literals, refusals
 
   -- what the reading may refuse the outcome may
-  abbrev Passed : List ℕ → Type 0
-  Passed numbers = every (λ k. is_among k a.numbers) numbers ≡ true
+  abbrev Passed : List Refusal → Type 0
+  Passed refusals = every (λ k. is_among k a.refusals) refusals ≡ true
 
-  pub texted_ways : is_scripting a.top ≡ false → (m : Mode) (xs : List ℕ) (numbers : List ℕ) → Passed numbers
-      → (r : unit.Reading) → unit-inside.InsideReading numbers n (length src) r → unit-inside.StopsReading r
+  pub texted_ways : is_scripting a.top ≡ false → (m : Mode) (xs : List ℕ) (refusals : List Refusal) → Passed refusals
+      → (r : unit.Reading) → unit-inside.InsideReading refusals n (length src) r → unit-inside.StopsReading r
       → (a.Moving → unit-inside.MovesReading n r) → Way (texted m n xs r)
   unfolding texted
-  texted_ways t m xs numbers p (unit.Text value stop from after) x e on =
+  texted_ways t m xs refusals p (unit.Text value stop from after) x e on =
       told_ways
       (parted_inside n (length src) string_part after value _ (omega arith) (omega (arith, x.narrow, x.order))
       (omega (arith, detail_amount stop, x.indented, x.order))
@@ -240,17 +228,17 @@ module _ {src : List ℕ} {n : ℕ} (a : Asked src n) where
       (parted_few string_part n value _)
       (λ g. stop_stack src a.top a.depth t stop e)
       on
-  texted_ways t m xs numbers p (unit.Refused number place) x e on =
-      fault_ways (among_every _ numbers p number x.among) x.on x.inside
-  texted_ways t m xs numbers p unit.Wait x e on = waits
+  texted_ways t m xs refusals p (unit.Refused refusal place) x e on =
+      fault_ways (among_every _ refusals p refusal x.among) x.on x.inside
+  texted_ways t m xs refusals p unit.Wait x e on = waits
 
   -- a literal's text starts at m, from its quote on or at the cursor
-  pub literal_ways : is_scripting a.top ≡ true → (kind m : ℕ) (numbers : List ℕ) → Passed numbers
+  pub literal_ways : is_scripting a.top ≡ true → (kind m : ℕ) (refusals : List Refusal) → Passed refusals
       → (r : unit.Reading) → n ≤ m → (a.Moving → n < m)
-      → unit-inside.InsideReading numbers m (length src) r
+      → unit-inside.InsideReading refusals m (length src) r
       → Way (literal kind n r)
   unfolding literal
-  literal_ways t kind m numbers p (unit.Text value stop from after) h on x =
+  literal_ways t kind m refusals p (unit.Text value stop from after) h on x =
       if_ways (is_left stop) _ _ (told_ways (read string_part) (omega arith) (λ g. quote_in src a.top t) moved)
       (told_ways (read kind) (omega arith) (λ g. tt) moved)
     where
@@ -259,9 +247,9 @@ module _ {src : List ℕ} {n : ℕ} (a : Asked src n) where
 
       moved : a.Moving → n < after
       moved g = omega (arith, on g, x.narrow, x.order)
-  literal_ways t kind m numbers p (unit.Refused number place) h on x =
-      fault_ways (among_every _ numbers p number x.among) (omega (arith, x.on)) x.inside
-  literal_ways t kind m numbers p unit.Wait h on x = waits
+  literal_ways t kind m refusals p (unit.Refused refusal place) h on x =
+      fault_ways (among_every _ refusals p refusal x.among) (omega (arith, x.on)) x.inside
+  literal_ways t kind m refusals p unit.Wait h on x = waits
 
   pub numbered_ways : (end : Bool) (xs : List ℕ) → n + length xs ≤ length src
       → (a.Moving → Passes n (number.number_at end n xs)) → Way (numbered n (number.number_at end n xs))
@@ -316,7 +304,7 @@ module _ {src : List ℕ} {n : ℕ} (a : Asked src n) (end : Bool) where
           on = λ g. looks top refl;
           still = tt;
           few = omega arith;
-          numbers = tt;
+          refusals = tt;
         }
 
     varname_ways : (xs : List ℕ) (r : Option ℕ) → n + length xs ≤ length src → RunInside 1 (length xs) r
@@ -336,7 +324,7 @@ module _ {src : List ℕ} {n : ℕ} (a : Asked src n) (end : Bool) where
         (varname_ways (b ∷ xs) (named end 1 xs) h (named_inside end 1 (suc (length xs)) xs (omega arith)))
         stays_ways
 
-  module _ (octals : Octal) (step : a.numbers ≡ step_numbers octals) where
+  module _ (octals : Octal) (step : a.refusals ≡ step_refusals octals) where
     none_ways : Ways a (Outcome.Refused no_property n)
     unfolding is_among
     none_ways = fault_ways a (rw step refl) (omega arith) a.inside

@@ -4,7 +4,8 @@
 --   ToldInside               the place after is not before the cursor; there are no more value bytes than were passed
 --   Inside   an outcome; a refusal is not the wait, and its place is not before the cursor
 use Rattle.std.specs.Prelude.{ℕ, ◌+◌, ◌≤◌, List, [], ◌∷◌, false, ◌≡◌, eqb, length}
-use Rattle.byte.specs.Refusals.{wait}
+use Rattle.byte.specs.declared.Refusal.{Refusal}
+use Rattle.byte.specs.Refusals.{wait, is_same}
 use Rattle.outcome.specs.Outcomes.{Piece, Outcome, values}
 
 pub record PieceInside (n after : ℕ) (p : Piece) : Type 0 where
@@ -22,12 +23,12 @@ pub record ToldInside (n hi : ℕ) (pieces : List Piece) (after : ℕ) : Type 0 
   pub narrow : n + length (values pieces) ≤ after
   pub all : AllInside n after pieces
 
-pub record PlaceInside (n hi number place : ℕ) : Type 0 where
-  pub told : eqb number wait ≡ false
+pub record PlaceInside (n hi : ℕ) (refusal : Refusal) (place : ℕ) : Type 0 where
+  pub told : is_same refusal wait ≡ false
   pub low : n ≤ place
   pub high : place ≤ hi
 
 abbrev pub Inside : ℕ → ℕ → Outcome → Type 0
 Inside n hi (Outcome.Told pieces after change finished) = ToldInside n hi pieces after
-Inside n hi (Outcome.Refused number place) = PlaceInside n hi number place
+Inside n hi (Outcome.Refused refusal place) = PlaceInside n hi refusal place
 Inside n hi Outcome.Wait = Unit {0}

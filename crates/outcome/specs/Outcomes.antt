@@ -7,6 +7,7 @@
 --   ending    nothing is left of the text: this at the announced end, else wait
 --   limited   the 64-frame limit: refusal 9, at the cursor n
 use Rattle.std.specs.Prelude.{ℕ, Bool, false, List, [], ◌∷◌, ◌++◌, ltb, if◌then◌else◌}
+use Rattle.byte.specs.declared.Refusal.{Refusal}
 use Rattle.byte.specs.Refusals.{stack_full}
 use Rattle.outcome.specs.declared.Change.{Change}
 
@@ -18,7 +19,7 @@ pub record Piece : Type 0 where
 
 pub data Outcome : Type 0 where
   Told : (pieces : List Piece) (after : ℕ) (change : Change) (finished : Bool) → Outcome
-  Refused : (number place : ℕ) → Outcome
+  Refused : (refusal : Refusal) (place : ℕ) → Outcome
   Wait : Outcome
 
 -- a piece without a detail
@@ -46,5 +47,5 @@ limited depth n (Outcome.Told pieces after (Change.Enter f) finished) =
 limited depth n (Outcome.Told pieces after Change.Keep finished) = Outcome.Told pieces after Change.Keep finished
 limited depth n (Outcome.Told pieces after (Change.Swap f) finished) = Outcome.Told pieces after (Change.Swap f) finished
 limited depth n (Outcome.Told pieces after Change.Leave finished) = Outcome.Told pieces after Change.Leave finished
-limited depth n (Outcome.Refused number place) = Outcome.Refused number place
+limited depth n (Outcome.Refused refusal place) = Outcome.Refused refusal place
 limited depth n Outcome.Wait = Outcome.Wait

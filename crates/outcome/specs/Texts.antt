@@ -82,7 +82,7 @@ texted m n xs (unit.Text value stop from after) =
     after
     (stop_change stop)
     false
-texted m n xs (unit.Refused number place) = Outcome.Refused number place
+texted m n xs (unit.Refused refusal place) = Outcome.Refused refusal place
 texted m n xs unit.Wait = Outcome.Wait
 
 -- an interpolation is left to `double_quote`
@@ -99,7 +99,7 @@ unfoldable pub literal : ℕ → ℕ → unit.Reading → Outcome
 literal kind place (unit.Text value stop from after) =
     if is_left stop then Outcome.Told (piece string_part place value ∷ []) after (Change.Swap Frame.DoubleQuote) false
     else Outcome.Told (piece kind place value ∷ []) after Change.Keep false
-literal kind place (unit.Refused number fault) = Outcome.Refused number fault
+literal kind place (unit.Refused refusal fault) = Outcome.Refused refusal fault
 literal kind place unit.Wait = Outcome.Wait
 
 -- a text that is read from n on: a literal, whose token bears the span of `place`, or a mode's

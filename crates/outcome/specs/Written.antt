@@ -9,8 +9,7 @@
 -- `call_written` (proofs/Written.antt) says that every call's literals and comments are.
 use Rattle.std.specs.Prelude.{ℕ, Bool, true, false, ◌&&◌, ◌||◌, List, [], ◌∷◌, ◌≡◌, eqb, length}
 use Prim.Native.Char.{Char}
-use Rattle.byte.specs.Words.{◌is◌}
-use Rattle.byte.specs.Refusals.{is_among}
+use Rattle.byte.specs.Words.{◌is◌, is_one_of}
 use Rattle.byte.specs.declared.Octal.{Octal}
 use Rattle.state.specs.declared.Reading.{Reading}
 use Rattle.state.specs.declared.Frame.{Frame}
@@ -24,7 +23,7 @@ use Rattle.outcome.specs.Steps.{call_at}
 
 unfoldable pub is_literal : ℕ → Bool
 is_literal kind =
-    is_among kind
+    is_one_of kind
     (literal_single_quoted_string ∷ literal_double_quoted_string ∷ literal_integer ∷ literal_float ∷ comment ∷ [])
 
 unfoldable pub is_closed : Char → List ℕ → Bool

@@ -1,6 +1,7 @@
 -- The plans that the modes make, and the outcomes that they stand for. Assumes nothing.
 use Rattle.std.specs.Prelude.{if◌then◌else◌}
 use Prim.Native.Nat.{ℕ, suc, ◌+◌, ◌-◌, ◌≤◌}
+use Rattle.byte.specs.declared.Refusal.{Refusal}
 use mathlib.Core.Path.{◌≡◌, refl, sym, ◌∙◌}
 use mathlib.Core.Bool.{Bool, true, false}
 use mathlib.Core.List.{List, [], ◌∷◌, ◌++◌}
@@ -54,10 +55,10 @@ module _ (src : List ℕ) (end : Bool) where
   unfolding outcome_of pieces
   goes_plans after change = record { told = refl; ready = record { few = omega arith; all = tt } }
 
-  pub refused_plans : {scratch : List ℕ} (number place : ℕ)
-      → PlansIn src end scratch (Outcome.Refused number place) (Plan.Refused number place)
+  pub refused_plans : {scratch : List ℕ} (refusal : Refusal) (place : ℕ)
+      → PlansIn src end scratch (Outcome.Refused refusal place) (Plan.Refused refusal place)
   unfolding outcome_of
-  refused_plans number place = record { told = refl; ready = tt }
+  refused_plans refusal place = record { told = refl; ready = tt }
 
   pub wait_plans : {scratch : List ℕ} → PlansIn src end scratch Outcome.Wait Plan.Wait
   unfolding outcome_of
@@ -130,7 +131,7 @@ module _ (src : List ℕ) (end : Bool) (scratch : List ℕ) where
 
   ready_in : (r : Plan) → PlanReady r src end [] → PlanReady r src end scratch
   ready_in (Plan.Told w) r = record { few = r.few; all = all_in (drafts_of w.drafts) r.all }
-  ready_in (Plan.Refused number place) r = tt
+  ready_in (Plan.Refused refusal place) r = tt
   ready_in Plan.Wait r = tt
 
   pub plans_in : (o : Outcome) (r : Plan) → Plans src end o r → PlansIn src end scratch o r

@@ -54,7 +54,7 @@ pieces_of src end ds = pieces src end (drafts_of ds)
 
 unfoldable pub outcome_of : List ℕ → Bool → Plan → Outcome
 outcome_of src end (Plan.Told w) = Outcome.Told (pieces_of src end w.drafts) w.after w.change w.finished
-outcome_of src end (Plan.Refused number place) = Outcome.Refused number place
+outcome_of src end (Plan.Refused refusal place) = Outcome.Refused refusal place
 outcome_of src end Plan.Wait = Outcome.Wait
 
 pub record Here (src : List ℕ) (at : ℕ) : Type 0 where
@@ -100,7 +100,7 @@ pub record DraftsReady (ds : Drafts) (src : List ℕ) (end : Bool) (scratch : Li
 
 abbrev pub PlanReady : Plan → List ℕ → Bool → List ℕ → Type 0
 PlanReady (Plan.Told w) src end scratch = DraftsReady w.drafts src end scratch
-PlanReady (Plan.Refused number place) src end scratch = Unit {0}
+PlanReady (Plan.Refused refusal place) src end scratch = Unit {0}
 PlanReady Plan.Wait src end scratch = Unit {0}
 
 pub record PlansIn (src : List ℕ) (end : Bool) (scratch : List ℕ) (o : Outcome) (r : Plan) : Type 0 where

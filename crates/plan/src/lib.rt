@@ -6,6 +6,7 @@ ghost use Rattle.std.specs.Prelude.{◌≡◌, ◌+◌, ◌-◌, ◌≤◌};
 ghost use Rattle.state.specs.Bounds.{label_bytes, no_label};
 ghost use Rattle.plan.specs.Code.{Named, copied_draft, no_drafts, one_draft, work_plan, goes_plan, one_plan, parted_plan, ending_plan};
 
+use byte::Refusal;
 use outcome::Change;
 use state::Label;
 use unit::Mode;
@@ -57,7 +58,7 @@ pub struct Work {
 #[derive(Clone, Copy)]
 pub enum Plan {
     Told(Work),
-    Refused { number: u32, place: usize },
+    Refused { refusal: Refusal, place: usize },
     Wait,
 }
 

@@ -1,5 +1,6 @@
 -- A reading asked for by numbers, on each way through the code. Assumes nothing.
 use Prim.Native.Nat.{ℕ, ◌+◌, ◌≤◌, ◌<◌}
+use Rattle.byte.specs.declared.Refusal.{Refusal}
 use mathlib.Core.Path.{◌≡◌, refl, sym, ap, ◌∙◌}
 use mathlib.Core.Bool.{Bool, true, false, false≢true}
 use mathlib.Core.List.{List, ◌++◌, append-nil}
@@ -62,22 +63,22 @@ pub ruleset numbers = (numbered_text, numbered_arm)
 
 -- what can't be taken, and what can
 module _ (mode : ℕ) (src label : List ℕ) (at end : ℕ) (r : Scanned) where
-  pub asked_large : 65536 < length src → r ≡ Scanned.Refused 11 0 → r ≡ measured (asked mode src label at end)
+  pub asked_large : 65536 < length src → r ≡ Scanned.Refused Refusal.TooLarge 0 → r ≡ measured (asked mode src label at end)
   unfolding asked measured
   asked_large h e = e ∙ rw (lt-leb (length src) 65536 h)
 
   module _ (short : length src ≤ 65536) where
-    pub asked_mode : 8 < mode → r ≡ Scanned.Refused 10 0 → r ≡ measured (asked mode src label at end)
+    pub asked_mode : 8 < mode → r ≡ Scanned.Refused Refusal.OutOfPlace 0 → r ≡ measured (asked mode src label at end)
     unfolding asked measured
     asked_mode h e = e ∙ rw (le-leb (length src) 65536 short, lt-leb mode 8 h)
 
     module _ (known : mode ≤ 8) where
-      pub asked_past : length src < at → r ≡ Scanned.Refused 10 0 → r ≡ measured (asked mode src label at end)
+      pub asked_past : length src < at → r ≡ Scanned.Refused Refusal.OutOfPlace 0 → r ≡ measured (asked mode src label at end)
       unfolding asked measured
       asked_past h e = e ∙ rw (le-leb (length src) 65536 short, le-leb mode 8 known, lt-leb at (length src) h)
 
       module _ (start : at ≤ length src) where
-        pub asked_label : 64 < length label → r ≡ Scanned.Refused 10 0 → r ≡ measured (asked mode src label at end)
+        pub asked_label : 64 < length label → r ≡ Scanned.Refused Refusal.OutOfPlace 0 → r ≡ measured (asked mode src label at end)
         unfolding asked measured
         asked_label h e =
             e ∙ rw (
@@ -100,22 +101,22 @@ pub ruleset askings = (asked_large, asked_mode, asked_past, asked_label, asked_d
 -- the parts of a scan
 abbrev is_text : Scanned → Bool
 is_text (Scanned.Text len stop from after) = true
-is_text (Scanned.Refused number place) = false
+is_text (Scanned.Refused refusal place) = false
 is_text Scanned.Wait = false
 
 abbrev is_refused : Scanned → Bool
 is_refused (Scanned.Text len stop from after) = false
-is_refused (Scanned.Refused number place) = true
+is_refused (Scanned.Refused refusal place) = true
 is_refused Scanned.Wait = false
 
 abbrev size_of : Scanned → ℕ
 size_of (Scanned.Text len stop from after) = len
-size_of (Scanned.Refused number place) = number
+size_of (Scanned.Refused refusal place) = number
 size_of Scanned.Wait = 0
 
 -- a reading from what its scan found
 module _ (part : List ℕ) where
-  refused_valued : (reading : Reading) (number place : ℕ) → Scanned.Refused number place ≡ measured reading → Valued part reading number part
+  refused_valued : (reading : Reading) (number place : ℕ) → Scanned.Refused refusal place ≡ measured reading → Valued part reading number part
   unfolding measured value_refusal written
   refused_valued (Text value stop from after) number place e = absurd (false≢true (sym (ap is_refused e)))
   refused_valued (Refused other there) number place e = record { answer = ap size_of e; holds = refl }
@@ -124,7 +125,7 @@ module _ (part : List ℕ) where
   wait_valued : (reading : Reading) → Scanned.Wait ≡ measured reading → Valued part reading 6 part
   unfolding measured value_refusal written
   wait_valued (Text value stop from after) e = absurd (false≢true (ap is_text e))
-  wait_valued (Refused number place) e = absurd (false≢true (ap is_refused e))
+  wait_valued (Refused refusal place) e = absurd (false≢true (ap is_refused e))
   wait_valued Wait e = record { answer = refl; holds = refl }
 
   module _ (len : ℕ) (stop : Stop) (from after : ℕ) where
@@ -133,7 +134,7 @@ module _ (part : List ℕ) where
     full_valued (Text value other start end) e h =
         let no : leb (length value) (length part) ≡ false = lt-leb (length value) (length part) (rw (ap size_of e) at h) in
         record { answer = rw no; holds = rw no }
-    full_valued (Refused number place) e h = absurd (false≢true (sym (ap is_text e)))
+    full_valued (Refused refusal place) e h = absurd (false≢true (sym (ap is_text e)))
     full_valued Wait e h = absurd (false≢true (sym (ap is_text e)))
 
     text_valued : (reading : Reading) → Scanned.Text len stop from after ≡ measured reading → len ≤ length part → Valued part reading 0 (laid part 0 (value_of reading))
@@ -141,13 +142,13 @@ module _ (part : List ℕ) where
     text_valued (Text value other start end) e h =
         let yes : leb (length value) (length part) ≡ true = le-leb (length value) (length part) (rw (ap size_of e) at h) in
         record { answer = rw yes; holds = rw yes }
-    text_valued (Refused number place) e h = absurd (false≢true (sym (ap is_text e)))
+    text_valued (Refused refusal place) e h = absurd (false≢true (sym (ap is_text e)))
     text_valued Wait e h = absurd (false≢true (sym (ap is_text e)))
 
 text_size : (len : ℕ) (stop : Stop) (from after : ℕ) (reading : Reading) → Scanned.Text len stop from after ≡ measured reading → len ≡ length (value_of reading)
 unfolding measured value_of
 text_size len stop from after (Text value other start end) e = ap size_of e
-text_size len stop from after (Refused number place) e = absurd (false≢true (sym (ap is_text e)))
+text_size len stop from after (Refused refusal place) e = absurd (false≢true (sym (ap is_text e)))
 text_size len stop from after Wait e = absurd (false≢true (sym (ap is_text e)))
 
 -- what fills the start of a part is written at the start of the whole
@@ -187,7 +188,7 @@ module _ (mode : ℕ) (src label : List ℕ) (at end : ℕ) where
       none t = absurd (false≢true t)
 
   module _ (part : List ℕ) (s : Scanned) (e : s ≡ measured (asked mode src label at end)) where
-    pub value_refused : (number place : ℕ) → s ≡ Scanned.Refused number place → Valued part (asked mode src label at end) number part
+    pub value_refused : (number place : ℕ) → s ≡ Scanned.Refused refusal place → Valued part (asked mode src label at end) number part
     value_refused number place t = refused_valued part (asked mode src label at end) number place (sym t ∙ e)
 
     pub value_wait : s ≡ Scanned.Wait → Valued part (asked mode src label at end) 6 part

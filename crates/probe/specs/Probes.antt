@@ -70,17 +70,17 @@ refusal number place = record { number = number; stop = 0; place = place; detail
 unfoldable pub numbered : Scanned → Probed
 numbered (Scanned.Text len stop from after) =
     record { number = 0; stop = stop_number stop; place = 0; detail = amount_of stop; from = from; after = after; len = len }
-numbered (Scanned.Refused number place) = refusal number place
+numbered (Scanned.Refused refusal place) = refusal number place
 numbered Scanned.Wait = refusal wait 0
 
 unfoldable pub value_refusal : ℕ → Reading → ℕ
 value_refusal room (Text value stop from after) = if leb (length value) room then 0 else pool_full
-value_refusal room (Refused number place) = number
+value_refusal room (Refused refusal place) = number
 value_refusal room Wait = wait
 
 unfoldable pub written : List ℕ → Reading → List ℕ
 written part (Text value stop from after) = if leb (length value) (length part) then laid part 0 value else part
-written part (Refused number place) = part
+written part (Refused refusal place) = part
 written part Wait = part
 
 pub record Valued (part : List ℕ) (reading : Reading) (r : ℕ) (after : List ℕ) : Type 0 where

@@ -8,7 +8,7 @@ ghost use Rattle.text.specs.Code.{measured};
 ghost use Rattle.probe.specs.Probes.{mode_of, asked, stop_number, amount_of, refusal, numbered, Valued};
 ghost use Rattle.probe.specs.Literals.{literal_number, counted, asked_number, NumberValued};
 
-use byte::Octal;
+use byte::{Octal, Refusal};
 use number::Literal;
 use text::Scanned;
 use unit::{Follow, Indentation, Mode, Stop};
@@ -131,8 +131,8 @@ fn numbered(s: Scanned) -> Probed
             after,
             len,
         },
-        Scanned::Refused { number, place } => refusal(number, place),
-        Scanned::Wait => refusal(byte::WAIT, 0),
+        Scanned::Refused { refusal, place } => refusal(number, place),
+        Scanned::Wait => refusal(Refusal::Wait, 0),
     }
 }
 
@@ -140,7 +140,7 @@ fn numbered(s: Scanned) -> Probed
 fn refused(number: u32) -> Scanned
     ensures { result ≡ Scanned.Refused number 0 }
 {
-    Scanned::Refused { number, place: 0 }
+    Scanned::Refused { refusal, place: 0 }
 }
 
 // The reading asked for, measured; or why there is none.
@@ -149,10 +149,10 @@ fn scanned(mode: u32, src: &[u8], label: &[u8], at: usize, end: u32) -> Scanned
     ensures { result ≡ measured (asked mode src.now label.now at end) }
 {
     if 65536 < src.len() {
-        return refused(byte::TOO_LARGE);
+        return refused(Refusal::TooLarge);
     }
     if 8 < mode || src.len() < at || 64 < label.len() {
-        return refused(byte::OUT_OF_PLACE);
+        return refused(Refusal::OutOfPlace);
     }
     text::scan_text(mode_of(mode), src, label, at, end != 0, &mut [])
 }
@@ -187,13 +187,13 @@ pub extern "C" fn puretakoi_probe_value(
     match scanned(mode, src, label, at, end) {
         Scanned::Text { len, .. } => {
             if value.len() < len {
-                return byte::POOL_FULL;
+                return Refusal::PoolFull;
             }
             text::read_text(mode_of(mode), src, label, at, end != 0, &mut value[..len]);
             0
         }
         Scanned::Refused { number, .. } => number,
-        Scanned::Wait => byte::WAIT,
+        Scanned::Wait => Refusal::Wait,
     }
 }
 
@@ -213,7 +213,7 @@ fn counted(scan: Option<number::Scanned>) -> Probed
     ensures { result ≡ counted scan }
 {
     let Some(found) = scan else {
-        return refusal(byte::WAIT, 0);
+        return refusal(Refusal::Wait, 0);
     };
     Probed {
         number: 0,
@@ -233,10 +233,10 @@ pub extern "C" fn puretakoi_probe_number(src: &[u8], at: usize, end: u32) -> Pro
     ensures { result ≡ asked_number src.now at end }
 {
     if 65536 < src.len() {
-        return refusal(byte::TOO_LARGE, 0);
+        return refusal(Refusal::TooLarge, 0);
     }
     if src.len() < at {
-        return refusal(byte::OUT_OF_PLACE, 0);
+        return refusal(Refusal::OutOfPlace, 0);
     }
     counted(number::scan_number(src, at, end != 0))
 }
@@ -253,16 +253,16 @@ pub extern "C" fn puretakoi_probe_number_value(
     ensures { NumberValued src.now at end value.old result value.new }
 {
     if 65536 < src.len() {
-        return byte::TOO_LARGE;
+        return Refusal::TooLarge;
     }
     if src.len() < at {
-        return byte::OUT_OF_PLACE;
+        return Refusal::OutOfPlace;
     }
     let Some(found) = number::scan_number(src, at, end != 0) else {
-        return byte::WAIT;
+        return Refusal::Wait;
     };
     if found.len > value.len() {
-        return byte::POOL_FULL;
+        return Refusal::PoolFull;
     }
     number::write_number(src, at, found.after, value);
     0

@@ -56,7 +56,7 @@ sixth answer a done room = rw (le-leb 6 (length answer) room) (go a)
     go : (b : Answer) → get_or (laid answer 0 (answer_numbers b ++ (done ∷ []))) 5 0 ≡ done
     go Answer.Done = refl
     go Answer.Finished = refl
-    go (Answer.Refused number span) = refl
+    go (Answer.Refused refusal span) = refl
 
 module _ (src : List ℕ) (end : ℕ) (session list pool answer : List ℕ) (r : ℕ) (session' list' pool' answer' : List ℕ)
     (long : are_long (length session) (length answer) ≡ true) where

@@ -30,7 +30,7 @@ called_on_none : (src : List ℕ) (end : Bool) (s : Session) (l q : List ℕ) (i
     → IsNew s (called_on Call.Step 0 src end s l q) i → ⊥
 unfolding called_on
 called_on_none src end s l q i =
-    choice (λ (a : After). IsNew s a i → ⊥) (eqb (lent_refusal src (length l) (length q) s) 0) _ _
+    shut_cases (λ (a : After). IsNew s a i → ⊥) (lent_refusal src (length l) (length q) s) s l q _
     (λ e new. omega (arith, new.0, new.1)) (λ e new. omega (arith, new.0, new.1))
 
 called_on_walk : (n : ℕ) (src : List ℕ) (end : Bool) (s : Session) (l q : List ℕ)

@@ -73,7 +73,7 @@ module _ (list : List ℕ) (count byte : ℕ) (found : List ℕ) where
     finds_told f looks end found' k w =
         record { number = rw (le-leb 3 (length found) h, ← e, k); holds = rw (le-leb 3 (length found) h, ← e, k) w }
 
-    pub finds_no : (number : ℕ) (span : Span) → lookup ≡ Lookup.Refused number span
+    pub finds_no : (number : ℕ) (span : Span) → lookup ≡ Lookup.Refused refusal span
         → Finds list count byte found number found
     unfolding finds_number found_after
     finds_no number span k =
@@ -86,7 +86,7 @@ pub ruleset finds = (found_three, found_four, finds_short, finds_told, finds_no)
 after_refused : (l : Lookup) (slice : List ℕ) → (finds_number l ≡ 0 → ⊥) → found_after l slice ≡ slice
 unfolding finds_number found_after
 after_refused (Lookup.Told found looks end) slice h = absurd (h refl)
-after_refused (Lookup.Refused number span) slice h = refl
+after_refused (Lookup.Refused refusal span) slice h = refl
 
 third_looks : (found : Option ℕ) (looks end : ℕ) (slice : List ℕ)
     → get_or (laid slice 0 (found_ended (length slice) found looks end)) 2 0 ≡ looks

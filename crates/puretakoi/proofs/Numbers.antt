@@ -75,13 +75,13 @@ module _ (session answer : List ℕ) (r : ℕ) (numbers : List ℕ) (all : AreRe
   unfolding refusal_in
   zero_unrefused Answer.Done x z = inl x
   zero_unrefused Answer.Finished x z = inr x
-  zero_unrefused (Answer.Refused number span) x z = absurd (omega (arith, z, among_some numbers all number (told.among number span x)))
+  zero_unrefused (Answer.Refused refusal span) x z = absurd (omega (arith, z, among_some numbers all number (told.among number span x)))
 
   answer_which : (b : Answer) → a ≡ b → is_among (refusal_in b) (0 ∷ out_of_place ∷ numbers) ≡ true
   unfolding refusal_in
   answer_which Answer.Done x = among_here 0 _
   answer_which Answer.Finished x = among_here 0 _
-  answer_which (Answer.Refused number span) x =
+  answer_which (Answer.Refused refusal span) x =
       among_more number 0 _ (among_more number out_of_place numbers (told.among number span x))
 
   pub host_number : HostNumber numbers a session answer r

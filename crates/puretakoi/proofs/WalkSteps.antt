@@ -41,10 +41,10 @@ first_five : (answer : List ℕ) (t : Bool) (a : Answer) (done : ℕ)
 unfolding laid answer_numbers
 first_five answer true Answer.Done done = refl
 first_five answer true Answer.Finished done = refl
-first_five answer true (Answer.Refused number span) done = refl
+first_five answer true (Answer.Refused refusal span) done = refl
 first_five answer false Answer.Done done = refl
 first_five answer false Answer.Finished done = refl
-first_five answer false (Answer.Refused number span) done = refl
+first_five answer false (Answer.Refused refusal span) done = refl
 
 pub stands_shows : (a : After) (done : ℕ) (answer : List ℕ) (r : ℕ) (session' list' pool' answer' : List ℕ)
     → Stands a done answer r session' list' pool' answer' → Shows a r session' list' pool' answer'
@@ -84,13 +84,13 @@ done_told : (a : Answer) → get_or (answer_numbers a) 0 0 ≡ 0 → a ≡ Answe
 unfolding answer_numbers
 done_told Answer.Done e = refl
 done_told Answer.Finished e = absurd (omega (arith, e))
-done_told (Answer.Refused number span) e = absurd (omega (arith, e))
+done_told (Answer.Refused refusal span) e = absurd (omega (arith, e))
 
 ended : (a : Answer) → (get_or (answer_numbers a) 0 0 ≡ 0 → ⊥) → Ended a
 unfolding answer_numbers
 ended Answer.Done h = h refl
 ended Answer.Finished h = tt
-ended (Answer.Refused number span) h = tt
+ended (Answer.Refused refusal span) h = tt
 
 module _ (src : List ℕ) (end : ℕ) (session list pool : List ℕ) where
   abbrev after : ℕ → After

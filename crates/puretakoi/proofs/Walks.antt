@@ -27,7 +27,7 @@ length-numbers : (a : Answer) → length (answer_numbers a) ≡ 5
 unfolding answer_numbers
 length-numbers Answer.Done = refl
 length-numbers Answer.Finished = refl
-length-numbers (Answer.Refused number span) = refl
+length-numbers (Answer.Refused refusal span) = refl
 
 -- the five numbers are written
 module _ (answer written : List ℕ) (a : Answer) (done : ℕ) (long : 5 ≤ length answer)

@@ -21,11 +21,11 @@ found_ended size found looks end =
 
 unfoldable pub finds_number : Lookup → ℕ
 finds_number (Lookup.Told found looks end) = 0
-finds_number (Lookup.Refused number span) = number
+finds_number (Lookup.Refused refusal span) = number
 
 unfoldable pub found_after : Lookup → List ℕ → List ℕ
 found_after (Lookup.Told found looks end) slice = laid slice 0 (found_ended (length slice) found looks end)
-found_after (Lookup.Refused number span) slice = slice
+found_after (Lookup.Refused refusal span) slice = slice
 
 pub record Finds (list : List ℕ) (count byte : ℕ) (found : List ℕ) (r : ℕ) (found' : List ℕ) : Type 0 where
   pub number : r ≡ (if leb 3 (length found) then finds_number (looked_up list count byte) else out_of_place)

@@ -5,7 +5,7 @@
 
 ghost use Rattle.std.specs.Prelude.{length, ◌≤◌, IfOk};
 
-use byte::Octal;
+use byte::{Octal, Refusal};
 use outcome::Call;
 use source::Span;
 use state::{Answer, Choices, Reading};
@@ -49,7 +49,7 @@ fn print_refusal<W: Write>(out: &mut W, number: u32, span: Span) -> io::Result<(
 
 // Whether a refusal says that a table is full.
 fn is_full(number: u32) -> bool {
-    (number == byte::LIST_FULL) | (number == byte::POOL_FULL)
+    (number == Refusal::ListFull) | (number == Refusal::PoolFull)
 }
 
 // Walks to the script's end; where a table is full the rows are printed and both are emptied, and they have room for any step. A step that
@@ -72,7 +72,7 @@ fn print_script<W: Write>(out: &mut W, src: &[u8]) -> io::Result<()> {
                 let position = s.position;
                 return writeln!(out, "end {position}");
             }
-            Answer::Refused { number, span } => {
+            Answer::Refused { refusal, span } => {
                 if !is_full(number) {
                     return print_refusal(out, number, span);
                 }
@@ -113,7 +113,7 @@ fn main(rt: HostRuntime) -> io::Result<()> {
             column: 1,
             position: 0,
         };
-        print_refusal(&mut out, byte::TOO_LARGE, first)?;
+        print_refusal(&mut out, Refusal::TooLarge, first)?;
     } else {
         print_script(&mut out, &buffer[..n])?;
     }

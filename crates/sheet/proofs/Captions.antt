@@ -5,6 +5,7 @@
 --   behind_label    worked sheets x and y: what the reading says for each byte after the label EOT
 use Rattle.std.specs.Prelude.{if◌then◌else◌}
 use Prim.Native.Nat.{ℕ}
+use Rattle.byte.specs.declared.Refusal.{Refusal}
 use mathlib.Core.Path.{◌≡◌, refl}
 use mathlib.Core.Bool.{Bool, true, false}
 use mathlib.Core.List.{List, [], ◌∷◌, ◌++◌, append-nil}
@@ -47,7 +48,7 @@ one_line b = choice (λ ls. ls ≡ (b ∷ []) ∷ []) (b is "\n") _ _ (λ e. ref
 -- a row, and the label with one byte after it: an identifier byte makes that a row, too, and no line closes
 pub behind_label : (end : Bool) (b : ℕ)
     → sheet_at (bytes "EOT") end 0 (bytes "a\nEOT" ++ b ∷ [])
-    ≡ (if is_identifier b then (if end then Reading.Refused 1 6 else Reading.Wait)
+    ≡ (if is_identifier b then (if end then Reading.Refused Refusal.UnexpectedEndOfFile 6 else Reading.Wait)
     else Reading.Text (bytes "a") (Stop.Label Indentation.None 0) 2 5)
 unfolding sheet_at answered stripped filled block told with_line line_kind judged_line closing_label indented is_blank body_text followed
     unindented unbroken is_over is_break lines in_front run bytes
@@ -58,7 +59,7 @@ behind_label end b = rw (one_line b) (go end (is_identifier b))
         (with_line (bytes "a\n")
         (told (judged_line (if t then Match.Other else Match.Whole) e Indentation.None 0) 2 (bytes "EOT" ++ b ∷ [])
         (if e then Missing 6 else Open)))
-        ≡ (if t then (if e then Reading.Refused 1 6 else Reading.Wait)
+        ≡ (if t then (if e then Reading.Refused Refusal.UnexpectedEndOfFile 6 else Reading.Wait)
         else Reading.Text (bytes "a") (Stop.Label Indentation.None 0) 2 5)
     go true true = refl
     go true false = refl

@@ -5,6 +5,7 @@
 -- What is told of a line stays, and a line with a break is told (Closings). So an open block misses its closing line where the
 -- text ends or, if that is after the whole label, where it ends with one identifier byte more. Assumes nothing.
 use Prim.Native.Nat.{ℕ, ◌+◌}
+use Rattle.byte.specs.declared.Refusal.{Refusal}
 use mathlib.Core.Logic.{◌⊎◌, inl, inr, ⊎_elim}
 use mathlib.Core.Path.{◌≡◌, refl, ap, sym, ◌∙◌}
 use mathlib.Core.Bool.{true, false}
@@ -126,13 +127,13 @@ module _ (label : List ℕ) (h : Label label) where
 -- a block that is closed neither waits nor misses its closing line, and enters no frame
 abbrev Tells : Reading → Type 0
 Tells (Reading.Text value stop from after) = enters stop ≡ false
-Tells (Reading.Refused number place) = number ≡ 1 → ⊥
+Tells (Reading.Refused refusal place) = refusal ≡ Refusal.UnexpectedEndOfFile → ⊥
 Tells Reading.Wait = ⊥
 
 filled_tells : (t : Text) (ind : Indentation) (amount place after : ℕ) → Tells (filled t ind amount place after)
 unfolding filled
 filled_tells (Kept text) ind amount place after = refl
-filled_tells (Stray p) ind amount place after = λ e. omega arith
+filled_tells (Stray p) ind amount place after = λ e. cc
 
 stripped_tells : (size n : ℕ) (body : List (List ℕ)) (ind : Indentation) (amount place : ℕ)
     → Tells (stripped size n body ind amount place)
@@ -140,13 +141,13 @@ unfolding stripped
 stripped_tells size n body Indentation.None amount place = filled_tells _ _ _ _ _
 stripped_tells size n body Indentation.Space amount place = filled_tells _ _ _ _ _
 stripped_tells size n body Indentation.Tab amount place = filled_tells _ _ _ _ _
-stripped_tells size n body Indentation.Mixed amount place = λ e. omega arith
+stripped_tells size n body Indentation.Mixed amount place = λ e. cc
 
-tells_missing : (p : ℕ) (r : Reading) (q : ℕ) → Tells r → ending p r ≡ Reading.Refused 1 q → ⊥
+tells_missing : (p : ℕ) (r : Reading) (q : ℕ) → Tells r → ending p r ≡ Reading.Refused Refusal.UnexpectedEndOfFile q → ⊥
 tells_missing p (Reading.Text value stop from after) q t e =
-    let z : Reading.Text [] Stop.Quote 0 0 ≡ Reading.Refused 1 q = rw t at e in
+    let z : Reading.Text [] Stop.Quote 0 0 ≡ Reading.Refused Refusal.UnexpectedEndOfFile q = rw t at e in
     clash cc
-tells_missing p (Reading.Refused number place) q t e = t (let z : number ≡ 1 = cc in z)
+tells_missing p (Reading.Refused refusal place) q t e = t (let z : refusal ≡ Refusal.UnexpectedEndOfFile = cc in z)
 tells_missing p Reading.Wait q t e = t
 
 answered_wait : (size n : ℕ) (b : Block) → answered size n b ≡ Reading.Wait → b ≡ Open
@@ -157,7 +158,7 @@ answered_wait size n (Closed body ind amount place) e =
 answered_wait size n (Missing place) e = clash cc
 answered_wait size n Open e = refl
 
-answered_missing : (p size n : ℕ) (b : Block) (q : ℕ) → ending p (answered size n b) ≡ Reading.Refused 1 q → b ≡ Missing q
+answered_missing : (p size n : ℕ) (b : Block) (q : ℕ) → ending p (answered size n b) ≡ Reading.Refused Refusal.UnexpectedEndOfFile q → b ≡ Missing q
 unfolding answered
 answered_missing p size n (Closed body ind amount place) q e =
     absurd (tells_missing p (stripped size n body ind amount place) q (stripped_tells size n body ind amount place) e)
@@ -166,7 +167,7 @@ answered_missing p size n Open q e = let z : ◌≡◌ {A = ℕ} 0 1 = cc in cla
 
 is-wait : (r : Reading) → Dec (r ≡ Reading.Wait)
 is-wait (Reading.Text value stop from after) = no (λ (z : Reading.Text value stop from after ≡ Reading.Wait). clash cc)
-is-wait (Reading.Refused number place) = no (λ (z : Reading.Refused number place ≡ Reading.Wait). clash cc)
+is-wait (Reading.Refused refusal place) = no (λ (z : Reading.Refused refusal place ≡ Reading.Wait). clash cc)
 is-wait Reading.Wait = yes refl
 
 module _ (label : List ℕ) (h : Label label) (n : ℕ) where
@@ -177,7 +178,7 @@ module _ (label : List ℕ) (h : Label label) (n : ℕ) where
       ap (answered (length label) n) (block_stays label h n (lines-append part rest) (λ z. k (rw z)))
 
   -- no sheet is refused so but where its text ends
-  missing_place : (p : ℕ) (xs : List ℕ) (q : ℕ) → ending p (sheet_at label true n xs) ≡ Reading.Refused 1 q → q ≡ n + length xs
+  missing_place : (p : ℕ) (xs : List ℕ) (q : ℕ) → ending p (sheet_at label true n xs) ≡ Reading.Refused Refusal.UnexpectedEndOfFile q → q ≡ n + length xs
   unfolding sheet_at
   missing_place p xs q e =
       let m : block label true n (lines xs) ≡ Missing q = answered_missing p (length label) n _ q e in
@@ -186,15 +187,15 @@ module _ (label : List ℕ) (h : Label label) (n : ℕ) where
 
   -- an open block is refused where the text ends, or after one identifier byte more
   sheet_open : (part : List ℕ) → sheet_at label false n part ≡ Reading.Wait
-      → (sheet_at label true n part ≡ Reading.Refused 1 (n + length part))
-      ⊎ (sheet_at label true n (part ++ one_more) ≡ Reading.Refused 1 (n + length (part ++ one_more)))
+      → (sheet_at label true n part ≡ Reading.Refused Refusal.UnexpectedEndOfFile (n + length part))
+      ⊎ (sheet_at label true n (part ++ one_more) ≡ Reading.Refused Refusal.UnexpectedEndOfFile (n + length (part ++ one_more)))
   unfolding sheet_at answered
   sheet_open part k =
       ⊎_elim (λ y. inl (missed part y)) (λ y. inr (missed (part ++ one_more) y))
       (block_open label h n (lines_grown part) (answered_wait (length label) n _ k))
     where
       missed : (xs : List ℕ) → block label true n (lines xs) ≡ Missing (n + total (lines xs))
-          → answered (length label) n (block label true n (lines xs)) ≡ Reading.Refused 1 (n + length xs)
+          → answered (length label) n (block label true n (lines xs)) ≡ Reading.Refused Refusal.UnexpectedEndOfFile (n + length xs)
       missed xs e = rw (e, total_lines xs)
 
   -- the text as it is, and with one byte more
@@ -211,8 +212,8 @@ module _ (label : List ℕ) (h : Label label) (n : ℕ) where
       }
     where
       go : ending p (sheet_at label true n part) ≡ ending p (sheet_at label true n (part ++ one_more))
-          → (sheet_at label true n part ≡ Reading.Refused 1 (n + length part))
-          ⊎ (sheet_at label true n (part ++ one_more) ≡ Reading.Refused 1 (n + length (part ++ one_more)))
+          → (sheet_at label true n part ≡ Reading.Refused Refusal.UnexpectedEndOfFile (n + length part))
+          ⊎ (sheet_at label true n (part ++ one_more) ≡ Reading.Refused Refusal.UnexpectedEndOfFile (n + length (part ++ one_more)))
           → ⊥
       go z (inl e) = omega (arith, missing_place p (part ++ one_more) (n + length part) (sym z ∙ ap (ending p) e), length-append part one_more)
       go z (inr e) = omega (arith, missing_place p part (n + length (part ++ one_more)) (z ∙ ap (ending p) e), length-append part one_more)

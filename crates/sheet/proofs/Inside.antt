@@ -9,6 +9,7 @@
 -- Assumes nothing.
 use Rattle.std.specs.Prelude.{if◌then◌else◌}
 use Prim.Native.Nat.{ℕ, suc, ◌+◌, ◌-◌, ◌<◌, ◌≤◌}
+use Rattle.byte.specs.declared.Refusal.{Refusal}
 use mathlib.Core.Path.{◌≡◌, refl, sym, ap, ◌∙◌}
 use mathlib.Core.Bool.{Bool, true, false, ◌&&◌, false≢true}
 use mathlib.Core.List.{List, [], ◌∷◌, ◌++◌}
@@ -156,7 +157,7 @@ module _ (label : List ℕ) (end : Bool) where
 -- ---- the body
 
 -- what a sheet may refuse
-abbrev pub sheet_faults : List ℕ
+abbrev pub sheet_faults : List Refusal
 sheet_faults = unexpected_end_of_file ∷ invalid_doc_indentation ∷ stray_indentation ∷ []
 
 -- what is left of so many bytes from n on
@@ -207,7 +208,7 @@ unbroken_length (b ∷ c ∷ d ∷ rest) = omega (arith, unbroken_length (c ∷ 
 
 module _ (size n : ℕ) (body : List (List ℕ)) (amount place : ℕ) where
   pub stripped_mixed : (ind : Indentation) → blank_of (Stop.Label ind amount) ≡ 0
-      → stripped size n body ind amount place ≡ Reading.Refused 4 place
+      → stripped size n body ind amount place ≡ Reading.Refused Refusal.InvalidDocIndentation place
   unfolding stripped blank_of
   stripped_mixed Indentation.None z = absurd (omega arith)
   stripped_mixed Indentation.Space z = absurd (omega arith)
@@ -234,7 +235,7 @@ pub record SheetStands (size n hi : ℕ) (xs value : List ℕ) (stop : Stop) (fr
 
 abbrev pub StandsSheet : ℕ → ℕ → ℕ → List ℕ → Reading → Type 0
 StandsSheet size n hi xs (Reading.Text value stop from after) = SheetStands size n hi xs value stop from after
-StandsSheet size n hi xs (Reading.Refused number place) = FaultInside sheet_faults n hi number place
+StandsSheet size n hi xs (Reading.Refused refusal place) = FaultInside sheet_faults n hi refusal place
 StandsSheet size n hi xs Reading.Wait = Unit {0}
 
 module _ (size n : ℕ) (xs : List ℕ) (body : List (List ℕ)) (ind : Indentation) (amount place : ℕ)
@@ -298,7 +299,7 @@ module _ (label : List ℕ) (end : Bool) (n : ℕ) (xs : List ℕ) where
             order = omega (arith, x.sized);
             inside = x.inside;
           })
-      go (Reading.Refused number place) x = x
+      go (Reading.Refused refusal place) x = x
       go Reading.Wait x = tt
 
   pub sheet_moves : 0 < length label → MovesReading n (sheet_at label end n xs)
@@ -306,7 +307,7 @@ module _ (label : List ℕ) (end : Bool) (n : ℕ) (xs : List ℕ) where
     where
       go : (r : Reading) → StandsSheet (length label) n (n + length xs) xs r → MovesReading n r
       go (Reading.Text value stop from after) x = omega (arith, x.narrow, x.sized)
-      go (Reading.Refused number place) x = tt
+      go (Reading.Refused refusal place) x = tt
       go Reading.Wait x = tt
 
   pub sheet_stops : StopsReading (sheet_at label end n xs)
@@ -314,5 +315,5 @@ module _ (label : List ℕ) (end : Bool) (n : ℕ) (xs : List ℕ) where
     where
       go : (r : Reading) → StandsSheet (length label) n (n + length xs) xs r → StopsReading r
       go (Reading.Text value stop from after) x = rw x.label
-      go (Reading.Refused number place) x = tt
+      go (Reading.Refused refusal place) x = tt
       go Reading.Wait x = tt

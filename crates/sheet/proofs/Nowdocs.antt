@@ -122,7 +122,7 @@ onto_bare b (Reading.Text left stop from' after') value from after e =
     let f : from' ≡ from = cc in
     let a : after' ≡ after = cc in
     record { left = left; same = rw (s, f, a); front = cc }
-onto_bare b (Reading.Refused number place) value from after e = clash cc
+onto_bare b (Reading.Refused refusal place) value from after e = clash cc
 onto_bare b Reading.Wait value from after e = clash cc
 
 -- ---- the two readings
@@ -287,7 +287,7 @@ module _ (label : List ℕ) (h : Label label) where
 pub finished_nowdoc : (r : Reading) → finished Mode.Nowdoc r ≡ r
 unfolding finished loses_break
 finished_nowdoc (Reading.Text value stop from after) = refl
-finished_nowdoc (Reading.Refused number place) = refl
+finished_nowdoc (Reading.Refused refusal place) = refl
 finished_nowdoc Reading.Wait = refl
 
 -- where nothing comes off, a body is its bytes

@@ -1,6 +1,7 @@
 -- The scan of a sheet: what is left of a body without its last break, by the indentation, and by where the block closes.
 -- Assumes nothing.
 use Prim.Native.Nat.{ℕ, ◌+◌, ◌-◌, ◌≤◌}
+use Rattle.byte.specs.declared.Refusal.{Refusal}
 use mathlib.Core.Path.{◌≡◌, refl, sym, ap, ◌∙◌}
 use mathlib.Core.Bool.{Bool, true, false}
 use mathlib.Core.List.{List}
@@ -76,7 +77,7 @@ of_stray (Stray q) p e = let z : q ≡ p = cc in ap Stray z
 module _ (body : List ℕ) (at : ℕ) (ind : Indentation) (amount size : ℕ) (b : Body body at) (c : Closing body ind amount size)
   where
     pub sheet_mixed : None ≡ one_blank ind
-        → Scanned.Refused 4 (length body + amount) ≡ measured (stripped size at (lines (drop at body)) ind amount (length body + amount))
+        → Scanned.Refused Refusal.InvalidDocIndentation (length body + amount) ≡ measured (stripped size at (lines (drop at body)) ind amount (length body + amount))
     unfolding measured
     sheet_mixed t = rw (stripped_mixed size at (lines (drop at body)) amount (length body + amount) ind (blank_none ind amount t))
 
@@ -97,7 +98,7 @@ module _ (body : List ℕ) (at : ℕ) (ind : Indentation) (amount size : ℕ) (b
       measure = e ∙ rw k
 
       pub sheet_stray : (place : ℕ) → s ≡ Err place
-          → Scanned.Refused 13 place ≡ measured (stripped size at (lines (drop at body)) ind amount (length body + amount))
+          → Scanned.Refused Refusal.StrayIndentation place ≡ measured (stripped size at (lines (drop at body)) ind amount (length body + amount))
       unfolding filled measured
       sheet_stray place z = rw (strip, of_stray (body_text (indent_of ind amount) at (lines (drop at body))) place (sym z ∙ measure))
 
@@ -170,7 +171,7 @@ module _ (src label : List ℕ) (at : ℕ) (end : Bool) (start : at ≤ length s
   left_over : at + total (lines (drop at src)) ≡ length src
   left_over = omega (arith, total_lines (drop at src), length-drop at src)
 
-  pub scan_missing : f ≡ Found.Missing → Scanned.Refused 1 (length src) ≡ measured (sheet_at label end at (drop at src))
+  pub scan_missing : f ≡ Found.Missing → Scanned.Refused Refusal.UnexpectedEndOfFile (length src) ≡ measured (sheet_at label end at (drop at src))
   unfolding measured sheet_at answered
   scan_missing z =
       let m = found_missing (block label end at (lines (drop at src))) (sym z ∙ e) in

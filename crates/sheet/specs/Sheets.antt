@@ -8,6 +8,7 @@
 --                   off each earlier line; the last break goes
 use Rattle.std.specs.Prelude.{ℕ, suc, ◌+◌, Bool, true, List, [], ◌∷◌, ◌≡◌, refl, eqb, length, if◌then◌else◌}
 use Prim.Native.Char.{code}
+use Rattle.byte.specs.declared.Refusal.{Refusal}
 use Rattle.byte.specs.Refusals.{unexpected_end_of_file, invalid_doc_indentation, stray_indentation}
 use Rattle.byte.specs.Words.{run, bytes}
 use Rattle.byte.specs.Bytes.{is_blank, is_identifier}
@@ -89,7 +90,7 @@ unfolding sheet_at answered stripped filled block told with_line line_kind judge
     followed unindented unbroken is_over is_break lines in_front run bytes
 sheet_o = refl
 
-sheet_p : sheet_at (bytes "EOT") true 0 (bytes " a\n  EOT") ≡ Reading.Refused 13 1
+sheet_p : sheet_at (bytes "EOT") true 0 (bytes " a\n  EOT") ≡ Reading.Refused Refusal.StrayIndentation 1
 unfolding sheet_at answered stripped filled block told with_line line_kind judged_line closing_label indented is_blank body_text
     followed unindented is_over is_break lines in_front run bytes
 sheet_p = refl

@@ -11,6 +11,7 @@ ghost use Rattle.sheet.specs.Bodies.{lines, is_over, body_text};
 ghost use Rattle.sheet.specs.Sheets.{stripped, sheet_at};
 ghost use Rattle.sheet.specs.Code.{offset_of, is_stray, size_of, break_of, Body, one_blank, blank_of, Closing, sheet_of, Left};
 
+use byte::Refusal;
 use text::Scanned;
 use unit::{Indentation, Stop};
 
@@ -160,7 +161,7 @@ fn closed_sheet(
     let from = body.len() + amount;
     let Some(blank) = one_blank(indentation) else {
         return Scanned::Refused {
-            number: byte::INVALID_DOC_INDENTATION,
+            refusal: Refusal::InvalidDocIndentation,
             place: from,
         };
     };
@@ -179,7 +180,7 @@ fn closed_sheet(
             after: from + size,
         },
         Err(place) => Scanned::Refused {
-            number: byte::STRAY_INDENTATION,
+            refusal: Refusal::StrayIndentation,
             place,
         },
     }
@@ -197,7 +198,7 @@ pub fn scan_sheet(src: &[u8], label: &[u8], at: usize, end: bool) -> Scanned
             place,
         } => closed_sheet(&src[..place - amount], at, indentation, amount, label.len()),
         Found::Missing => Scanned::Refused {
-            number: byte::UNEXPECTED_END_OF_FILE,
+            refusal: Refusal::UnexpectedEndOfFile,
             place: src.len(),
         },
         Found::Open => Scanned::Wait,

@@ -1,10 +1,12 @@
 -- What `skip` asks on its way past an open gate. Assumes nothing.
 use Prim.Native.Nat.{ℕ, ◌+◌, ◌-◌, ◌≤◌}
+use Rattle.byte.specs.declared.Refusal.{Refusal}
 use mathlib.Core.Path.{◌≡◌, sym, ◌∙◌}
 use mathlib.Core.List.{List}
 use native.Mathlib.Omega.{arith}
 use lib.ListN.{length, take, drop, length-take, length-drop}
-use borrow.Author.Tests.{le-leb, eq-eqb}
+use borrow.Author.Tests.{le-leb}
+use Rattle.std.specs.Prelude.{Result, Ok}
 use Rattle.source.specs.Cursor.{passed}
 use Rattle.source.specs.Code.{Reaches}
 use Rattle.source.specs.declared.Span.{Span}
@@ -14,7 +16,7 @@ use Rattle.state.proofs.Gates.{gate_opened}
 use Rattle.state.specs.Calls.{span_of, done, moved, skipped}
 
 -- what an open gate tells `skip`
-module _ (src : List ℕ) (s : Session) (shut : ℕ) (e : shut ≡ gate_refusal src s) (opened : shut ≡ 0) where
+module _ (src : List ℕ) (s : Session) (shut : Result (Unit {0}) Refusal) (e : shut ≡ gate_refusal src s) (opened : shut ≡ Ok tt) where
   pub open_position : s.position ≤ length src
   open_position = (gate_opened src s (sym e ∙ opened)).numbers.position
 
@@ -37,6 +39,6 @@ module _ (src : List ℕ) (s : Session) (shut : ℕ) (e : shut ≡ gate_refusal 
   skip_done count n p q h m here a =
       let k : n ≡ count = omega arith in
       let i : s.position ≤ length src = open_position in
-      rw (← e, eq-eqb shut 0 opened, a, here, k, le-leb (s.position + count) (length src) (omega arith))
+      rw (← e, opened, a, here, k, le-leb (s.position + count) (length src) (omega arith))
 
 pub ruleset skipping = (open_position, open_end, open_reaches, skip_done)

@@ -14,6 +14,9 @@ use lib.Dec.{leb, ltb, eqb}
 use lib.ListN.{length, get_or, set, take, drop, length-take, length-drop}
 use lib.Seq.{get_or-set_other}
 use borrow.Author.Tests.{leb-true, ltb-true, le-leb}
+use Rattle.std.specs.Prelude.{Result, Ok, Err}
+use Rattle.byte.specs.declared.Refusal.{Refusal}
+use Rattle.byte.specs.Refusals.{stack_full, out_of_place}
 use Rattle.byte.specs.Words.{every}
 use Rattle.source.specs.Cursor.{origin, passed}
 use Rattle.source.specs.declared.Span.{Span}
@@ -32,29 +35,30 @@ use Rattle.state.proofs.Bounds.{Within, is_within_facts, within_is_within, withi
 
 -- where the turn's answer is a refusal, its session is s
 pub record Kept (s : Session) (t : Turn) : Type 0 where
-  pub back : (number : ℕ) (span : Span) → t.answer ≡ Answer.Refused number span → t.session ≡ s
+  pub back : (refusal : Refusal) (span : Span) → t.answer ≡ Answer.Refused refusal span → t.session ≡ s
 
-refused_kept : (number : ℕ) (span : Span) (s : Session) → Kept s (refused number span s)
-refused_kept number span s = record { back = λ n p e. refl }
+refused_kept : (refusal : Refusal) (span : Span) (s : Session) → Kept s (refused refusal span s)
+refused_kept refusal span s = record { back = λ n p e. refl }
 
 done_kept : (s t : Session) → Kept s (done t)
 done_kept s t = record { back = λ n p e. cc }
 
-gated_kept : (number : ℕ) (s : Session) (t : Turn) → Kept s t → Kept s (gated number s t)
-gated_kept number s t k = choice (Kept s) (eqb number 0) t (refused number origin s) (λ e. k) (λ e. refused_kept number origin s)
+gated_kept : (shut : Result (Unit {0}) Refusal) (s : Session) (t : Turn) → Kept s t → Kept s (gated shut s t)
+gated_kept (Ok passes) s t k = k
+gated_kept (Err refusal) s t k = refused_kept refusal origin s
 
 module _ (src : List ℕ) (s : Session) where
   pub skip_kept : (count : ℕ) → Kept s (skipped src s count)
   unfolding skipped
-  skip_kept count = gated_kept (gate_refusal src s) s _ (choice (Kept s) (leb (s.position + count) (length src)) _ _ (λ e. done_kept s _) (λ e. refused_kept 10 (span_of s) s))
+  skip_kept count = gated_kept (gate_refusal src s) s _ (choice (Kept s) (leb (s.position + count) (length src)) _ _ (λ e. done_kept s _) (λ e. refused_kept out_of_place (span_of s) s))
 
   pub push_kept : (f : Frame) → Kept s (pushed src s f)
   unfolding pushed
-  push_kept f = gated_kept (gate_refusal src s) s _ (choice (Kept s) (is_frame src f) _ _ (λ e. choice (Kept s) (ltb s.depth 64) _ _ (λ g. done_kept s _) (λ g. refused_kept 9 (span_of s) s)) (λ e. refused_kept 10 (span_of s) s))
+  push_kept f = gated_kept (gate_refusal src s) s _ (choice (Kept s) (is_frame src f) _ _ (λ e. choice (Kept s) (ltb s.depth 64) _ _ (λ g. done_kept s _) (λ g. refused_kept stack_full (span_of s) s)) (λ e. refused_kept out_of_place (span_of s) s))
 
   pub pop_kept : Kept s (popped src s)
   unfolding popped
-  pop_kept = gated_kept (gate_refusal src s) s _ (choice (Kept s) (ltb 1 s.depth) _ _ (λ e. done_kept s _) (λ e. refused_kept 10 (span_of s) s))
+  pop_kept = gated_kept (gate_refusal src s) s _ (choice (Kept s) (ltb 1 s.depth) _ _ (λ e. done_kept s _) (λ e. refused_kept out_of_place (span_of s) s))
 
 -- what a turn makes of a session: a good one stays good, the marks and the choices are the same, and the cursor does
 -- not go back
@@ -68,8 +72,9 @@ pub record Stays (src : List ℕ) (s : Session) (t : Turn) : Type 0 where
 same_stays : (src : List ℕ) (s : Session) (answer : Answer) → Stays src s (record { answer = answer; session = s })
 same_stays src s answer = record { good = λ e. e; tokens = refl; bytes = refl; choices = refl; onward = omega arith }
 
-gated_stays : (src : List ℕ) (number : ℕ) (s : Session) (t : Turn) → Stays src s t → Stays src s (gated number s t)
-gated_stays src number s t k = choice (Stays src s) (eqb number 0) t (refused number origin s) (λ e. k) (λ e. same_stays src s _)
+gated_stays : (src : List ℕ) (shut : Result (Unit {0}) Refusal) (s : Session) (t : Turn) → Stays src s t → Stays src s (gated shut s t)
+gated_stays src (Ok passes) s t k = k
+gated_stays src (Err refusal) s t k = same_stays src s _
 
 -- a session is good where its numbers and its frames are
 module _ (src : List ℕ) (s : Session) (e : is_good src s ≡ true) where

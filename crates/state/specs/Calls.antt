@@ -3,7 +3,8 @@
 --   gated                                    the gate's refusal, at the script's beginning, or what the call gives
 --   moved, entered, left                     a session at another place, with a frame more, with a frame less
 --   fresh_session, skipped, pushed, popped   the calls
-use Rattle.std.specs.Prelude.{ℕ, ◌+◌, ◌-◌, List, leb, ltb, eqb, length, set, take, drop, replicate, if◌then◌else◌}
+use Rattle.std.specs.Prelude.{ℕ, ◌+◌, ◌-◌, List, Result, Ok, Err, leb, ltb, length, set, take, drop, replicate, if◌then◌else◌}
+use Rattle.byte.specs.declared.Refusal.{Refusal}
 use Rattle.source.specs.Cursor.{origin, passed}
 use Rattle.source.specs.declared.Span.{Span}
 use Rattle.state.specs.declared.Frame.{Frame}
@@ -18,14 +19,15 @@ use Rattle.state.specs.Gates.{gate_refusal}
 abbrev pub span_of : Session → Span
 span_of s = record { line = s.line; column = s.column; position = s.position }
 
-abbrev pub refused : ℕ → Span → Session → Turn
-refused number span s = record { answer = Answer.Refused number span; session = s }
+abbrev pub refused : Refusal → Span → Session → Turn
+refused refusal span s = record { answer = Answer.Refused refusal span; session = s }
 
 abbrev pub done : Session → Turn
 done s = record { answer = Answer.Done; session = s }
 
-abbrev pub gated : ℕ → Session → Turn → Turn
-gated number s t = if eqb number 0 then t else refused number origin s
+abbrev pub gated : Result (Unit {0}) Refusal → Session → Turn → Turn
+gated (Ok passes) s t = t
+gated (Err refusal) s t = refused refusal origin s
 
 abbrev pub moved : Session → Span → Session
 moved s p = record {

@@ -9,7 +9,7 @@ ghost use Rattle.state.specs.Bounds.{is_label, is_frame, is_bottom, Told, are_fr
 ghost use Rattle.state.specs.Gates.{gate_over, gate_refusal};
 ghost use Rattle.state.specs.Calls.{span_of, refused, fresh_session, skipped, pushed, popped};
 
-use byte::Octal;
+use byte::{Octal, Refusal};
 use source::Span;
 
 // The number of the first line, and of the first column.
@@ -79,7 +79,7 @@ pub enum Answer {
     Done,
     // Done, and nothing is left to read.
     Finished,
-    Refused { number: u32, span: Span },
+    Refused { refusal: Refusal, span: Span },
 }
 
 // An answer, and the session after it. (A session holds an array, so the answer stands beside it.)
@@ -112,20 +112,20 @@ pub fn span_of(s: Session) -> Span
 }
 
 // A refusal: the session is the one passed.
-pub fn refuse(number: u32, span: Span, s: Session) -> Turn
-    ensures { result ≡ refused number span s }
+pub fn refuse(refusal: Refusal, span: Span, s: Session) -> Turn
+    ensures { result ≡ refused refusal span s }
 {
     Turn {
-        answer: Answer::Refused { number, span },
+        answer: Answer::Refused { refusal, span },
         session: s,
     }
 }
 
 // What the gate refuses bears the script's beginning.
-pub fn refuse_at_gate(number: u32, s: Session) -> Turn
-    ensures { result ≡ refused number origin s }
+pub fn refuse_at_gate(refusal: Refusal, s: Session) -> Turn
+    ensures { result ≡ refused refusal origin s }
 {
-    refuse(number, origin(), s)
+    refuse(refusal, origin(), s)
 }
 
 // Whether a label names 1 to 64 identifier bytes of the source.
@@ -195,22 +195,27 @@ pub fn is_within(size: usize, p: Span, depth: u32) -> bool
         & (column <= next)
 }
 
-// Refusals 11 and 12 of a source, a place in it and so many frames, where `frame` gives each by its place. 0 for neither.
-pub fn gate_over<F: Fn(usize) -> Frame>(src: &[u8], place: Span, depth: u32, frame: F) -> u32
+// Refusals 11 and 12 of a source, a place in it and so many frames, where `frame` gives each by its place.
+pub fn gate_over<F: Fn(usize) -> Frame>(
+    src: &[u8],
+    place: Span,
+    depth: u32,
+    frame: F,
+) -> Result<(), Refusal>
     requires callable { (i : ℕ) → i < 64 → F.pre frame i }
     ensures { Told (F.post frame) (gate_over src.now place depth) result }
 {
     if 65536 < src.len() {
-        return byte::TOO_LARGE;
+        return Err(Refusal::TooLarge);
     }
     if !is_within(src.len(), place, depth) || !are_frames(src, depth as usize, frame) {
-        return byte::BAD_SESSION;
+        return Err(Refusal::BadSession);
     }
-    0
+    Ok(())
 }
 
-// Refusals 11 and 12 where no tables are lent: source and session alone. 0 for neither. (With tables: layout::gate_in.)
-pub fn gate(src: &[u8], s: Session) -> u32
+// Refusals 11 and 12 where no tables are lent: source and session alone. (With tables: layout::gate_in.)
+pub fn gate(src: &[u8], s: Session) -> Result<(), Refusal>
     ensures { result ≡ gate_refusal src.now s }
 {
     gate_over(src, span_of(s), s.depth, |i| s.frames[i].frame)
@@ -239,13 +244,12 @@ pub fn fresh(choices: Choices) -> Session
 pub fn skip(src: &[u8], s: Session, count: usize) -> Turn
     ensures { result ≡ skipped src.now s count }
 {
-    let shut = gate(src, s);
-    if shut != 0 {
-        return refuse_at_gate(shut, s);
+    if let Err(refusal) = gate(src, s) {
+        return refuse_at_gate(refusal, s);
     }
     let at = s.position as usize;
     if src.len() - at < count {
-        return refuse(byte::OUT_OF_PLACE, span_of(s), s);
+        return refuse(Refusal::OutOfPlace, span_of(s), s);
     }
     let end = at + count;
     let p = source::past(&src[at..end], span_of(s));
@@ -264,16 +268,15 @@ pub fn skip(src: &[u8], s: Session, count: usize) -> Turn
 pub fn push(src: &[u8], s: Session, f: Frame) -> Turn
     ensures { result ≡ pushed src.now s f }
 {
-    let shut = gate(src, s);
-    if shut != 0 {
-        return refuse_at_gate(shut, s);
+    if let Err(refusal) = gate(src, s) {
+        return refuse_at_gate(refusal, s);
     }
     if !is_frame(src, f) {
-        return refuse(byte::OUT_OF_PLACE, span_of(s), s);
+        return refuse(Refusal::OutOfPlace, span_of(s), s);
     }
     let depth = s.depth;
     if 64 <= depth {
-        return refuse(byte::STACK_FULL, span_of(s), s);
+        return refuse(Refusal::StackFull, span_of(s), s);
     }
     let mut t = s;
     let top = depth as usize;
@@ -290,13 +293,12 @@ pub fn push(src: &[u8], s: Session, f: Frame) -> Turn
 pub fn pop(src: &[u8], s: Session) -> Turn
     ensures { result ≡ popped src.now s }
 {
-    let shut = gate(src, s);
-    if shut != 0 {
-        return refuse_at_gate(shut, s);
+    if let Err(refusal) = gate(src, s) {
+        return refuse_at_gate(refusal, s);
     }
     let depth = s.depth;
     if depth <= 1 {
-        return refuse(byte::OUT_OF_PLACE, span_of(s), s);
+        return refuse(Refusal::OutOfPlace, span_of(s), s);
     }
     let mut t = s;
     t.depth = depth - 1;

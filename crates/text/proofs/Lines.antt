@@ -59,7 +59,7 @@ nowdoc_behind : (len : ℕ) (broken : Bool) (r : Reading) → behind Mode.Nowdoc
 unfolding behind
 nowdoc_behind len broken (Text text stop from after) =
     rw (nowdoc_length (len + length text) _ stop, nowdoc_length (len + length text) _ stop)
-nowdoc_behind len broken (Refused number place) = refl
+nowdoc_behind len broken (Refused refusal place) = refl
 nowdoc_behind len broken Wait = refl
 
 -- all bytes of a nowdoc from `at` to i are text

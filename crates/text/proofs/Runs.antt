@@ -42,13 +42,13 @@ plain_unit Mode.Nowdoc label end n b rest e = rw (not-true (b is "\n") e)
 pub onto_nil : (r : Reading) → r ≡ onto [] r
 unfolding onto
 onto_nil (Text text stop from after) = refl
-onto_nil (Refused number place) = refl
+onto_nil (Refused refusal place) = refl
 onto_nil Wait = refl
 
 pub onto_cons : (b : ℕ) (vs : List ℕ) (r : Reading) → onto (b ∷ []) (onto vs r) ≡ onto (b ∷ vs) r
 unfolding onto
 onto_cons b vs (Text text stop from after) = refl
-onto_cons b vs (Refused number place) = refl
+onto_cons b vs (Refused refusal place) = refl
 onto_cons b vs Wait = refl
 
 -- a reading is the run at its start, and the reading from after the run

@@ -1,6 +1,7 @@
 -- The scan of a text: what a unit is to the text before it, and the loop. Assumes nothing.
 use Rattle.std.specs.Prelude.{if◌then◌else◌}
 use Prim.Native.Nat.{ℕ, zero, suc, ◌+◌, ◌-◌, ◌%◌, ◌<◌, ◌≤◌}
+use Rattle.byte.specs.declared.Refusal.{Refusal}
 use mathlib.Core.Path.{◌≡◌, refl, sym, ap, ◌∙◌}
 use mathlib.Core.Bool.{Bool, true, false}
 use mathlib.Core.List.{List, [], ◌∷◌, ◌++◌}
@@ -81,7 +82,7 @@ trimmed_length (b ∷ c ∷ rest) = go (last_break (c is "\n") rest) (trimmed_le
 -- a reading measured after len bytes of text
 unfoldable pub behind : Mode → ℕ → Bool → Reading → Scanned
 behind m len broken (Text text stop from after) = Scanned.Text (value_length m (len + length text) (last_break broken text) stop) stop from after
-behind m len broken (Refused number place) = Scanned.Refused number place
+behind m len broken (Refused refusal place) = Scanned.Refused refusal place
 behind m len broken Wait = Scanned.Wait
 
 behind_first : (m : Mode) (r : Reading) → measured (finished m r) ≡ behind m 0 false r
@@ -93,7 +94,7 @@ behind_first m (Text text stop from after) = ap (λ (k : ℕ). Scanned.Text k st
     go true false e = omega arith
     go false true e = omega arith
     go false false e = omega arith
-behind_first m (Refused number place) = refl
+behind_first m (Refused refusal place) = refl
 behind_first m Wait = refl
 
 behind_onto : (m : Mode) (len : ℕ) (broken : Bool) (vs : List ℕ) (r : Reading) → behind m len broken (onto vs r) ≡ behind m (len + length vs) (last_break broken vs) r
@@ -101,12 +102,12 @@ unfolding onto behind
 behind_onto m len broken vs (Text text stop from after) =
     let n : len + length (vs ++ text) ≡ len + length vs + length text = rw (length-append vs text) (omega arith) in
     rw (n, last_break_append broken vs text)
-behind_onto m len broken vs (Refused number place) = refl
+behind_onto m len broken vs (Refused refusal place) = refl
 behind_onto m len broken vs Wait = refl
 
 -- a reading that is not closed has no text
 abbrev pub open_at : Bool → ℕ → Reading
-open_at end n = if end then Refused 1 n else Wait
+open_at end n = if end then Refused Refusal.UnexpectedEndOfFile n else Wait
 
 pub onto_open : (vs : List ℕ) (end : Bool) (n : ℕ) → onto vs (open_at end n) ≡ open_at end n
 unfolding onto
@@ -134,7 +135,7 @@ unfolding taken bytes_of
 text_taken (TextUnit.Byte value after) later h = refl
 text_taken (TextUnit.Point code after) later h = refl
 text_taken (TextUnit.Ends stop from after) later h = absurd (h refl)
-text_taken (TextUnit.Fault number place) later h = absurd (h refl)
+text_taken (TextUnit.Fault refusal place) later h = absurd (h refl)
 text_taken TextUnit.Undecided later h = absurd (h refl)
 
 text_break : (u : TextUnit) (broken : Bool) → (length (bytes_of u) ≡ 0 → ⊥) → last_break broken (bytes_of u) ≡ is_break u
@@ -142,7 +143,7 @@ unfolding is_break bytes_of last_break
 text_break (TextUnit.Byte value after) broken h = refl
 text_break (TextUnit.Point code after) broken h = utf8_break broken code
 text_break (TextUnit.Ends stop from after) broken h = absurd (h refl)
-text_break (TextUnit.Fault number place) broken h = absurd (h refl)
+text_break (TextUnit.Fault refusal place) broken h = absurd (h refl)
 text_break TextUnit.Undecided broken h = absurd (h refl)
 
 -- it passes a byte or more, and no fewer than it has
@@ -159,7 +160,7 @@ bytes_inside (TextUnit.Byte value after) m n b hi h x =
 bytes_inside (TextUnit.Point code after) m n b hi h x =
     record { on = omega (arith, x.narrow); inside = x.inside; narrow = omega (arith, x.narrow) }
 bytes_inside (TextUnit.Ends stop from after) m n b hi h x = absurd (h refl)
-bytes_inside (TextUnit.Fault number place) m n b hi h x = absurd (h refl)
+bytes_inside (TextUnit.Fault refusal place) m n b hi h x = absurd (h refl)
 bytes_inside TextUnit.Undecided m n b hi h x = absurd (h refl)
 
 stands_writable : (u : TextUnit) (m : Mode) (n b hi : ℕ) → Stands m n b hi u → is_writable u
@@ -167,7 +168,7 @@ unfolding is_writable
 stands_writable (TextUnit.Byte value after) m n b hi x = tt
 stands_writable (TextUnit.Point code after) m n b hi x = x.small
 stands_writable (TextUnit.Ends stop from after) m n b hi x = tt
-stands_writable (TextUnit.Fault number place) m n b hi x = tt
+stands_writable (TextUnit.Fault refusal place) m n b hi x = tt
 stands_writable TextUnit.Undecided m n b hi x = tt
 
 -- a unit that is none ends it
@@ -178,7 +179,7 @@ ended_taken m len broken (TextUnit.Point code after) later h = absurd (omega (ar
 ended_taken m len broken (TextUnit.Ends stop from after) later h =
     let z : len ≡ len + 0 = omega arith in
     ap (λ (k : ℕ). Scanned.Text (value_length m k broken stop) stop from after) z
-ended_taken m len broken (TextUnit.Fault number place) later h = refl
+ended_taken m len broken (TextUnit.Fault refusal place) later h = refl
 ended_taken m len broken TextUnit.Undecided later h = refl
 
 -- one unit of the source: where it lies, and what is read after it

@@ -106,7 +106,7 @@ unfolding onward bytes_of
 onward_text (TextUnit.Byte value after) later h = refl
 onward_text (TextUnit.Point code after) later h = refl
 onward_text (TextUnit.Ends stop from after) later h = absurd (h refl)
-onward_text (TextUnit.Fault number place) later h = absurd (h refl)
+onward_text (TextUnit.Fault refusal place) later h = absurd (h refl)
 onward_text TextUnit.Undecided later h = absurd (h refl)
 
 onward_none : (u : TextUnit) (later : List ℕ) → length (bytes_of u) ≡ 0 → onward u later ≡ []
@@ -114,7 +114,7 @@ unfolding onward bytes_of
 onward_none (TextUnit.Byte value after) later h = absurd (omega arith)
 onward_none (TextUnit.Point code after) later h = absurd (omega (arith, utf8_some code))
 onward_none (TextUnit.Ends stop from after) later h = refl
-onward_none (TextUnit.Fault number place) later h = refl
+onward_none (TextUnit.Fault refusal place) later h = refl
 onward_none TextUnit.Undecided later h = refl
 
 -- what is gathered: a run and what comes from after it on; a unit and what comes from after it on
@@ -199,7 +199,7 @@ starts_fits xs ys e =
 -- the text that a reading collected
 unfoldable text_of : Reading → List ℕ
 text_of (Text text stop from after) = text
-text_of (Refused number place) = []
+text_of (Refused refusal place) = []
 text_of Wait = []
 
 trimmed_start : (text : List ℕ) → Starts (trimmed text) text
@@ -217,7 +217,7 @@ unfolding finished value_of text_of
 finished_start m (Text text stop from after) =
     choice (λ (vs : List ℕ). Starts vs text) (loses_break m stop) _ _
     (λ e. trimmed_start text) (λ e. sym (take-length text))
-finished_start m (Refused number place) = refl
+finished_start m (Refused refusal place) = refl
 finished_start m Wait = refl
 
 onto_start : (vs : List ℕ) (r : Reading) (later : List ℕ) → Starts (text_of r) later
@@ -225,7 +225,7 @@ onto_start : (vs : List ℕ) (r : Reading) (later : List ℕ) → Starts (text_o
 unfolding onto text_of
 onto_start vs (Text text stop from after) later h =
     rw (length-append vs text, take-append-add vs later (length text)) (ap (λ (t : List ℕ). vs ++ t) h)
-onto_start vs (Refused number place) later h = refl
+onto_start vs (Refused refusal place) later h = refl
 onto_start vs Wait later h = refl
 
 taken_start : (u : TextUnit) (r : Reading) (later : List ℕ) → Starts (text_of r) later
@@ -234,7 +234,7 @@ unfolding taken onward text_of
 taken_start (TextUnit.Byte value after) r later h = onto_start (value ∷ []) r later h
 taken_start (TextUnit.Point code after) r later h = onto_start (utf8 code) r later h
 taken_start (TextUnit.Ends stop from after) r later h = refl
-taken_start (TextUnit.Fault number place) r later h = refl
+taken_start (TextUnit.Fault refusal place) r later h = refl
 taken_start TextUnit.Undecided r later h = refl
 
 module _ (m : Mode) (label : List ℕ) (end : Bool) where

@@ -51,14 +51,14 @@ unfoldable pub bytes_of : TextUnit → List ℕ
 bytes_of (TextUnit.Byte value after) = value ∷ []
 bytes_of (TextUnit.Point code after) = utf8 code
 bytes_of (TextUnit.Ends stop from after) = []
-bytes_of (TextUnit.Fault number place) = []
+bytes_of (TextUnit.Fault refusal place) = []
 bytes_of TextUnit.Undecided = []
 
 unfoldable pub is_break : TextUnit → Bool
 is_break (TextUnit.Byte value after) = value is "\n"
 is_break (TextUnit.Point code after) = code is "\n"
 is_break (TextUnit.Ends stop from after) = false
-is_break (TextUnit.Fault number place) = false
+is_break (TextUnit.Fault refusal place) = false
 is_break TextUnit.Undecided = false
 
 -- what a unit that is text leaves
@@ -81,7 +81,7 @@ unfoldable pub ended : Mode → ℕ → Bool → TextUnit → Scanned
 ended m len broken (TextUnit.Byte value after) = Scanned.Wait
 ended m len broken (TextUnit.Point code after) = Scanned.Wait
 ended m len broken (TextUnit.Ends stop from after) = Scanned.Text (value_length m len broken stop) stop from after
-ended m len broken (TextUnit.Fault number place) = Scanned.Refused number place
+ended m len broken (TextUnit.Fault refusal place) = Scanned.Refused refusal place
 ended m len broken TextUnit.Undecided = Scanned.Wait
 
 -- at the announced end it is refused, there
@@ -90,12 +90,12 @@ unclosed end place = if end then Scanned.Refused unexpected_end_of_file place el
 
 unfoldable pub measured : Reading → Scanned
 measured (Text value stop from after) = Scanned.Text (length value) stop from after
-measured (Refused number place) = Scanned.Refused number place
+measured (Refused refusal place) = Scanned.Refused refusal place
 measured Wait = Scanned.Wait
 
 unfoldable pub value_of : Reading → List ℕ
 value_of (Text value stop from after) = value
-value_of (Refused number place) = []
+value_of (Refused refusal place) = []
 value_of Wait = []
 
 unfoldable pub clipped : List ℕ → ℕ → List ℕ → List ℕ
@@ -105,7 +105,7 @@ unfoldable pub onward : TextUnit → List ℕ → List ℕ
 onward (TextUnit.Byte value after) later = value ∷ later
 onward (TextUnit.Point code after) later = utf8 code ++ later
 onward (TextUnit.Ends stop from after) later = []
-onward (TextUnit.Fault number place) later = []
+onward (TextUnit.Fault refusal place) later = []
 onward TextUnit.Undecided later = []
 
 -- from n on, where `skip` bytes of the last unit are still to be passed
@@ -159,5 +159,5 @@ unfoldable pub is_writable : TextUnit → Type 0
 is_writable (TextUnit.Byte value after) = Unit {0}
 is_writable (TextUnit.Point code after) = code < 0x110000
 is_writable (TextUnit.Ends stop from after) = Unit {0}
-is_writable (TextUnit.Fault number place) = Unit {0}
+is_writable (TextUnit.Fault refusal place) = Unit {0}
 is_writable TextUnit.Undecided = Unit {0}

@@ -11,6 +11,7 @@ ghost use Rattle.unit.specs.Readings.{loses_break, text_at};
 ghost use Rattle.text.specs.Code.{bytes_of, IsPiece, last_break, value_length, ended, unclosed, measured};
 ghost use Rattle.text.specs.Code.{BeforeBlanks, Searchable, is_writable, clipped, Reads, is_searched, Scans};
 
+use byte::Refusal;
 use unit::{Mode, Stop, TextUnit};
 
 mod units;
@@ -25,7 +26,7 @@ pub enum Scanned {
         after: usize,
     },
     Refused {
-        number: u32,
+        refusal: Refusal,
         place: usize,
     },
     Wait,
@@ -94,7 +95,7 @@ fn ended_as(m: Mode, len: usize, broken: bool, u: TextUnit) -> Scanned
             from,
             after,
         },
-        TextUnit::Fault { number, place } => Scanned::Refused { number, place },
+        TextUnit::Fault { refusal, place } => Scanned::Refused { refusal, place },
         TextUnit::Byte { .. } | TextUnit::Point { .. } | TextUnit::Undecided => Scanned::Wait,
     }
 }
@@ -106,7 +107,7 @@ fn unclosed(end: bool, place: usize) -> Scanned
 {
     if end {
         return Scanned::Refused {
-            number: byte::UNEXPECTED_END_OF_FILE,
+            refusal: Refusal::UnexpectedEndOfFile,
             place,
         };
     }

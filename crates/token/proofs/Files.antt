@@ -1,6 +1,7 @@
 -- The record file: its two loops, its refusals, and that reading and writing undo each other. Assumes nothing.
-use Rattle.std.specs.Prelude.{if◌then◌else◌}
+use Rattle.std.specs.Prelude.{Result, Ok, Err, if◌then◌else◌}
 use Prim.Native.Nat.{ℕ, zero, suc, ◌+◌, ◌*◌, ◌/◌, ◌%◌, ◌≤◌, ◌<◌}
+use Rattle.byte.specs.declared.Refusal.{Refusal}
 use mathlib.Core.Path.{◌≡◌, refl, sym, ap, ◌∙◌}
 use mathlib.Core.Bool.{Bool, true, false, ◌&&◌}
 use mathlib.Core.List.{List, [], ◌∷◌, ◌++◌, append_assoc, append-nil}
@@ -15,7 +16,7 @@ use Rattle.byte.proofs.Tests.{unrefused}
 use Rattle.byte.proofs.Laid.{set_laid, Writing, writing_first, writing_on, writing_end}
 use Rattle.source.specs.Cursor.{origin}
 use Rattle.state.specs.declared.Answer.{Answer}
-use Rattle.token.specs.Files.{little_endian, file_of, number_at, list_of, to_list_refusal, file_answer, Written}
+use Rattle.token.specs.Files.{little_endian, file_of, number_at, list_of, to_list_refusal, file_answer, file_after, Written}
 
 pub file_of_append : (xs ys : List ℕ) → file_of (xs ++ ys) ≡ file_of xs ++ file_of ys
 unfolding file_of
@@ -94,30 +95,28 @@ module _ (file : List ℕ) (count : ℕ) (old : List ℕ) where
     listing_end h = writing_end (λ (k : ℕ). list_of k file) count old list i l h
 
 -- an answer that is no refusal
-pub file_answer_done : (number : ℕ) → Answer.Done ≡ file_answer number → number ≡ 0
+pub file_answer_done : (refusal : Result (Unit {0}) Refusal) → Answer.Done ≡ file_answer refusal → refusal ≡ Ok tt
 unfolding file_answer
-file_answer_done number e = go (eqb number 0) refl e
-  where
-    go : (t : Bool) → eqb number 0 ≡ t → Answer.Done ≡ (if t then Answer.Done else Answer.Refused number origin) → number ≡ 0
-    go true h e = eqb-true number 0 h
-    go false h e = cc
+file_answer_done (Ok tt) e = refl
+file_answer_done (Err refusal) e = cc
 
 -- two results that meet one statement are equal
-pub written_one : (refusal : ℕ) (lent values : List ℕ) (r r' : Answer) (after after' : List ℕ) → Written refusal lent values r after → Written refusal lent values r' after' → (r ≡ r') × (after ≡ after')
+pub written_one : (refusal : Result (Unit {0}) Refusal) (lent values : List ℕ) (r r' : Answer) (after after' : List ℕ) → Written refusal lent values r after → Written refusal lent values r' after' → (r ≡ r') × (after ≡ after')
 written_one refusal lent values r r' after after' f g = (f.answer ∙ sym g.answer, f.holds ∙ sym g.holds)
 
 -- a call that was done has written its values
-pub written_values : (refusal : ℕ) (lent values after : List ℕ) → Written refusal lent values Answer.Done after → after ≡ laid lent 0 values
-written_values refusal lent values after f = rw (eq-eqb refusal 0 (file_answer_done refusal f.answer)) at f.holds
+pub written_values : (refusal : Result (Unit {0}) Refusal) (lent values after : List ℕ) → Written refusal lent values Answer.Done after → after ≡ laid lent 0 values
+unfolding file_after
+written_values refusal lent values after f = rw (file_answer_done refusal f.answer) at f.holds
 
 -- an accepted file is a whole number of numbers
-module _ (file list number : ℕ) (e : number ≡ to_list_refusal file list) (z : number ≡ 0) where
+module _ (file list : ℕ) (told : Result (Unit {0}) Refusal) (e : told ≡ to_list_refusal file list) (z : told ≡ Ok tt) where
   lengths : (file % 32 ≡ 0) × (file / 32 ≤ list / 8)
   unfolding to_list_refusal
   lengths =
-      let fits = unrefused (leb (file / 32) 65537 && leb (list / 8) 65537) _ 10 (sym e ∙ z) in
-      let whole = unrefused (eqb (file % 32) 0) _ 9 fits.1 in
-      let enough = unrefused (leb (file / 32) (list / 8)) 0 6 whole.1 in
+      let fits = unrefused (leb (file / 32) 65537 && leb (list / 8) 65537) _ _ (sym e ∙ z) in
+      let whole = unrefused (eqb (file % 32) 0) _ _ fits.1 in
+      let enough = unrefused (leb (file / 32) (list / 8)) _ _ whole.1 in
       (eqb-true (file % 32) 0 whole.0, leb-true (file / 32) (list / 8) enough.0)
 
   pub to_list_whole : file / 4 * 4 ≡ file

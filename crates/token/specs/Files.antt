@@ -3,12 +3,13 @@
 --   file_of           the bytes of a list of numbers
 --   number_at         the number in the four bytes from a place on
 --   list_of           so many numbers from the file's start on
---   records_refusal   of so many places, so many to a record, and room for so many records: 11, 10, full, or 0
---   to_file_refusal   of a list of so many numbers and a file of so many bytes: 11, 10, 8, or 0
---   to_list_refusal   of a file of so many bytes and a list of so many numbers: 11, 10, 7, or 0
+--   records_refusal   of so many places, so many to a record, and room for so many records: 11, 10, full, or none
+--   to_file_refusal   of a list of so many numbers and a file of so many bytes: 11, 10, 8, or none
+--   to_list_refusal   of a file of so many bytes and a list of so many numbers: 11, 10, 7, or none
 --   ToFile, ToList    answer, and what the lent file or list then holds: a refusal changes nothing
 -- `to_file_to_list` and `to_list_to_file` (proofs/RoundTrips.antt) say that each undoes the other.
-use Rattle.std.specs.Prelude.{ℕ, zero, suc, ◌+◌, ◌*◌, ◌/◌, ◌%◌, ◌&&◌, List, [], ◌∷◌, ◌++◌, ◌≡◌, refl, leb, eqb, length, get_or, drop, if◌then◌else◌}
+use Rattle.std.specs.Prelude.{ℕ, Result, Ok, Err, zero, suc, ◌+◌, ◌*◌, ◌/◌, ◌%◌, ◌&&◌, List, [], ◌∷◌, ◌++◌, ◌≡◌, refl, leb, eqb, length, get_or, drop, if◌then◌else◌}
+use Rattle.byte.specs.declared.Refusal.{Refusal}
 use Rattle.byte.specs.Laid.{laid}
 use Rattle.source.specs.Cursor.{origin}
 use Rattle.byte.specs.Refusals.{list_full, pool_full, out_of_place, too_large}
@@ -29,32 +30,37 @@ unfoldable pub list_of : ℕ → List ℕ → List ℕ
 list_of zero file = []
 list_of (suc count) file = number_at file 0 ∷ list_of count (drop 4 file)
 
-unfoldable pub records_refusal : ℕ → ℕ → ℕ → ℕ → ℕ
+unfoldable pub records_refusal : ℕ → ℕ → ℕ → Refusal → Result (Unit {0}) Refusal
 records_refusal size unit room full =
     if leb (size / unit) 65537 then
-    (if eqb (size % unit) 0 then (if leb (size / unit) room then 0 else full) else out_of_place)
-    else too_large
+    (if eqb (size % unit) 0 then (if leb (size / unit) room then Ok tt else Err full) else Err out_of_place)
+    else Err too_large
 
-unfoldable pub to_file_refusal : ℕ → ℕ → ℕ
+unfoldable pub to_file_refusal : ℕ → ℕ → Result (Unit {0}) Refusal
 to_file_refusal list file =
     if leb (list / 8) 65537 then
-    (if eqb (list % 8) 0 then (if leb (list / 8) (file / 32) then 0 else pool_full) else out_of_place)
-    else too_large
+    (if eqb (list % 8) 0 then (if leb (list / 8) (file / 32) then Ok tt else Err pool_full) else Err out_of_place)
+    else Err too_large
 
-unfoldable pub to_list_refusal : ℕ → ℕ → ℕ
+unfoldable pub to_list_refusal : ℕ → ℕ → Result (Unit {0}) Refusal
 to_list_refusal file list =
     if leb (file / 32) 65537 && leb (list / 8) 65537 then
-    (if eqb (file % 32) 0 then (if leb (file / 32) (list / 8) then 0 else list_full) else out_of_place)
-    else too_large
+    (if eqb (file % 32) 0 then (if leb (file / 32) (list / 8) then Ok tt else Err list_full) else Err out_of_place)
+    else Err too_large
 
 -- a call without a session bears the script's beginning
-unfoldable pub file_answer : ℕ → Answer
-file_answer number = if eqb number 0 then Answer.Done else Answer.Refused number origin
+unfoldable pub file_answer : Result (Unit {0}) Refusal → Answer
+file_answer (Ok passes) = Answer.Done
+file_answer (Err refusal) = Answer.Refused refusal origin
 
--- with refusal 0 the values stand at the start of what was lent, and else it is as it was
-pub record Written (refusal : ℕ) (lent values : List ℕ) (r : Answer) (after : List ℕ) : Type 0 where
+-- what was lent, after a call: the values stand at its start, or it is as it was
+unfoldable pub file_after : Result (Unit {0}) Refusal → List ℕ → List ℕ → List ℕ
+file_after (Ok passes) lent values = laid lent 0 values
+file_after (Err refusal) lent values = lent
+
+pub record Written (refusal : Result (Unit {0}) Refusal) (lent values : List ℕ) (r : Answer) (after : List ℕ) : Type 0 where
   pub answer : r ≡ file_answer refusal
-  pub holds : after ≡ (if eqb refusal 0 then laid lent 0 values else lent)
+  pub holds : after ≡ file_after refusal lent values
 
 abbrev pub ToFile : List ℕ → List ℕ → Answer → List ℕ → Type 0
 ToFile list file r after = Written (to_file_refusal (length list) (length file)) file (file_of list) r after

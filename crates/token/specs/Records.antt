@@ -1,9 +1,10 @@
 -- A token's record, and whether there is room for it (document 01, "Token list", refusals 7 and 8; document 02, P4).
 --   record_of      its eight numbers: kind, detail, line, column, position, value start, value length, end
 --   token_in       the token whose record is the one with this number in a list
---   room_refusal   7 for more tokens than places left, then 8 for more value bytes than pool left, or 0.
+--   room_refusal   7 for more tokens than places left, then 8 for more value bytes than pool left, or neither.
 --                  The list has so many numbers, the pool so many bytes; both are filled up to their marks
-use Rattle.std.specs.Prelude.{ℕ, ◌+◌, ◌*◌, ◌/◌, List, [], ◌∷◌, leb, get_or, if◌then◌else◌}
+use Rattle.std.specs.Prelude.{ℕ, Result, Ok, Err, ◌+◌, ◌*◌, ◌/◌, List, [], ◌∷◌, leb, get_or, if◌then◌else◌}
+use Rattle.byte.specs.declared.Refusal.{Refusal}
 use Rattle.byte.specs.Refusals.{list_full, pool_full}
 use Rattle.token.specs.declared.Token.{Token}
 
@@ -25,6 +26,6 @@ token_in list i = record {
   end = get_or list (i * 8 + 7) 0;
 }
 
-unfoldable pub room_refusal : ℕ → ℕ → ℕ → ℕ → ℕ → ℕ → ℕ
+unfoldable pub room_refusal : ℕ → ℕ → ℕ → ℕ → ℕ → ℕ → Result (Unit {0}) Refusal
 room_refusal list pool tokens bytes count len =
-    if leb (tokens + count) (list / 8) then (if leb (bytes + len) pool then 0 else pool_full) else list_full
+    if leb (tokens + count) (list / 8) then (if leb (bytes + len) pool then Ok tt else Err pool_full) else Err list_full

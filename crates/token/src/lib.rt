@@ -8,6 +8,7 @@ ghost use Rattle.byte.specs.Laid.{laid};
 ghost use Rattle.token.specs.Records.{record_of, room_refusal};
 ghost use Rattle.token.specs.Files.{little_endian, number_at, file_of, list_of, records_refusal, to_file_refusal, to_list_refusal, ToFile, ToList};
 
+use byte::Refusal;
 use source::Span;
 use state::Answer;
 
@@ -67,18 +68,25 @@ pub struct Token {
     pub end: u32,
 }
 
-// Whether `count` records and `len` value bytes fit from the marks on: 7, 8, or 0 where they do. To be asked before any write.
+// Whether `count` records and `len` value bytes fit from the marks on: 7 or 8 where they don't. To be asked before any write.
 #[tactic(auto, unfolding(crate::specs::Records::room_refusal))]
-pub fn room(list: usize, pool: usize, tokens: u32, bytes: u32, count: u32, len: u32) -> u32
+pub fn room(
+    list: usize,
+    pool: usize,
+    tokens: u32,
+    bytes: u32,
+    count: u32,
+    len: u32,
+) -> Result<(), Refusal>
     ensures { result ≡ room_refusal list pool tokens bytes count len }
 {
     if list / 8 < tokens as usize + count as usize {
-        return byte::LIST_FULL;
+        return Err(Refusal::ListFull);
     }
     if pool < bytes as usize + len as usize {
-        return byte::POOL_FULL;
+        return Err(Refusal::PoolFull);
     }
-    0
+    Ok(())
 }
 
 // One record, at its place.
@@ -125,49 +133,54 @@ fn number_at(file: &[u8], at: usize) -> u32
     u32::from_le_bytes([file[at], file[at + 1], file[at + 2], file[at + 3]])
 }
 
-// Of so many places, `unit` to a record, and room for so many records: 11 for too many, 10 for a broken one, `full`, or 0.
+// Of so many places, `unit` to a record, and room for so many records: 11 for too many, 10 for a broken one, or `full`.
 #[tactic(auto, unfolding(crate::specs::Files::records_refusal))]
-fn records_refusal(size: usize, unit: usize, room: usize, full: u32) -> u32
+fn records_refusal(
+    size: usize,
+    unit: usize,
+    room: usize,
+    full: Refusal,
+) -> Result<(), Refusal>
     requires { 0 < unit }
     ensures { result ≡ records_refusal size unit room full }
 {
     if 65537 < size / unit {
-        return byte::TOO_LARGE;
+        return Err(Refusal::TooLarge);
     }
     if size % unit != 0 {
-        return byte::OUT_OF_PLACE;
+        return Err(Refusal::OutOfPlace);
     }
     if room < size / unit {
-        return full;
+        return Err(full);
     }
-    0
+    Ok(())
 }
 
-// Refusals 11, 10 and 8 of `list_to_file`, or 0.
+// Refusals 11, 10 and 8 of `list_to_file`.
 #[tactic(auto, unfolding(crate::specs::Files::records_refusal, crate::specs::Files::to_file_refusal))]
-fn to_file_refusal(list: usize, file: usize) -> u32
+fn to_file_refusal(list: usize, file: usize) -> Result<(), Refusal>
     ensures { result ≡ to_file_refusal list file }
 {
-    records_refusal(list, 8, file / 32, byte::POOL_FULL)
+    records_refusal(list, 8, file / 32, Refusal::PoolFull)
 }
 
-// Refusals 11, 10 and 7 of `file_to_list`, or 0.
+// Refusals 11, 10 and 7 of `file_to_list`.
 #[tactic(auto, unfolding(crate::specs::Files::records_refusal, crate::specs::Files::to_list_refusal))]
-fn to_list_refusal(file: usize, list: usize) -> u32
+fn to_list_refusal(file: usize, list: usize) -> Result<(), Refusal>
     ensures { result ≡ to_list_refusal file list }
 {
     if 65537 < list / 8 {
-        return byte::TOO_LARGE;
+        return Err(Refusal::TooLarge);
     }
-    records_refusal(file, 32, list / 8, byte::LIST_FULL)
+    records_refusal(file, 32, list / 8, Refusal::ListFull)
 }
 
 // A refusal of a call without a session bears a script's beginning.
-fn refuse(number: u32) -> Answer
-    ensures { result ≡ Answer.Refused number origin }
+fn refuse(refusal: Refusal) -> Answer
+    ensures { result ≡ Answer.Refused refusal origin }
 {
     Answer::Refused {
-        number,
+        refusal,
         span: state::origin(),
     }
 }
@@ -194,13 +207,12 @@ fn put_list(file: &[u8], count: usize, list: &mut [u32])
 
 // All records of a list as a file: 32 bytes a record, little-endian, no header.
 // Refused: a list over 65,537 tokens (11) or of no whole number of records (10), a file with less room (8).
-#[tactic(auto, unfolding(crate::specs::Files::to_file_refusal, crate::specs::Files::file_answer))]
+#[tactic(auto, unfolding(crate::specs::Files::to_file_refusal, crate::specs::Files::file_answer, crate::specs::Files::file_after))]
 pub fn list_to_file(list: &[u32], file: &mut [u8]) -> Answer
     ensures { ToFile list.now file.old result file.new }
 {
-    let number = to_file_refusal(list.len(), file.len());
-    if number != 0 {
-        return refuse(number);
+    if let Err(refusal) = to_file_refusal(list.len(), file.len()) {
+        return refuse(refusal);
     }
     put_numbers(list, file);
     Answer::Done
@@ -208,13 +220,12 @@ pub fn list_to_file(list: &[u32], file: &mut [u8]) -> Answer
 
 // All records of a file as a list.
 // Refused: a file or a list over 65,537 tokens (11), a file of no whole number of records (10), a list with fewer places (7).
-#[tactic(auto, unfolding(crate::specs::Files::to_list_refusal, crate::specs::Files::file_answer))]
+#[tactic(auto, unfolding(crate::specs::Files::to_list_refusal, crate::specs::Files::file_answer, crate::specs::Files::file_after))]
 pub fn file_to_list(file: &[u8], list: &mut [u32]) -> Answer
     ensures { ToList file.now list.old result list.new }
 {
-    let number = to_list_refusal(file.len(), list.len());
-    if number != 0 {
-        return refuse(number);
+    if let Err(refusal) = to_list_refusal(file.len(), list.len()) {
+        return refuse(refusal);
     }
     put_list(file, file.len() / 4, list);
     Answer::Done

@@ -8,6 +8,7 @@
 -- No unit looks past a quote, so a cut that has one is enough. The end may be announced or not: what is told stays.
 use Prim.Native.Nat.{ℕ, zero, suc, ◌+◌, ◌*◌, ◌-◌, ◌≤◌, ◌<◌}
 use Prim.Native.Char.{Char, code}
+use Rattle.byte.specs.declared.Refusal.{Refusal}
 use mathlib.Core.Path.{◌≡◌, refl, sym, ap, ◌∙◌}
 use mathlib.Core.Bool.{Bool, true, false, ◌&&◌, ◌||◌, false≢true}
 use mathlib.Core.List.{List, [], ◌∷◌, ◌++◌, append-nil}
@@ -69,7 +70,7 @@ data Moved (m : Mode) (b n k : ℕ) : TextUnit → TextUnit → Type 0 where
       → Moved m b n k (TextUnit.Ends Stop.Quote n (suc n)) (TextUnit.Ends Stop.Quote k (suc k))
   found : {octals : Octal} → m ≡ Mode.Double octals
       → Moved m b n k (TextUnit.Ends Stop.Interpolation n n) (TextUnit.Ends Stop.Interpolation k k)
-  fault : {number place place' : ℕ} → Moved m b n k (TextUnit.Fault number place) (TextUnit.Fault number place')
+  fault : {refusal : Refusal} {place place' : ℕ} → Moved m b n k (TextUnit.Fault refusal place) (TextUnit.Fault refusal place')
 
 -- ---- the units, in the definitions' order; p moves to q as n does to k
 
@@ -204,7 +205,7 @@ data Ended (m : Mode) (n : ℕ) (xs : List ℕ) (from after : ℕ) : Stop → Ty
 
 abbrev EndedReading : Mode → ℕ → List ℕ → Reading → Type 0
 EndedReading m n xs (Text value stop from after) = Ended m n xs from after stop
-EndedReading m n xs (Refused number place) = Unit {0}
+EndedReading m n xs (Refused refusal place) = Unit {0}
 EndedReading m n xs Wait = Unit {0}
 
 module _ (m : Mode) (l : is_literal m ≡ true) where
@@ -219,7 +220,7 @@ module _ (m : Mode) (l : is_literal m ≡ true) where
         quote = rw z x.quote;
       })
   ended_on n b xs (Text value Stop.Interpolation from after) (left e) = left e
-  ended_on n b xs (Refused number place) x = tt
+  ended_on n b xs (Refused refusal place) x = tt
   ended_on n b xs Wait x = tt
   ended_on n b xs (Text value Stop.DollarLeftBrace from after) x = elim x [ ]
   ended_on n b xs (Text value Stop.LeftBrace from after) x = elim x [ ]
@@ -229,7 +230,7 @@ module _ (m : Mode) (l : is_literal m ≡ true) where
   ended_onto : (n : ℕ) (vs xs : List ℕ) (r : Reading) → EndedReading m n xs r → EndedReading m n xs (onto vs r)
   unfolding onto
   ended_onto n vs xs (Text value stop from after) x = x
-  ended_onto n vs xs (Refused number place) x = tt
+  ended_onto n vs xs (Refused refusal place) x = tt
   ended_onto n vs xs Wait x = tt
 
   collected_ended : (skip n : ℕ) (xs : List ℕ) → EndedReading m n xs (collected m [] true skip n xs)
@@ -273,7 +274,7 @@ onto_text : (vs : List ℕ) (r : Reading) (value : List ℕ) (stop : Stop) (from
     → onto vs r ≡ Text value stop from after → Later vs r value stop from after
 unfolding onto
 onto_text vs (Text text s f a) value stop from after e = record { text = text; whole = cc; later = cc }
-onto_text vs (Refused number place) value stop from after e = clash cc
+onto_text vs (Refused refusal place) value stop from after e = clash cc
 onto_text vs Wait value stop from after e = clash cc
 
 module _ (m : Mode) (l : is_literal m ≡ true) (n k : ℕ) where

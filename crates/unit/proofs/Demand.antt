@@ -6,6 +6,7 @@
 --   text_endings   a wait has two continuations apart by their endings, where each frame that is entered is the 65th,
 --                  too
 use Rattle.std.specs.Prelude.{if◌then◌else◌}
+use Rattle.byte.specs.declared.Refusal.{Refusal}
 use mathlib.Core.Path.{◌≡◌, refl, ap, sym, ◌∙◌}
 use mathlib.Core.Bool.{Bool, true, false}
 use mathlib.Core.List.{List, [], ◌∷◌, ◌++◌, append-nil}
@@ -40,7 +41,7 @@ onto_wait vs r e = rw e
 wait_onto : (vs : List ℕ) (r : Reading) → onto vs r ≡ Wait → r ≡ Wait
 unfolding onto
 wait_onto vs (Text text stop from after) e = clash cc
-wait_onto vs (Refused number place) e = e
+wait_onto vs (Refused refusal place) e = e
 wait_onto vs Wait e = refl
 
 taken_stays : (n : ℕ) (u u' : TextUnit) (r r' : ℕ → Reading) → Stays TextUnit.Undecided u u'
@@ -52,7 +53,7 @@ taken_stays n (TextUnit.Byte v a) u' r r' s ih k =
 taken_stays n (TextUnit.Point c a) u' r r' s ih k =
     rw (s point_told) (ap (onto (utf8 c)) (ih (a - suc n) (λ z. k (onto_wait (utf8 c) _ z))))
 taken_stays n (TextUnit.Ends stop from after) u' r r' s ih k = rw (s stop_told)
-taken_stays n (TextUnit.Fault number place) u' r r' s ih k = rw (s fault_told)
+taken_stays n (TextUnit.Fault refusal place) u' r r' s ih k = rw (s fault_told)
 taken_stays n TextUnit.Undecided u' r r' s ih k = absurd (k refl)
 
 module _ (m : Mode) (label : List ℕ) (h : Labelled m label) where
@@ -74,19 +75,19 @@ module _ (m : Mode) (label : List ℕ) (h : Labelled m label) where
 -- what a reading comes to where no frame may be entered: a refusal and its place, be it of a 65th frame, at q; of a text nothing else
 abbrev pub ending : ℕ → Reading → Reading
 ending q (Text text stop from after) = if enters stop then Refused stack_full q else Text [] Stop.Quote 0 0
-ending q (Refused number place) = Refused number place
+ending q (Refused refusal place) = Refused refusal place
 ending q Wait = Wait
 
 ending_onto : (q : ℕ) (vs : List ℕ) (r : Reading) → ending q (onto vs r) ≡ ending q r
 unfolding onto
 ending_onto q vs (Text text stop from after) = refl
-ending_onto q vs (Refused number place) = refl
+ending_onto q vs (Refused refusal place) = refl
 ending_onto q vs Wait = refl
 
 ending_finished : (q : ℕ) (m : Mode) (r : Reading) → ending q (finished m r) ≡ ending q r
 unfolding finished
 ending_finished q m (Text text stop from after) = refl
-ending_finished q m (Refused number place) = refl
+ending_finished q m (Refused refusal place) = refl
 ending_finished q m Wait = refl
 
 -- a byte that stands for itself
@@ -102,31 +103,31 @@ unit-plain Mode.Nowdoc label end n b rest p = rw p.lf
 
 -- a refusal at q
 record Lost (r : Reading) (q : ℕ) : Type 0 where
-  number : ℕ
-  refused : r ≡ Refused number q
+  refusal : Refusal
+  refused : r ≡ Refused refusal q
 
 lost_apart : (p : ℕ) (r r' : Reading) (q q' : ℕ) → Lost r q → Lost r' q' → (q ≡ q' → ⊥) → ending p r ≡ ending p r' → ⊥
 lost_apart p r r' q q' x y n e =
-    let z : Refused x.number q ≡ Refused y.number q' = sym (ap (ending p) x.refused) ∙ e ∙ ap (ending p) y.refused in
+    let z : Refused x.refusal q ≡ Refused y.refusal q' = sym (ap (ending p) x.refused) ∙ e ∙ ap (ending p) y.refused in
     n cc
 
-taken_falls : (ys : List ℕ) (u : TextUnit) (r : Reading) (q : ℕ) → Falls ys u q → (Quiet ys → r ≡ Refused 1 q)
+taken_falls : (ys : List ℕ) (u : TextUnit) (r : Reading) (q : ℕ) → Falls ys u q → (Quiet ys → r ≡ Refused Refusal.UnexpectedEndOfFile q)
     → Lost (taken u r) q
 unfolding taken onto
-taken_falls ys u r q (byte {value = v} k) e = record { number = 1; refused = ap (onto (v ∷ [])) (e k) }
-taken_falls ys u r q (fault {number = i}) e = record { number = i; refused = refl }
+taken_falls ys u r q (byte {value = v} k) e = record { refusal = Refusal.UnexpectedEndOfFile; refused = ap (onto (v ∷ [])) (e k) }
+taken_falls ys u r q (fault {refusal = i}) e = record { refusal = i; refused = refl }
 
-final_apart : (p : ℕ) (u : TextUnit) (r : Reading) (q : ℕ) → Final u → ending p (taken u r) ≡ Refused 1 q → ⊥
+final_apart : (p : ℕ) (u : TextUnit) (r : Reading) (q : ℕ) → Final u → ending p (taken u r) ≡ Refused Refusal.UnexpectedEndOfFile q → ⊥
 unfolding taken
 final_apart p u r q (ends {stop = s} {from = f} {after = a}) e = go (enters s) e
   where
-    go : (t : Bool) → (if t then Refused stack_full p else Text [] Stop.Quote 0 0) ≡ Refused 1 q → ⊥
+    go : (t : Bool) → (if t then Refused stack_full p else Text [] Stop.Quote 0 0) ≡ Refused Refusal.UnexpectedEndOfFile q → ⊥
     go true z =
         let y : ◌≡◌ {A = ℕ} 9 1 = cc in
         omega arith
     go false z = clash cc
 final_apart p u r q (crooked {place = k}) e =
-    let z : Refused 4 k ≡ Refused 1 q = e in
+    let z : Refused Refusal.InvalidDocIndentation k ≡ Refused Refusal.UnexpectedEndOfFile q = e in
     let y : ◌≡◌ {A = ℕ} 4 1 = cc in
     omega arith
 
@@ -139,13 +140,13 @@ module _ (m : Mode) (label : List ℕ) (p : ℕ) where
   abbrev ending_at : ℕ → ℕ → List ℕ → Reading
   ending_at skip n ys = ending p (collected m label true skip n ys)
 
-  quiet_lost : (skip n : ℕ) (ys : List ℕ) → Quiet ys → collected m label true skip n ys ≡ Refused 1 (n + length ys)
+  quiet_lost : (skip n : ℕ) (ys : List ℕ) → Quiet ys → collected m label true skip n ys ≡ Refused Refusal.UnexpectedEndOfFile (n + length ys)
   unfolding collected taken onto after_of
-  quiet_lost skip n [] k = ap (Refused 1) (omega arith)
-  quiet_lost (suc j) n (b ∷ ys) k = quiet_lost j (suc n) ys k.1 ∙ ap (Refused 1) (omega arith)
+  quiet_lost skip n [] k = ap (Refused Refusal.UnexpectedEndOfFile) (omega arith)
+  quiet_lost (suc j) n (b ∷ ys) k = quiet_lost j (suc n) ys k.1 ∙ ap (Refused Refusal.UnexpectedEndOfFile) (omega arith)
   quiet_lost zero n (b ∷ ys) k =
       rw (unit-plain m label true n b ys k.0)
-      (ap (onto (b ∷ [])) (quiet_lost (suc n - suc n) (suc n) ys k.1) ∙ ap (Refused 1) (omega arith))
+      (ap (onto (b ∷ [])) (quiet_lost (suc n - suc n) (suc n) ys k.1) ∙ ap (Refused Refusal.UnexpectedEndOfFile) (omega arith))
 
   falls_lost : (n b : ℕ) (ys : List ℕ) → Falls ys (unit_at m label true n b ys) (suc n + length ys)
       → Lost (collected m label true 0 n (b ∷ ys)) (suc n + length ys)
@@ -153,7 +154,7 @@ module _ (m : Mode) (label : List ℕ) (p : ℕ) where
   falls_lost n b ys f = taken_falls ys _ _ _ f (quiet_lost _ (suc n) ys)
 
   byte_lost : (n b : ℕ) (ys : List ℕ) {value after : ℕ} → unit_at m label true n b ys ≡ TextUnit.Byte value after → Quiet ys
-      → collected m label true 0 n (b ∷ ys) ≡ Refused 1 (suc n + length ys)
+      → collected m label true 0 n (b ∷ ys) ≡ Refused Refusal.UnexpectedEndOfFile (suc n + length ys)
   unfolding collected taken onto after_of
   byte_lost n b ys {value} {after} e k = rw e (ap (onto (value ∷ [])) (quiet_lost (after - suc n) (suc n) ys k))
 
@@ -225,11 +226,11 @@ module _ (m : Mode) (label : List ℕ) (p : ℕ) where
         two_bytes = refl;
         apart =
             lost_apart p _ _ _ _ (record {
-              number =
-                  1;
+              refusal =
+                  Refusal.UnexpectedEndOfFile;
               refused =
                   quiet_lost skip n [] tt;
-            }) (record { number = 1; refused = quiet_lost skip n one_more one_more_quiet })
+            }) (record { refusal = Refusal.UnexpectedEndOfFile; refused = quiet_lost skip n one_more one_more_quiet })
             (λ e. omega arith);
       }
 
@@ -257,18 +258,18 @@ module _ (m : Mode) (label : List ℕ) (h : Labelled m label) (p : ℕ) where
           onto_apart m label p n b xs (utf8 c) (a - suc n) (λ more. rw (s more point_told))
           (ih (a - suc n) (wait_onto (utf8 c) _ z))
       go (TextUnit.Ends stop from after) s o ih z = clash cc
-      go (TextUnit.Fault number place) s o ih z = clash cc
+      go (TextUnit.Fault refusal place) s o ih z = clash cc
       go TextUnit.Undecided s o ih z = opening_apart m label p n b xs (o refl)
 
 is-wait : (r : Reading) → Dec (r ≡ Wait)
 is-wait (Text text stop from after) = no (λ (z : Text text stop from after ≡ Wait). clash cc)
-is-wait (Refused number place) = no (λ (z : Refused number place ≡ Wait). clash cc)
+is-wait (Refused refusal place) = no (λ (z : Refused refusal place ≡ Wait). clash cc)
 is-wait Wait = yes refl
 
 finished_wait : (m : Mode) (r : Reading) → finished m r ≡ Wait → r ≡ Wait
 unfolding finished
 finished_wait m (Text text stop from after) e = clash cc
-finished_wait m (Refused number place) e = e
+finished_wait m (Refused refusal place) e = e
 finished_wait m Wait e = refl
 
 module _ (m : Mode) (label : List ℕ) (h : Labelled m label) (n : ℕ) where
@@ -311,7 +312,7 @@ is_undecided : (u : TextUnit) → Dec (u ≡ TextUnit.Undecided)
 is_undecided (TextUnit.Byte value after) = no byte_told
 is_undecided (TextUnit.Point code after) = no point_told
 is_undecided (TextUnit.Ends stop from after) = no stop_told
-is_undecided (TextUnit.Fault number place) = no fault_told
+is_undecided (TextUnit.Fault refusal place) = no fault_told
 is_undecided TextUnit.Undecided = yes refl
 
 module _ (m : Mode) (label : List ℕ) (h : Labelled m label) where
@@ -334,7 +335,7 @@ module _ (m : Mode) (label : List ℕ) (h : Labelled m label) where
       go (TextUnit.Byte v a) s ih z = ih _ (wait_onto (v ∷ []) _ z)
       go (TextUnit.Point c a) s ih z = ih _ (wait_onto (utf8 c) _ z)
       go (TextUnit.Ends stop from after) s ih z = clash cc
-      go (TextUnit.Fault number place) s ih z = clash cc
+      go (TextUnit.Fault refusal place) s ih z = clash cc
       go TextUnit.Undecided s ih z = s refl
 
   pub text_never_waits : (n : ℕ) (xs : List ℕ) → text_at m label true n xs ≡ Wait → ⊥

@@ -2,6 +2,7 @@
 -- ending `-chosen` its answer under the manual's choice, and with the ending `-manual` what the manual's tables
 -- (specs/Manual.antt) say of the same escape. What PHP 8 does stands in the comment.
 -- A block's label is E, and its text begins after the line of the opening label. Assumes nothing.
+use Rattle.byte.specs.declared.Refusal.{Refusal}
 use mathlib.Core.Path.{◌≡◌, refl}
 use mathlib.Core.Bool.{true}
 use mathlib.Core.List.{[], ◌∷◌}
@@ -25,7 +26,7 @@ use Rattle.unit.specs.Manual.{code_of, unicode, double_quoted, or_else, said_by}
 
 -- an octal number over 255 is refused under the Rust's choice; the manual's, and PHP's, "silently overflows to fit in
 -- a byte": `\400` is a zero byte, as it is under the manual's choice
-octal_overflow : text_at (Mode.Double Octal.Rust) [] true 0 (bytes "\\400\"") ≡ Refused 3 4
+octal_overflow : text_at (Mode.Double Octal.Rust) [] true 0 (bytes "\\400\"") ≡ Refused Refusal.InvalidOctalEscape 4
 unfolding text_at finished collected taken unit_at escape letter_value digits fitted overflowing digit_value bytes
 octal_overflow = refl
 
@@ -48,7 +49,7 @@ unfolding said_by double_quoted or_else single octal octal_of digits_of hexadeci
 capital_hex_manual = refl
 
 -- a surrogate is refused; the manual's form is matched, but it does not say what has no UTF-8; PHP writes ED A0 80
-surrogate : (octals : Octal) → text_at (Mode.Double octals) [] true 0 (bytes "\\u{D800}\"") ≡ Refused 2 8
+surrogate : (octals : Octal) → text_at (Mode.Double octals) [] true 0 (bytes "\\u{D800}\"") ≡ Refused Refusal.InvalidUnicodeEscape 8
 unfolding text_at finished collected taken unit_at escape letter_value braced code_point is_scalar digit_value bytes
 surrogate octals = refl
 
@@ -88,7 +89,7 @@ unfolding text_at finished loses_break collected taken onto after_of unit_at esc
 escaped_brace octals = refl
 
 -- `\u{` is always an escape, and with no digit refusal 2; to the manual, and in PHP, `\u` is text and then `{$` begins a variable
-unicode_interpolation : (octals : Octal) → text_at (Mode.Double octals) [] true 0 (bytes "\\u{$a}\"") ≡ Refused 2 3
+unicode_interpolation : (octals : Octal) → text_at (Mode.Double octals) [] true 0 (bytes "\\u{$a}\"") ≡ Refused Refusal.InvalidUnicodeEscape 3
 unfolding text_at finished collected taken unit_at escape letter_value braced code_point digit_value bytes
 unicode_interpolation octals = refl
 
@@ -98,10 +99,10 @@ unicode_interpolation_manual = refl
 
 -- so is `\u{` without a digit or without a brace right after its digits; to the manual it is text, and in PHP it is an error
 unmatched_unicode : (octals : Octal)
-    → (text_at (Mode.Double octals) [] true 0 (bytes "\\u{\"") ≡ Refused 2 3)
-    × (text_at (Mode.Double octals) [] true 0 (bytes "\\u{}\"") ≡ Refused 2 3)
-    × (text_at (Mode.Double octals) [] true 0 (bytes "\\u{z\"") ≡ Refused 2 3)
-    × (text_at (Mode.Double octals) [] true 0 (bytes "\\u{41\"") ≡ Refused 2 5)
+    → (text_at (Mode.Double octals) [] true 0 (bytes "\\u{\"") ≡ Refused Refusal.InvalidUnicodeEscape 3)
+    × (text_at (Mode.Double octals) [] true 0 (bytes "\\u{}\"") ≡ Refused Refusal.InvalidUnicodeEscape 3)
+    × (text_at (Mode.Double octals) [] true 0 (bytes "\\u{z\"") ≡ Refused Refusal.InvalidUnicodeEscape 3)
+    × (text_at (Mode.Double octals) [] true 0 (bytes "\\u{41\"") ≡ Refused Refusal.InvalidUnicodeEscape 5)
 unfolding text_at finished collected taken unit_at escape letter_value braced code_point digit_value bytes
 unmatched_unicode octals = (refl, refl, refl, refl)
 
@@ -147,7 +148,7 @@ unfolding text_at finished loses_break heredoc_loses_break collected taken unit_
 label_and_letters octals = refl
 
 -- a label on the first line is text, and this block is not closed; in PHP it closes an empty block
-first_line_label : (octals : Octal) → text_at (Mode.Heredoc octals) (bytes "E") true 0 (bytes "E;") ≡ Refused 1 2
+first_line_label : (octals : Octal) → text_at (Mode.Heredoc octals) (bytes "E") true 0 (bytes "E;") ≡ Refused Refusal.UnexpectedEndOfFile 2
 unfolding text_at finished collected taken onto after_of unit_at bytes
 first_line_label octals = refl
 
@@ -157,7 +158,7 @@ unfolding text_at finished loses_break collected taken onto after_of unit_at lin
 indentation_stays_in = refl
 
 -- a lone CR is a byte of the text, and this block is not closed; in PHP it is a break
-lone_return : text_at Mode.Nowdoc (bytes "E") true 0 (bytes "\rE;") ≡ Refused 1 3
+lone_return : text_at Mode.Nowdoc (bytes "E") true 0 (bytes "\rE;") ≡ Refused Refusal.UnexpectedEndOfFile 3
 unfolding text_at finished collected taken onto after_of unit_at bytes
 lone_return = refl
 

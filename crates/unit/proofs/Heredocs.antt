@@ -37,7 +37,7 @@ abbrev Kept : ℕ → TextUnit → Type 0
 Kept b (TextUnit.Byte value after) = value ≡ b
 Kept b (TextUnit.Point c after) = ⊥
 Kept b (TextUnit.Ends stop from after) = heredoc_loses_break stop ≡ false
-Kept b (TextUnit.Fault number place) = Unit {0}
+Kept b (TextUnit.Fault refusal place) = Unit {0}
 Kept b TextUnit.Undecided = Unit {0}
 
 closer_kept : (b size : ℕ) (ind : Indentation) (amount n : ℕ) → Kept b (closer size ind amount n)
@@ -77,7 +77,7 @@ nowdoc_kept label end n b rest =
 text_first : (b : ℕ) (rest : List ℕ) (r : Reading) → AllItself (text_of (b ∷ rest) (onto (b ∷ []) r)) → is_itself b ≡ true
 unfolding text_of onto every
 text_first b rest (Text text stop from after) e = &&-left (is_itself b) _ e
-text_first b rest (Refused number place) e = &&-left (is_itself b) _ e
+text_first b rest (Refused refusal place) e = &&-left (is_itself b) _ e
 text_first b rest Wait e = &&-left (is_itself b) _ e
 
 -- a break is the same unit in both, and so is such a byte
@@ -100,7 +100,7 @@ unit_same octals label end n b rest later =
 
 abbrev Closes : Reading → Type 0
 Closes (Text text stop from after) = heredoc_loses_break stop ≡ false
-Closes (Refused number place) = Unit {0}
+Closes (Refused refusal place) = Unit {0}
 Closes Wait = Unit {0}
 
 -- h of the heredoc and r of the nowdoc, on xs
@@ -119,7 +119,7 @@ beside_byte b xs h (Text text stop from after) x =
       within = λ e. &&-both (is_itself b) _ (&&-left (is_itself b) _ e) (x.within (&&-right (is_itself b) _ e));
       closes = x.closes;
     }
-beside_byte b xs h (Refused number place) x =
+beside_byte b xs h (Refused refusal place) x =
     record { same = λ e. ap (onto (b ∷ [])) (x.same (&&-right (is_itself b) _ e)); within = λ e. e; closes = tt }
 beside_byte b xs h Wait x =
     record { same = λ e. ap (onto (b ∷ [])) (x.same (&&-right (is_itself b) _ e)); within = λ e. e; closes = tt }
@@ -128,7 +128,7 @@ beside_passed : (b : ℕ) (xs : List ℕ) (h r : Reading) → Beside xs h r → 
 unfolding text_of every
 beside_passed b xs h (Text text stop from after) x =
     record { same = x.same; within = λ e. x.within (&&-right (is_itself b) _ e); closes = x.closes }
-beside_passed b xs h (Refused number place) x =
+beside_passed b xs h (Refused refusal place) x =
     record { same = λ e. x.same (&&-right (is_itself b) _ e); within = λ e. e; closes = tt }
 beside_passed b xs h Wait x =
     record { same = λ e. x.same (&&-right (is_itself b) _ e); within = λ e. e; closes = tt }
@@ -158,13 +158,13 @@ module _ (octals : Octal) (label : List ℕ) (end : Bool) where
       go (TextUnit.Byte value after) x ih = rw x (beside_byte b xs _ _ (ih (after - suc n)))
       go (TextUnit.Point c after) x ih = absurd x
       go (TextUnit.Ends stop from after) x ih = record { same = λ e. refl; within = λ e. refl; closes = x }
-      go (TextUnit.Fault number place) x ih = record { same = λ e. refl; within = λ e. e; closes = tt }
+      go (TextUnit.Fault refusal place) x ih = record { same = λ e. refl; within = λ e. e; closes = tt }
       go TextUnit.Undecided x ih = record { same = λ e. refl; within = λ e. e; closes = tt }
 
 finished_closes : (octals : Octal) (r : Reading) → Closes r → finished (Mode.Heredoc octals) r ≡ r
 unfolding finished loses_break
 finished_closes octals (Text text stop from after) x = rw x
-finished_closes octals (Refused number place) x = refl
+finished_closes octals (Refused refusal place) x = refl
 finished_closes octals Wait x = refl
 
 -- ---- the theorems

@@ -3,6 +3,7 @@
 --   text_moves    MovesReading n (text_at m label end n xs), of a mode that is no literal
 --   text_stops    StopsReading (text_at m label end n xs), of such a mode: it leaves no interpolation to another
 -- Assumes nothing.
+use Rattle.byte.specs.declared.Refusal.{Refusal}
 use mathlib.Core.Path.{◌≡◌}
 use mathlib.Core.Bool.{Bool, false}
 use mathlib.Core.List.{List}
@@ -41,19 +42,19 @@ pub record ReadInside (n hi amount : ℕ) (text : List ℕ) (from after : ℕ) :
   pub inside : after ≤ hi
 
 -- what is refused is one of these
-abbrev pub InsideReading : List ℕ → ℕ → ℕ → Reading → Type 0
-InsideReading numbers n hi (Text text stop from after) = ReadInside n hi (amount_of stop) text from after
-InsideReading numbers n hi (Refused number place) = FaultInside numbers n hi number place
-InsideReading numbers n hi Wait = Unit {0}
+abbrev pub InsideReading : List Refusal → ℕ → ℕ → Reading → Type 0
+InsideReading refusals n hi (Text text stop from after) = ReadInside n hi (amount_of stop) text from after
+InsideReading refusals n hi (Refused refusal place) = FaultInside refusals n hi refusal place
+InsideReading refusals n hi Wait = Unit {0}
 
 abbrev pub MovesReading : ℕ → Reading → Type 0
 MovesReading n (Text text stop from after) = n < after
-MovesReading n (Refused number place) = Unit {0}
+MovesReading n (Refused refusal place) = Unit {0}
 MovesReading n Wait = Unit {0}
 
 abbrev pub StopsReading : Reading → Type 0
 StopsReading (Text text stop from after) = is_interpolation stop ≡ false
-StopsReading (Refused number place) = Unit {0}
+StopsReading (Refused refusal place) = Unit {0}
 StopsReading Wait = Unit {0}
 
 module _ (m : Mode) (label : List ℕ) (end : Bool) (n : ℕ) (xs : List ℕ) where
@@ -68,7 +69,7 @@ module _ (m : Mode) (label : List ℕ) (end : Bool) (n : ℕ) (xs : List ℕ) wh
             order = x.order;
             inside = x.inside;
           }
-      go (Refused number place) x = x
+      go (Refused refusal place) x = x
       go Wait x = tt
 
   pub text_moves : is_literal m ≡ false → MovesReading n (text_at m label end n xs)
@@ -76,7 +77,7 @@ module _ (m : Mode) (label : List ℕ) (end : Bool) (n : ℕ) (xs : List ℕ) wh
     where
       go : (r : Reading) → StandsReading m n (n + length xs) xs r → MovesReading n r
       go (Text text stop from after) x = x.on h
-      go (Refused number place) x = tt
+      go (Refused refusal place) x = tt
       go Wait x = tt
 
   pub text_stops : is_literal m ≡ false → StopsReading (text_at m label end n xs)
@@ -84,5 +85,5 @@ module _ (m : Mode) (label : List ℕ) (end : Bool) (n : ℕ) (xs : List ℕ) wh
     where
       go : (r : Reading) → StandsReading m n (n + length xs) xs r → StopsReading r
       go (Text text stop from after) x = x.own h
-      go (Refused number place) x = tt
+      go (Refused refusal place) x = tt
       go Wait x = tt

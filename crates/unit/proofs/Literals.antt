@@ -8,6 +8,7 @@
 use Rattle.std.specs.Prelude.{if◌then◌else◌}
 use Prim.Native.Nat.{ℕ, zero, suc, ◌+◌, ◌-◌}
 use Prim.Native.Char.{Char, code}
+use Rattle.byte.specs.declared.Refusal.{Refusal}
 use mathlib.Core.Path.{◌≡◌, refl, sym, ap, subst, ◌∙◌}
 use mathlib.Core.Bool.{Bool, true, false, not, ◌&&◌, ◌||◌}
 use mathlib.Core.List.{List, [], ◌∷◌}
@@ -84,7 +85,7 @@ module _ (octals : Octal) (m : Mode) (table : List (List ℕ → Said)) (quote :
     whole_escape (TextUnit.Point c a) h o =
         rw (← h) (whole_onto octals hi (utf8 c) _ (t (a - suc n)) _ (ih (a - suc n)))
     whole_escape (TextUnit.Ends stop from after) h o = absurd (said_by_told table rest (sym h))
-    whole_escape (TextUnit.Fault number place) h o = clash cc
+    whole_escape (TextUnit.Fault refusal place) h o = clash cc
     whole_escape TextUnit.Undecided h o = absurd (said_by_told table rest (sym h))
 
     -- a byte that stands for itself
@@ -106,7 +107,7 @@ whole_quote n hi =
 pub finished_whole : (m : Mode) (r : Reading) → ((stop : Stop) → loses_break m stop ≡ false) → finished m r ≡ r
 unfolding finished
 finished_whole m (Text value stop from after) h = rw (h stop)
-finished_whole m (Refused number place) h = refl
+finished_whole m (Refused refusal place) h = refl
 finished_whole m Wait h = refl
 
 -- ---- single quotes
@@ -124,7 +125,7 @@ single_quoted_closed xs = or_else_closed _ _ (single_open "'" "'" xs) (or_else_c
 single_collected : (skip n : ℕ) (xs : List ℕ)
     → collected Mode.Single [] true skip n xs ≡ reading_of (n + length xs) (literal single_quoted "'" skip n xs)
 unfolding collected literal unit_at taken after_of reading_of
-single_collected skip n [] = ap (Refused 1) (omega arith)
+single_collected skip n [] = ap (Refused Refusal.UnexpectedEndOfFile) (omega arith)
 single_collected (suc k) n (b ∷ xs) =
     let z : suc n + length xs ≡ n + suc (length xs) = omega arith in
     rw (← z) (single_collected k (suc n) xs)
@@ -215,7 +216,7 @@ module _ (octals : Octal) (hi n b : ℕ) (rest : List ℕ) (s : b is "\\" ≡ tr
         after : suc n ≡ hi - length rest
         after = omega (arith, z)
 
-        refused : octals ≡ Octal.Rust → (value place : ℕ) → overflowing octals value place ≡ TextUnit.Fault 3 place
+        refused : octals ≡ Octal.Rust → (value place : ℕ) → overflowing octals value place ≡ TextUnit.Fault Refusal.InvalidOctalEscape place
         refused z value place = rw z
 
         go : (f m : Bool) (s : Said) → fits octals (number 8 0 (digits_of 8 3 rest)) ≡ f → unmatched rest ≡ m
@@ -237,7 +238,7 @@ double_collected : (octals : Octal) (skip n : ℕ) (xs : List ℕ)
     → Whole octals (n + length xs) (literal double_quoted "\"" skip n xs) (first_other octals skip xs)
     (collected (Mode.Double octals) [] true skip n xs)
 unfolding collected literal first_other unit_at taken after_of reading_of
-double_collected octals skip n [] = ap (Refused 1) (omega arith)
+double_collected octals skip n [] = ap (Refused Refusal.UnexpectedEndOfFile) (omega arith)
 double_collected octals (suc k) n (b ∷ xs) =
     let z : suc n + length xs ≡ n + suc (length xs) = omega arith in
     rw (← z) (double_collected octals k (suc n) xs)

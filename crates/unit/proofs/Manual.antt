@@ -10,6 +10,7 @@
 -- at once.
 -- Assumes nothing.
 use Rattle.std.specs.Prelude.{if◌then◌else◌}
+use Rattle.byte.specs.declared.Refusal.{Refusal}
 use mathlib.Core.Path.{◌≡◌, refl, ap, ◌∙◌}
 use mathlib.Core.Bool.{Bool, true, false, not, ◌&&◌, ◌||◌}
 use mathlib.Core.List.{List, [], ◌∷◌}
@@ -42,19 +43,19 @@ behind xs = drop (length (all_digits 16 xs)) xs
 
 -- one digit or more, with this value, end before n; then these bytes
 point_from : ℕ → ℕ → List ℕ → TextUnit
-point_from value n [] = TextUnit.Fault 2 n
+point_from value n [] = TextUnit.Fault Refusal.InvalidUnicodeEscape n
 point_from value n (b ∷ rest) =
-    if b is "}" then (if is_scalar value then TextUnit.Point value (suc n) else TextUnit.Fault 2 (suc n)) else TextUnit.Fault 2 n
+    if b is "}" then (if is_scalar value then TextUnit.Point value (suc n) else TextUnit.Fault Refusal.InvalidUnicodeEscape (suc n)) else TextUnit.Fault Refusal.InvalidUnicodeEscape n
 
 -- after `\u{`, whose `u` stands at p: these digits, then these bytes
 point_of : ℕ → List ℕ → List ℕ → TextUnit
-point_of p [] rest = TextUnit.Fault 2 (p + 2 + 0)
+point_of p [] rest = TextUnit.Fault Refusal.InvalidUnicodeEscape (p + 2 + 0)
 point_of p (d ∷ ds) rest = point_from (number 16 0 (d ∷ ds)) (p + 2 + length (d ∷ ds)) rest
 
 code_point_from : (value n : ℕ) (xs : List ℕ)
     → code_point true true value n xs ≡ point_from (number 16 value (all_digits 16 xs)) (n + length (all_digits 16 xs)) (behind xs)
 unfolding code_point all_digits number point_from
-code_point_from value n [] = ap (TextUnit.Fault 2) (omega arith)
+code_point_from value n [] = ap (TextUnit.Fault Refusal.InvalidUnicodeEscape) (omega arith)
 code_point_from value n (b ∷ xs) =
     if_both (λ u ds. u ≡ point_from (number 16 value ds) (n + length ds) (drop (length ds) (b ∷ xs))) (ltb (digit_value b) 16)
     (λ e. code_point_from (value * 16 + digit_value b) (suc n) xs ∙ rw next)
@@ -68,11 +69,11 @@ code_point_from value n (b ∷ xs) =
 
 code_point_of : (p : ℕ) (xs : List ℕ) → code_point true false 0 (suc (suc p)) xs ≡ point_of p (all_digits 16 xs) (behind xs)
 unfolding code_point all_digits number point_of
-code_point_of p [] = ap (TextUnit.Fault 2) (omega arith)
+code_point_of p [] = ap (TextUnit.Fault Refusal.InvalidUnicodeEscape) (omega arith)
 code_point_of p (b ∷ xs) =
     if_both (λ u ds. u ≡ point_of p ds (drop (length ds) (b ∷ xs))) (ltb (digit_value b) 16)
     (λ e. code_point_from (0 * 16 + digit_value b) (suc (suc (suc p))) xs ∙ rw next)
-    (λ e. ap (TextUnit.Fault 2) (omega arith))
+    (λ e. ap (TextUnit.Fault Refusal.InvalidUnicodeEscape) (omega arith))
   where
     next : suc (suc (suc p)) + length (all_digits 16 xs) ≡ p + 2 + suc (length (all_digits 16 xs))
     next = omega arith
@@ -80,8 +81,8 @@ code_point_of p (b ∷ xs) =
 -- what the unit is, by what the entry says
 record Told (p : ℕ) (ds : List ℕ) (u : TextUnit) (s : Said) : Type 0 where
   means : is_nothing s ≡ false → says p u ≡ s
-  other : is_nothing s ≡ true → u ≡ TextUnit.Fault 2 (p + 2 + length ds)
-  unsaid : s ≡ Open → u ≡ TextUnit.Fault 2 (p + 3 + length ds)
+  other : is_nothing s ≡ true → u ≡ TextUnit.Fault Refusal.InvalidUnicodeEscape (p + 2 + length ds)
+  unsaid : s ≡ Open → u ≡ TextUnit.Fault Refusal.InvalidUnicodeEscape (p + 3 + length ds)
 
 point_told : (p : ℕ) (ds rest : List ℕ) → Told p ds (point_of p ds rest) (code_of ds rest)
 unfolding point_of point_from code_of is_nothing says
@@ -91,7 +92,7 @@ point_told p (d ∷ ds) (b ∷ rest) =
     if_both (Told p (d ∷ ds)) (b is "}")
     (λ e. if_both (Told p (d ∷ ds)) (is_scalar (number 16 0 (d ∷ ds)))
     (λ f. record { means = λ h. ap (Means (utf8 (number 16 0 (d ∷ ds)))) three; other = λ h. clash cc; unsaid = λ h. clash cc })
-    (λ f. record { means = λ h. refl; other = λ h. clash cc; unsaid = λ h. ap (TextUnit.Fault 2) (omega arith) }))
+    (λ f. record { means = λ h. refl; other = λ h. clash cc; unsaid = λ h. ap (TextUnit.Fault Refusal.InvalidUnicodeEscape) (omega arith) }))
     (λ e. record { means = λ h. clash cc; other = λ h. refl; unsaid = λ h. clash cc })
   where
     three : suc (p + 2 + length (d ∷ ds)) - p ≡ 3 + length (d ∷ ds)
@@ -278,7 +279,7 @@ escape_point octals p b c xs h =
     ∙ rw (&&-right (b is "u") (c is "{") h) (code_point_of p xs)
 
 pub escape_unmatched : (octals : Octal) (p : ℕ) (xs : List ℕ) → unmatched xs ≡ true
-    → escape octals true p xs ≡ TextUnit.Fault 2 (p + 2 + length (all_digits 16 (drop 2 xs)))
+    → escape octals true p xs ≡ TextUnit.Fault Refusal.InvalidUnicodeEscape (p + 2 + length (all_digits 16 (drop 2 xs)))
 unfolding unmatched unicode
 escape_unmatched octals p [] m = clash cc
 escape_unmatched octals p (b ∷ []) m = clash cc
@@ -335,19 +336,19 @@ unicode_open xs e =
     (or_else_open _ _ (octal_open (digits_of 8 3 xs)) (singles_open letters (octal ∷ hexadecimal ∷ unicode ∷ []) xs e)))
 
 unicode_refused : (octals : Octal) (p : ℕ) (xs : List ℕ) → unicode xs ≡ Open
-    → escape octals true p xs ≡ TextUnit.Fault 2 (p + 3 + length (all_digits 16 (drop 2 xs)))
+    → escape octals true p xs ≡ TextUnit.Fault Refusal.InvalidUnicodeEscape (p + 3 + length (all_digits 16 (drop 2 xs)))
 unfolding unicode
 unicode_refused octals p [] h = clash cc
 unicode_refused octals p (b ∷ []) h = clash cc
 unicode_refused octals p (b ∷ c ∷ xs) h = go (b is "u" && c is "{") refl h
   where
     go : (t : Bool) → (b is "u" && c is "{") ≡ t → (if t then code_of (all_digits 16 xs) (behind xs) else Nothing) ≡ Open
-        → escape octals true p (b ∷ c ∷ xs) ≡ TextUnit.Fault 2 (p + 3 + length (all_digits 16 xs))
+        → escape octals true p (b ∷ c ∷ xs) ≡ TextUnit.Fault Refusal.InvalidUnicodeEscape (p + 3 + length (all_digits 16 xs))
     go true e h = escape_point octals p b c xs e ∙ (point_told p (all_digits 16 xs) (behind xs)).unsaid h
     go false e h = clash cc
 
 pub escape_open : (octals : Octal) (p : ℕ) (xs : List ℕ) → said_by double_quoted xs ≡ Open
-    → escape octals true p xs ≡ TextUnit.Fault 2 (p + 3 + length (all_digits 16 (drop 2 xs)))
+    → escape octals true p xs ≡ TextUnit.Fault Refusal.InvalidUnicodeEscape (p + 3 + length (all_digits 16 (drop 2 xs)))
 escape_open octals p xs e = unicode_refused octals p xs (unicode_open xs e)
 
 pub quote_escape_manual : (p : ℕ) (xs : List ℕ) → says p (quote_escape true p xs) ≡ said_by single_quoted xs

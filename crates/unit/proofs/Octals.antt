@@ -89,7 +89,7 @@ NotThree r = (place : ℕ) → r ≡ Refused invalid_octal_escape place → ⊥
 onto_three : (vs : List ℕ) (r : Reading) → NotThree (onto vs r) → NotThree r
 unfolding onto
 onto_three vs (Text text stop from after) h = λ place e. clash cc
-onto_three vs (Refused number fault) h = h
+onto_three vs (Refused refusal fault) h = h
 onto_three vs Wait h = λ place e. clash cc
 
 -- what is read after a unit counts where the unit is text
@@ -98,7 +98,7 @@ unfolding taken
 taken_chosen (TextUnit.Byte value after) r s h same = ap (onto (value ∷ [])) (same (onto_three (value ∷ []) r h))
 taken_chosen (TextUnit.Point c after) r s h same = ap (onto (utf8 c)) (same (onto_three (utf8 c) r h))
 taken_chosen (TextUnit.Ends stop from after) r s h same = refl
-taken_chosen (TextUnit.Fault number place) r s h same = refl
+taken_chosen (TextUnit.Fault refusal place) r s h same = refl
 taken_chosen TextUnit.Undecided r s h same = refl
 
 module _ (m : Mode) (label : List ℕ) (end : Bool) where
@@ -121,7 +121,7 @@ module _ (m : Mode) (label : List ℕ) (end : Bool) where
 finished_three : (m : Mode) (r : Reading) → NotThree (finished m r) → NotThree r
 unfolding finished
 finished_three m (Text text stop from after) h = λ place e. clash cc
-finished_three m (Refused number fault) h = h
+finished_three m (Refused refusal fault) h = h
 finished_three m Wait h = λ place e. clash cc
 
 -- whether a break is lost does not hang on the choice
@@ -139,7 +139,7 @@ finished_chosen : (m : Mode) (r : Reading)
     → finished (with_octals Octal.Manual m) r ≡ finished (with_octals Octal.Rust m) r
 unfolding finished
 finished_chosen m (Text text stop from after) = rw (loses_chosen m stop)
-finished_chosen m (Refused number place) = refl
+finished_chosen m (Refused refusal place) = refl
 finished_chosen m Wait = refl
 
 pub text_chosen : (m : Mode) (label : List ℕ) (end : Bool) (n : ℕ) (xs : List ℕ)

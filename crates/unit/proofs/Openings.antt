@@ -4,6 +4,7 @@
 --   Opening                        the two continuations; `opens_on` carries it one byte further on
 -- Assumes nothing.
 use Rattle.std.specs.Prelude.{if◌then◌else◌, Some, None}
+use Rattle.byte.specs.declared.Refusal.{Refusal}
 use mathlib.Core.Path.{◌≡◌, refl, ap, ◌∙◌}
 use mathlib.Core.Bool.{Bool, true, false}
 use mathlib.Core.List.{List, [], ◌∷◌, ◌++◌}
@@ -100,12 +101,12 @@ u_plainly b h = plainly (λ x. x is "u") refl refl refl refl refl refl refl b h
 -- a byte of the value with only quiet bytes after, or a fault at the text's end
 pub data Falls (ys : List ℕ) : TextUnit → ℕ → Type 0 where
   byte : {value after place : ℕ} → Quiet ys → Falls ys (TextUnit.Byte value after) place
-  fault : {number place : ℕ} → Falls ys (TextUnit.Fault number place) place
+  fault : {refusal : Refusal} {place : ℕ} → Falls ys (TextUnit.Fault refusal place) place
 
 -- a fault at the text's end, whatever stands before
 pub record Faults (p : ℕ) (xs : List ℕ) (f : List ℕ → TextUnit) : Type 0 where
-  pub now : f xs ≡ TextUnit.Fault 2 (p + length xs)
-  pub later : f (xs ++ one_more) ≡ TextUnit.Fault 2 (p + suc (length xs))
+  pub now : f xs ≡ TextUnit.Fault Refusal.InvalidUnicodeEscape (p + length xs)
+  pub later : f (xs ++ one_more) ≡ TextUnit.Fault Refusal.InvalidUnicodeEscape (p + suc (length xs))
 
 -- a variable, or one with a property
 pub record Splits (xs : List ℕ) (f : List ℕ → TextUnit) : Type 0 where
@@ -119,7 +120,7 @@ pub record Splits (xs : List ℕ) (f : List ℕ → TextUnit) : Type 0 where
 -- a closer, or a refusal 4
 pub data Final : TextUnit → Type 0 where
   ends : {stop : Stop} {from after : ℕ} → Final (TextUnit.Ends stop from after)
-  crooked : {place : ℕ} → Final (TextUnit.Fault 4 place)
+  crooked : {place : ℕ} → Final (TextUnit.Fault Refusal.InvalidDocIndentation place)
 
 pub data Opening (p : ℕ) (xs : List ℕ) (f : List ℕ → TextUnit) : Type 0 where
   falls : Falls xs (f xs) (p + length xs) → Falls (xs ++ one_more) (f (xs ++ one_more)) (p + suc (length xs)) → Opening p xs f
@@ -149,7 +150,7 @@ point_told h = clash cc
 pub stop_told : {A : Type 0} {stop : Stop} {from after : ℕ} → TextUnit.Ends stop from after ≡ TextUnit.Undecided → A
 stop_told h = clash cc
 
-pub fault_told : {A : Type 0} {number place : ℕ} → TextUnit.Fault number place ≡ TextUnit.Undecided → A
+pub fault_told : {A : Type 0} {refusal : Refusal} {place : ℕ} → TextUnit.Fault refusal place ≡ TextUnit.Undecided → A
 fault_told h = clash cc
 
 pub look_told : {A : Type 0} {f : Follow} → Some f ≡ None → A
@@ -163,7 +164,7 @@ falls_on b h e fault = rw (← e) fault
 pub faults_on : {p : ℕ} {xs : List ℕ} {f : List ℕ → TextUnit} (b : ℕ) → Faults (suc p) xs (λ ys. f (b ∷ ys))
     → Faults p (b ∷ xs) f
 faults_on b x =
-    record { now = x.now ∙ ap (TextUnit.Fault 2) (omega arith); later = x.later ∙ ap (TextUnit.Fault 2) (omega arith) }
+    record { now = x.now ∙ ap (TextUnit.Fault Refusal.InvalidUnicodeEscape) (omega arith); later = x.later ∙ ap (TextUnit.Fault Refusal.InvalidUnicodeEscape) (omega arith) }
 
 pub splits_on : {xs : List ℕ} {f : List ℕ → TextUnit} (b : ℕ) → Splits xs (λ ys. f (b ∷ ys)) → Splits (b ∷ xs) f
 splits_on b x =

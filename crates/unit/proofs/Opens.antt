@@ -5,6 +5,7 @@
 -- ends (`splits`), the rest of the label comes or the text ends (`closes`). Each law is its definition again, with `if_waits` for
 -- a choice. Assumes nothing.
 use Rattle.std.specs.Prelude.{if◌then◌else◌, Option, Some, None}
+use Rattle.byte.specs.declared.Refusal.{Refusal}
 use mathlib.Core.Path.{◌≡◌, refl, ap}
 use mathlib.Core.Bool.{Bool, true, false, ◌&&◌, ◌||◌}
 use mathlib.Core.List.{List, [], ◌∷◌, ◌++◌}
@@ -91,7 +92,7 @@ code_point_waits : (some : Bool) (value n : ℕ) (xs : List ℕ) → code_point 
     → Faults n xs (code_point true some value n)
 unfolding code_point digit_value
 code_point_waits some value n [] k =
-    record { now = ap (TextUnit.Fault 2) (omega arith); later = ap (TextUnit.Fault 2) (omega arith) }
+    record { now = ap (TextUnit.Fault Refusal.InvalidUnicodeEscape) (omega arith); later = ap (TextUnit.Fault Refusal.InvalidUnicodeEscape) (omega arith) }
 code_point_waits some value n (b ∷ xs) k =
     faults_on b
     (if_waits (Faults (suc n) xs) (ltb (digit_value b) 16) (λ e. code_point_waits true (value * 16 + digit_value b) (suc n) xs)

@@ -56,7 +56,7 @@ module _ (m : Mode) (label : List ℕ) (end : Bool) where
       go (TextUnit.Byte value after) x = ap (onto (value ∷ [])) (later after x.on x.inside)
       go (TextUnit.Point c after) x = ap (onto (utf8 c)) (later after (omega (arith, x.narrow)) x.inside)
       go (TextUnit.Ends stop from after) x = refl
-      go (TextUnit.Fault number place) x = refl
+      go (TextUnit.Fault refusal place) x = refl
       go TextUnit.Undecided x = refl
 
 -- a text that is read from n on, where xs stands: with the gap after it, it ends at `from` or before; where it ends
@@ -72,7 +72,7 @@ pub record TextStands (literal : Bool) (n hi : ℕ) (xs text : List ℕ) (stop :
 
 abbrev pub StandsReading : Mode → ℕ → ℕ → List ℕ → Reading → Type 0
 StandsReading m n hi xs (Text text stop from after) = TextStands (is_literal m) n hi xs text stop from after
-StandsReading m n hi xs (Refused number place) = FaultInside (faults m) n hi number place
+StandsReading m n hi xs (Refused refusal place) = FaultInside (faults m) n hi refusal place
 StandsReading m n hi xs Wait = Unit {0}
 
 module _ (m : Mode) (hi : ℕ) where
@@ -95,7 +95,7 @@ module _ (m : Mode) (hi : ℕ) where
           → n + suc (length text) + gap stop ≡ from → value ∷ text ≡ b ∷ take (length text) xs
       same zero own x h = rw (own refl, ← x.copied (omega arith))
       same (suc k) own x h = absurd (omega (arith, x.fits))
-  byte_onto n b value k xs (Refused number place) own x =
+  byte_onto n b value k xs (Refused refusal place) own x =
       record { among = x.among; on = omega (arith, x.on); inside = x.inside }
   byte_onto n b value k xs Wait own x = tt
 
@@ -114,7 +114,7 @@ module _ (m : Mode) (hi : ℕ) where
         keeps = x.keeps;
         own = x.own;
       }
-  point_onto n after vs xs ys (Refused number place) h x =
+  point_onto n after vs xs ys (Refused refusal place) h x =
       record { among = x.among; on = omega (arith, x.on); inside = x.inside }
   point_onto n after vs xs ys Wait h x = tt
 
@@ -165,7 +165,7 @@ module _ (m : Mode) (label : List ℕ) (end : Bool) (hi : ℕ) where
             keeps = x.keeps;
             own = x.own;
           }
-      go (TextUnit.Fault number place) x ih = record { among = x.among; on = x.on; inside = omega (arith, x.inside) }
+      go (TextUnit.Fault refusal place) x ih = record { among = x.among; on = x.on; inside = omega (arith, x.inside) }
       go TextUnit.Undecided x ih = tt
 
 trimmed_length : (text : List ℕ) → length (trimmed text) ≤ length text
@@ -207,7 +207,7 @@ finished_stands m n hi xs (Text text stop from after) x =
         let whole : trimmed text ≡ text = trimmed_whole text (omega (arith, x.fits)) in
         let long : n + length text + gap stop ≡ from = rw whole at e in
         rw whole (x.copied long)
-finished_stands m n hi xs (Refused number place) x = x
+finished_stands m n hi xs (Refused refusal place) x = x
 finished_stands m n hi xs Wait x = tt
 
 pub text_stands : (m : Mode) (label : List ℕ) (end : Bool) (n : ℕ) (xs : List ℕ)

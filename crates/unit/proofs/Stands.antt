@@ -6,6 +6,7 @@
 use Rattle.std.specs.Prelude.{if◌then◌else◌, Option, Some, None}
 use Prim.Native.Nat.{ℕ, zero, suc, ◌+◌, ◌*◌, ◌≤◌, ◌<◌}
 use Prim.Native.Char.{Char, code}
+use Rattle.byte.specs.declared.Refusal.{Refusal}
 use mathlib.Core.Path.{◌≡◌, refl, sym, ◌∙◌}
 use mathlib.Core.Bool.{Bool, true, false, ◌&&◌, ◌||◌, false≢true}
 use mathlib.Core.List.{List, [], ◌∷◌}
@@ -44,7 +45,7 @@ is_literal (Mode.Heredoc octals) = false
 is_literal Mode.Nowdoc = false
 
 -- every text may lack its end; escapes and closing lines may be faulty
-abbrev pub faults : Mode → List ℕ
+abbrev pub faults : Mode → List Refusal
 faults Mode.Single = unexpected_end_of_file ∷ []
 faults (Mode.Double octals) = unexpected_end_of_file ∷ invalid_unicode_escape ∷ octal_refusals octals
 faults (Mode.DoubleQuote octals) = unexpected_end_of_file ∷ invalid_unicode_escape ∷ octal_refusals octals
@@ -95,8 +96,8 @@ pub record StopStands (literal : Bool) (n hi : ℕ) (stop : Stop) (from after : 
   pub own : literal ≡ false → is_interpolation stop ≡ false
 
 -- a refusal, which is one of these
-pub record FaultInside (numbers : List ℕ) (n hi number place : ℕ) : Type 0 where
-  pub among : is_among number numbers ≡ true
+pub record FaultInside (refusals : List Refusal) (n hi : ℕ) (refusal : Refusal) (place : ℕ) : Type 0 where
+  pub among : is_among refusal refusals ≡ true
   pub on : n ≤ place
   pub inside : place ≤ hi
 
@@ -105,7 +106,7 @@ abbrev pub Stands : Mode → ℕ → ℕ → ℕ → TextUnit → Type 0
 Stands m n b hi (TextUnit.Byte value after) = ByteStands n b hi value after
 Stands m n b hi (TextUnit.Point c after) = PointStands n hi c after
 Stands m n b hi (TextUnit.Ends stop from after) = StopStands (is_literal m) n hi stop from after
-Stands m n b hi (TextUnit.Fault number place) = FaultInside (faults m) n hi number place
+Stands m n b hi (TextUnit.Fault refusal place) = FaultInside (faults m) n hi refusal place
 Stands m n b hi TextUnit.Undecided = Unit {0}
 
 abbrev AtMostFour : List ℕ → Type 0
@@ -142,8 +143,8 @@ module _ (m : Mode) (n b hi : ℕ) where
   passing : {value after : ℕ} → n + 2 ≤ after → after ≤ hi → ByteStands n b hi value after
   passing x y = record { on = omega arith; inside = y; own = λ z. absurd (omega arith) }
 
-  fault : {number place : ℕ} → is_among number (faults m) ≡ true → n ≤ place → place ≤ hi
-      → FaultInside (faults m) n hi number place
+  fault : {refusal : Refusal} {place : ℕ} → is_among refusal (faults m) ≡ true → n ≤ place → place ≤ hi
+      → FaultInside (faults m) n hi refusal place
   fault k x y = record { among = k; on = x; inside = y }
 
   -- ---- escapes

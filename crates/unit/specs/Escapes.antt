@@ -11,6 +11,7 @@
 --   quote_escape   in single quotes: `\'` and `\\` alone
 use Rattle.std.specs.Prelude.{ℕ, zero, suc, ◌+◌, ◌*◌, ◌%◌, Bool, true, false, ◌&&◌, ◌||◌, List, [], ◌∷◌, ◌≡◌, refl, ltb, if◌then◌else◌}
 use Prim.Native.Char.{Char, code}
+use Rattle.byte.specs.declared.Refusal.{Refusal}
 use Rattle.byte.specs.declared.Octal.{Octal}
 use Rattle.byte.specs.Refusals.{invalid_unicode_escape, invalid_octal_escape}
 use Rattle.byte.specs.Words.{◌is◌, bytes}
@@ -90,7 +91,7 @@ sheet_e : (octals : Octal) → escape octals true 1 (bytes "377\"") ≡ TextUnit
 unfolding escape digits fitted letter_value digit_value bytes
 sheet_e octals = refl
 
-sheet_f : escape Octal.Rust true 1 (bytes "400\"") ≡ TextUnit.Fault 3 4
+sheet_f : escape Octal.Rust true 1 (bytes "400\"") ≡ TextUnit.Fault Refusal.InvalidOctalEscape 4
 unfolding escape digits fitted overflowing letter_value digit_value bytes
 sheet_f = refl
 
@@ -109,7 +110,7 @@ unfolding escape digits letter_value digit_value bytes
 open_digits octals = refl
 
 told_digits :
-    (escape Octal.Rust false 1 (bytes "400") ≡ TextUnit.Fault 3 4)
+    (escape Octal.Rust false 1 (bytes "400") ≡ TextUnit.Fault Refusal.InvalidOctalEscape 4)
     × (escape Octal.Manual false 1 (bytes "400") ≡ TextUnit.Byte 0 4)
 unfolding escape digits fitted overflowing letter_value digit_value bytes
 told_digits = (refl, refl)
@@ -118,6 +119,6 @@ sheet_g : (octals : Octal) → escape octals true 1 (bytes "u{20AC}\"") ≡ Text
 unfolding escape braced code_point is_scalar letter_value digit_value bytes
 sheet_g octals = refl
 
-sheet_h : (octals : Octal) → escape octals true 1 (bytes "u{110000}\"") ≡ TextUnit.Fault 2 10
+sheet_h : (octals : Octal) → escape octals true 1 (bytes "u{110000}\"") ≡ TextUnit.Fault Refusal.InvalidUnicodeEscape 10
 unfolding escape braced code_point is_scalar letter_value digit_value bytes
 sheet_h octals = refl

@@ -10,5 +10,5 @@ is_itself b = not (b is "\\") && not (b is "$") && not (b is "{")
 
 unfoldable pub text_of : List ℕ → Reading → List ℕ
 text_of xs (Text text stop from after) = text
-text_of xs (Refused number place) = xs
+text_of xs (Refused refusal place) = xs
 text_of xs Wait = xs

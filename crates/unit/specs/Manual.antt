@@ -193,7 +193,7 @@ unfoldable pub says : ℕ → TextUnit → Said
 says p (TextUnit.Byte value after) = Means (value ∷ []) (after - p)
 says p (TextUnit.Point code after) = Means (utf8 code) (after - p)
 says p (TextUnit.Ends stop from after) = Nothing
-says p (TextUnit.Fault number place) = Open
+says p (TextUnit.Fault refusal place) = Open
 says p TextUnit.Undecided = Nothing
 
 -- of a text that is all there and ends at hi; where the manual does not say, Wait, which no such text gives

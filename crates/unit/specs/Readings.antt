@@ -5,6 +5,7 @@
 --   text_at         what contracts cite: before an interpolation a heredoc's text loses one LF, also one from an escape
 --   gap, text_end   the bytes between a text and what ends it; where the text ends
 use Rattle.std.specs.Prelude.{ℕ, zero, suc, ◌-◌, Bool, true, false, List, [], ◌∷◌, ◌++◌, ◌≡◌, refl, if◌then◌else◌}
+use Rattle.byte.specs.declared.Refusal.{Refusal}
 use Rattle.byte.specs.declared.Octal.{Octal}
 use Rattle.byte.specs.Refusals.{unexpected_end_of_file}
 use Rattle.byte.specs.Words.{◌is◌, bytes}
@@ -22,13 +23,13 @@ use Rattle.unit.specs.Units.{unit_at}
 
 pub data Reading : Type 0 where
   Text : List ℕ → Stop → ℕ → ℕ → Reading
-  Refused : ℕ → ℕ → Reading
+  Refused : Refusal → ℕ → Reading
   Wait : Reading
 
 -- these bytes before the text of what is read after them
 unfoldable pub onto : List ℕ → Reading → Reading
 onto vs (Text text stop from after) = Text (vs ++ text) stop from after
-onto vs (Refused number place) = Refused number place
+onto vs (Refused refusal place) = Refused refusal place
 onto vs Wait = Wait
 
 -- a unit, then what is read after it
@@ -36,7 +37,7 @@ unfoldable pub taken : TextUnit → Reading → Reading
 taken (TextUnit.Byte value after) later = onto (value ∷ []) later
 taken (TextUnit.Point code after) later = onto (utf8 code) later
 taken (TextUnit.Ends stop from after) later = Text [] stop from after
-taken (TextUnit.Fault number place) later = Refused number place
+taken (TextUnit.Fault refusal place) later = Refused refusal place
 taken TextUnit.Undecided later = Wait
 
 -- the place after a unit that is text
@@ -44,7 +45,7 @@ unfoldable pub after_of : TextUnit → ℕ
 after_of (TextUnit.Byte value after) = after
 after_of (TextUnit.Point code after) = after
 after_of (TextUnit.Ends stop from after) = 0
-after_of (TextUnit.Fault number place) = 0
+after_of (TextUnit.Fault refusal place) = 0
 after_of TextUnit.Undecided = 0
 
 -- from n on, where `skip` bytes of the last unit are still to be passed; a text that is not closed is refusal 1, at the source's end
@@ -80,7 +81,7 @@ loses_break Mode.Nowdoc stop = false
 
 unfoldable pub finished : Mode → Reading → Reading
 finished m (Text text stop from after) = Text (if loses_break m stop then trimmed text else text) stop from after
-finished m (Refused number place) = Refused number place
+finished m (Refused refusal place) = Refused refusal place
 finished m Wait = Wait
 
 -- the reading from the cursor n on
@@ -108,22 +109,22 @@ sheet_d = refl
 sheets_e_g_h : (octals : Octal) →
     (text_at (Mode.Double octals) [] true 0 (bytes "\\377\"") ≡ Text (255 ∷ []) Stop.Quote 4 5)
     × (text_at (Mode.Double octals) [] true 0 (bytes "\\u{20AC}\"") ≡ Text (0xE2 ∷ 0x82 ∷ 0xAC ∷ []) Stop.Quote 8 9)
-    × (text_at (Mode.Double octals) [] true 0 (bytes "\\u{}\"") ≡ Refused 2 3)
-    × (text_at (Mode.Double octals) [] true 0 (bytes "\\u{110000}\"") ≡ Refused 2 10)
+    × (text_at (Mode.Double octals) [] true 0 (bytes "\\u{}\"") ≡ Refused Refusal.InvalidUnicodeEscape 3)
+    × (text_at (Mode.Double octals) [] true 0 (bytes "\\u{110000}\"") ≡ Refused Refusal.InvalidUnicodeEscape 10)
 unfolding text_at finished loses_break collected taken onto after_of unit_at escape letter_value digits fitted braced code_point is_scalar digit_value utf8 bytes
 sheets_e_g_h octals = (refl, refl, refl, refl)
 
 -- sheet f, and the same legend as the manual has it (document 02, P5). The byte begins nothing: `\442` closes no
 -- string, `\444` begins no variable; in a heredoc an LF from `\412` is lost before a variable, as one from `\n` is
 sheet_f :
-    (text_at (Mode.Double Octal.Rust) [] true 0 (bytes "\\400\"") ≡ Refused 3 4)
+    (text_at (Mode.Double Octal.Rust) [] true 0 (bytes "\\400\"") ≡ Refused Refusal.InvalidOctalEscape 4)
     × (text_at (Mode.Double Octal.Manual) [] true 0 (bytes "\\400\"") ≡ Text (0 ∷ []) Stop.Quote 4 5)
     × (text_at (Mode.Double Octal.Manual) [] true 0 (bytes "\\777\"") ≡ Text (255 ∷ []) Stop.Quote 4 5)
     × (text_at (Mode.Double Octal.Manual) [] true 0 (bytes "\\442\"") ≡ Text (bytes "\"") Stop.Quote 4 5)
     × (text_at (Mode.Double Octal.Manual) [] true 0 (bytes "\\444a\"") ≡ Text (bytes "$a") Stop.Quote 5 6)
     × (text_at (Mode.Heredoc Octal.Manual) (bytes "x") true 0 (bytes "a\\412$x;")
     ≡ Text (bytes "a") (Stop.Variable Follow.Other) 5 7)
-    × (text_at (Mode.Double Octal.Rust) [] false 0 (bytes "\\400") ≡ Refused 3 4)
+    × (text_at (Mode.Double Octal.Rust) [] false 0 (bytes "\\400") ≡ Refused Refusal.InvalidOctalEscape 4)
     × (text_at (Mode.Double Octal.Manual) [] false 0 (bytes "\\400") ≡ Wait)
 unfolding text_at finished loses_break heredoc_loses_break trimmed collected taken onto after_of unit_at escape letter_value digits fitted overflowing digit_value dollar name variable follow is_start is_identifier is_letter is_digit bytes
 sheet_f = (refl, refl, refl, refl, refl, refl, refl, refl)
@@ -132,7 +133,7 @@ sheet_l : text_at Mode.Nowdoc (bytes "EOT") true 0 (bytes "a\n  EOTX") ≡ Text 
 unfolding text_at finished loses_break collected taken onto after_of unit_at line judged matched indented closer is_blank bytes
 sheet_l = refl
 
-sheet_m : text_at Mode.Nowdoc (bytes "EOT") true 0 (bytes "a\n \tEOT") ≡ Refused 4 4
+sheet_m : text_at Mode.Nowdoc (bytes "EOT") true 0 (bytes "a\n \tEOT") ≡ Refused Refusal.InvalidDocIndentation 4
 unfolding text_at finished collected taken onto after_of unit_at line judged matched indented closer is_blank bytes
 sheet_m = refl
 

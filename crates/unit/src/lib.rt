@@ -2,7 +2,7 @@
 // The definitions and theorems over them stand in specs/ and proofs/; the code that follows them in the crates escape, interpolation, closer and text.
 #![tactic(auto)]
 
-use byte::Octal;
+use byte::{Octal, Refusal};
 
 // How a text is read: the Rust's two string routines, its four modes. Those with octal escapes bear the choice of what
 // one over 255 stands for.
@@ -80,9 +80,9 @@ pub enum TextUnit {
         from: usize,
         after: usize,
     },
-    // A refusal, by its number, and where.
+    // A refusal, and where.
     Fault {
-        number: u32,
+        refusal: Refusal,
         place: usize,
     },
     // The part ends before it is told.

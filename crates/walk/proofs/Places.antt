@@ -43,7 +43,7 @@ module _ (src : List ℕ) (m : Mark) (t : Tables) where
   still_next : (o : Outcome) → Still o → Kept (reached src m t o)
   unfolding reached
   still_next (Outcome.Told pieces after change finished) h = told_still pieces after change finished h
-  still_next (Outcome.Refused number place) h = λ k. refl
+  still_next (Outcome.Refused refusal place) h = λ k. refl
   still_next Outcome.Wait h = λ k. refl
 
 -- after an open gate, where the call has made x

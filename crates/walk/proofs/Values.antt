@@ -35,11 +35,11 @@ use Rattle.walk.proofs.Walks.{called_on_over, is_written_some}
 
 -- a refusal's number alone tells that a call was refused
 pub told : (a : Answer) → (refusal_in a ≡ 0 → ⊥) → (P : Type 0)
-    → ((number : ℕ) (span : Span) → a ≡ Answer.Refused number span → P) → P
+    → ((number : ℕ) (span : Span) → a ≡ Answer.Refused refusal span → P) → P
 unfolding refusal_in
 told Answer.Done h P f = absurd (h refl)
 told Answer.Finished h P f = absurd (h refl)
-told (Answer.Refused number span) h P f = f number span refl
+told (Answer.Refused refusal span) h P f = f number span refl
 
 module _ (call : Call) (src : List ℕ) (end : Bool) (s : Session) (l q : List ℕ) where
   abbrev Same : After → Type 0
@@ -49,7 +49,7 @@ module _ (call : Call) (src : List ℕ) (end : Bool) (s : Session) (l q : List �
       → Same (called_on call most src end s l q)
   unfolding called_on is_done
   unwritten zero e =
-      choice Same (eqb (lent_refusal src (length l) (length q) s) 0) _ _ (λ t. (refl, refl, refl))
+      shut_cases Same (lent_refusal src (length l) (length q) s) s l q _ (λ t. (refl, refl, refl))
       (λ t. (refl, refl, refl))
   unwritten (suc n) e =
       let one = called call src end s l q in

@@ -56,13 +56,13 @@ module _ (call : Call) (src : List ℕ) (end : Bool) (s : Session) (l q : List �
   unfolding gone_on is_done
   go_on Answer.Done later e = refl
   go_on Answer.Finished later e = absurd (false≢true e)
-  go_on (Answer.Refused number span) later e = absurd (false≢true e)
+  go_on (Answer.Refused refusal span) later e = absurd (false≢true e)
 
   go_over : (a : Answer) (later : After) → is_done a ≡ false → gone_on a now later ≡ now
   unfolding gone_on is_done
   go_over Answer.Done later e = absurd (false≢true (sym e))
   go_over Answer.Finished later e = refl
-  go_over (Answer.Refused number span) later e = refl
+  go_over (Answer.Refused refusal span) later e = refl
 
   pub called_on_on : (left : ℕ) → 0 < left → is_done now.turn.answer ≡ true
       → called_on call left src end s l q ≡ called_on Call.Step (left - 1) src end now.turn.session now.list now.pool
@@ -85,13 +85,13 @@ module _ (call : Call) (src : List ℕ) (end : Bool) (s : Session) (l q : List �
   unfolding counted is_done
   count_on Answer.Done later e = omega arith
   count_on Answer.Finished later e = absurd (false≢true e)
-  count_on (Answer.Refused number span) later e = absurd (false≢true e)
+  count_on (Answer.Refused refusal span) later e = absurd (false≢true e)
 
   count_over : (a : Answer) (later : ℕ) → is_done a ≡ false → counted a later ≡ 0
   unfolding counted is_done
   count_over Answer.Done later e = absurd (false≢true (sym e))
   count_over Answer.Finished later e = refl
-  count_over (Answer.Refused number span) later e = refl
+  count_over (Answer.Refused refusal span) later e = refl
 
   pub calls_done_on : (left : ℕ) → 0 < left → is_done now.turn.answer ≡ true
       → calls_done call left src end s l q
@@ -116,14 +116,14 @@ module _ (call : Call) (src : List ℕ) (end : Bool) (s : Session) (l q : List �
       go : (a : Answer) → now.turn.answer ≡ a → called_on call 1 src end s l q ≡ now
       go Answer.Done e = go_on now.turn.answer _ (rw e) ∙ rw (← e)
       go Answer.Finished e = rw e
-      go (Answer.Refused number span) e = rw e
+      go (Answer.Refused refusal span) e = rw e
 
 -- a done answer refuses nothing
 pub done_unrefused : (a : Answer) → is_done a ≡ true → refusal_in a ≡ 0
 unfolding is_done refusal_in
 done_unrefused Answer.Done e = refl
 done_unrefused Answer.Finished e = absurd (false≢true e)
-done_unrefused (Answer.Refused number span) e = absurd (false≢true e)
+done_unrefused (Answer.Refused refusal span) e = absurd (false≢true e)
 
 pub is_written_some : (most : ℕ) (a : After) → 0 < most → is_written most a ≡ eqb (refusal_in a.turn.answer) 0
 unfolding is_written

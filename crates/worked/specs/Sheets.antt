@@ -117,7 +117,7 @@ abbrev pub done : ℕ → List Written → Found
 done position tokens = record { answer = Answer.Done; position = position; tokens = tokens }
 
 abbrev pub refused : ℕ → Span → Found
-refused number span = record { answer = Answer.Refused number span; position = 0; tokens = [] }
+refused number span = record { answer = Answer.Refused refusal span; position = 0; tokens = [] }
 
 abbrev label : ℕ → ℕ → Frame
 label start len = Frame.Nowdoc (record { start = start; len = len })

@@ -6,7 +6,7 @@
 // closes, r where the label begins a row, w where the step waits.
 #![tactic(auto)]
 
-use byte::Octal;
+use byte::{Octal, Refusal};
 use outcome::Call;
 use source::Span;
 use state::{Answer, Choices, Frame, Label, Reading, Session, Slot, Turn};
@@ -75,7 +75,7 @@ fn print_answer<W: Write>(out: &mut W, answer: Answer, position: u32) -> io::Res
     match answer {
         Answer::Done => write!(out, " end {position}"),
         Answer::Finished => write!(out, " finished {position}"),
-        Answer::Refused { number, span } => print_refusal(out, number, span),
+        Answer::Refused { refusal, span } => print_refusal(out, number, span),
     }
 }
 
@@ -248,11 +248,11 @@ fn mark_of(answer: Answer) -> u8 {
     match answer {
         Answer::Done => b'c',
         Answer::Finished => b'?',
-        Answer::Refused { number, span } => {
-            if number == byte::WAIT {
+        Answer::Refused { refusal, span } => {
+            if number == Refusal::Wait {
                 return b'w';
             }
-            if number == byte::UNEXPECTED_END_OF_FILE {
+            if number == Refusal::UnexpectedEndOfFile {
                 return b'r';
             }
             b'?'

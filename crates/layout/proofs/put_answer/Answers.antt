@@ -10,5 +10,5 @@ returns c =
     elim c.match-a.branch [
       | in-Done w ↦ rw w.in-Done.is (laid_front _ _ _ _ (c.copy_from_slice.ensures.after ∙ w.numbers-is) refl)
       | in-Finished w ↦ rw w.in-Finished.is (laid_front _ _ _ _ (c.copy_from_slice.ensures.after ∙ w.numbers-is) refl)
-      | in-Refused w ↦ rw w.in-Refused.is (laid_front _ _ _ _ (c.copy_from_slice.ensures.after ∙ w.numbers-is) refl)
+      | in-Refused w ↦ rw (w.in-Refused.is, ← w.from-number.ensures) (laid_front _ _ _ _ (c.copy_from_slice.ensures.after ∙ w.numbers-is) refl)
     ]

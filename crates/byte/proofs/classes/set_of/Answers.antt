@@ -1,6 +1,5 @@
 -- `byte::classes::set_of` meets its contract: four rows of the table, a bit for each of their bytes. Assumes nothing.
 use native.Mathlib.Omega.{arith}
-use Rattle.byte.specs.Code.{Holds}
 use Rattle.byte.proofs.Table.{table_holds}
 use Rattle.byte.proofs.classes.set_of.Goals as goal
 
