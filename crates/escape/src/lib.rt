@@ -74,6 +74,8 @@ pub fn put_utf8(dst: &mut [u8], at: usize, code: u32)
     );
 }
 
+// `src`, `at` and `end` stay parameters: both public functions take them so, and only three others would share a struct.
+
 // Nothing is left: this at the announced end, else undecided.
 fn last(end: bool, unit: TextUnit) -> TextUnit
     ensures { result ≡ last end unit }
@@ -133,11 +135,8 @@ fn overflowing(octals: Octal, value: u32, n: usize) -> TextUnit
 fn fitted(octals: Octal, value: u32, n: usize) -> TextUnit
     ensures { result ≡ fitted octals value n }
 {
-    if value < 256 {
-        return TextUnit::Byte {
-            value: value as u8,
-            after: n,
-        };
+    if let Ok(value) = u8::try_from(value) {
+        return TextUnit::Byte { value, after: n };
     }
     overflowing(octals, value, n)
 }
