@@ -1,9 +1,10 @@
 -- An answer and a turn as numbers, for hosts in C and Rust (include/puretakoi.h).
 --   answer_numbers, refusal_in   an answer in five numbers, and its refusal alone, or 0
+--   is_unrefused                 whether a call was not refused
 --   unless_refused               what stands after a call, or where it is refused what stood before
 --   session_after                the session's slice: changed where the call is not refused, and then alone
 --   Turned                       a turn written back: the refusal or 0, and what the two slices hold
-use Rattle.std.specs.Prelude.{ℕ, List, [], ◌∷◌, ◌≡◌}
+use Rattle.std.specs.Prelude.{ℕ, List, [], ◌∷◌, ◌≡◌, Bool, true, false}
 use Rattle.byte.specs.Laid.{laid}
 use Rattle.byte.specs.Refusals.{number_of}
 use Rattle.state.specs.declared.Answer.{Answer}
@@ -20,6 +21,11 @@ unfoldable pub refusal_in : Answer → ℕ
 refusal_in Answer.Done = 0
 refusal_in Answer.Finished = 0
 refusal_in (Answer.Refused refusal span) = number_of refusal
+
+abbrev pub is_unrefused : Answer → Bool
+is_unrefused Answer.Done = true
+is_unrefused Answer.Finished = true
+is_unrefused (Answer.Refused refusal span) = false
 
 unfoldable pub unless_refused : Answer → List ℕ → List ℕ → List ℕ
 unless_refused Answer.Done after before = after

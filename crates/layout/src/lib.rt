@@ -8,7 +8,7 @@ ghost use Rattle.state.specs.Gates.{lent_refusal};
 ghost use Rattle.state.specs.Calls.{span_of};
 ghost use Rattle.layout.specs.Sessions.{frame_number, label_of, slot_numbers, frames_numbers, numbers_of, label_in, frame_in, slot_in, frames_in, depth_in, session_in};
 ghost use Rattle.layout.specs.Lent.{place_numbers};
-ghost use Rattle.layout.specs.Answers.{answer_numbers, refusal_in, Turned};
+ghost use Rattle.layout.specs.Answers.{answer_numbers, is_unrefused, refusal_in, Turned};
 
 use byte::Refusal;
 use source::Span;
@@ -229,6 +229,13 @@ pub fn put_answer(answer: &mut [u32], a: Answer)
         }
     };
     answer[..5].copy_from_slice(&numbers);
+}
+
+// Whether a call was not refused.
+pub fn is_unrefused(a: Answer) -> bool
+    ensures { result ≡ is_unrefused a }
+{
+    matches!(a, Answer::Done | Answer::Finished)
 }
 
 // An answer's refusal, or 0.

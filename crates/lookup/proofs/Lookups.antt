@@ -1,5 +1,6 @@
 -- The functions of this crate on each way through them: the loop keeps `Searching`. Assumes nothing.
 use Prim.Native.Nat.{ℕ, zero, suc, ◌+◌, ◌-◌, ◌*◌, ◌/◌, ◌≤◌, ◌<◌}
+use Rattle.byte.specs.declared.Refusal.{Refusal}
 use mathlib.Core.Path.{◌≡◌, refl, sym, ap, ◌∙◌}
 use mathlib.Core.List.{List}
 use native.Mathlib.Omega.{arith}
@@ -9,6 +10,9 @@ use lib.ListN.{length, get_or}
 use mir.Syntax.{w32}
 use mir.Val.{Fits}
 use borrow.Author.Tests.{le-leb, lt-leb, leb-true, ne_eqb}
+use Rattle.std.specs.Prelude.{Ok}
+use Rattle.std.specs.Prelude.{Err}
+use Rattle.std.specs.Prelude.{Result}
 use Rattle.source.specs.Cursor.{origin}
 use Rattle.byte.proofs.Tests.{unrefused}
 use Rattle.std.specs.Prelude.{Option, None, Some, SomeIff}
@@ -118,19 +122,19 @@ pub record Bounded (list count : ℕ) : Type 0 where
   pub places : list / 8 ≤ 65537
   pub counted : count ≤ list / 8
 
-pub find_bounded : (list count : ℕ) → find_refusal list count ≡ 0 → Bounded list count
+pub find_bounded : (list count : ℕ) → find_refusal list count ≡ Ok tt → Bounded list count
 unfolding find_refusal
 find_bounded list count e =
-    let large = unrefused (leb (list / 8) 65537) _ 10 e in
-    let above = unrefused (leb count (list / 8)) 0 11 large.1 in
+    let large = unrefused (leb (list / 8) 65537) _ _ e in
+    let above = unrefused (leb count (list / 8)) _ _ large.1 in
     record { places = leb-true (list / 8) 65537 large.0; counted = leb-true count (list / 8) above.0 }
 
-module _ (list : List ℕ) (count byte number : ℕ) (f : number ≡ find_refusal (length list) count) where
-  pub find_refused : (r : Lookup) → (number ≡ 0 → ⊥) → r ≡ Lookup.Refused refusal origin → r ≡ looked_up list count byte
+module _ (list : List ℕ) (count byte : ℕ) (shut : Result (Unit {0}) Refusal) (f : shut ≡ find_refusal (length list) count) where
+  pub find_refused : (r : Lookup) (refusal : Refusal) → shut ≡ Err refusal → r ≡ Lookup.Refused refusal origin → r ≡ looked_up list count byte
   unfolding looked_up
-  find_refused r h e = rw (← f, ne_eqb number 0 h) e
+  find_refused r refusal h e = rw (← f, h) e
 
-  module _ (h : number ≡ 0) where
+  module _ (h : shut ≡ Ok tt) where
     pub find_few : count ≤ 65537
     find_few = let b = find_bounded (length list) count (sym f ∙ h) in omega (arith, b.places, b.counted)
 

@@ -7,13 +7,14 @@
 --   search_in       a search over the records from low on, before high, one look a round, of at most so many rounds
 --   searched        the same with as many rounds as there are records: `searched_on`, `searched_over`
 --                   (proofs/Searches.antt) say that it never wants more
---   find_refusal    11 for a list over 65,537 places, then 12 for a count above its places, or 0. The list has so many
+--   find_refusal    11 for a list over 65,537 places, then 12 for a count above its places, or none. The list has so many
 --                   numbers
 --   told            what a search over a list comes to: what was found, the number of looks, and the end
 --   looked_up       the refusal, at the script's beginning; or what the search comes to
 -- FullWalks.antt has the full walk. Where positions never fall both find the same; on other lists only this is
 -- promised.
-use Rattle.std.specs.Prelude.{ℕ, zero, suc, ◌+◌, ◌-◌, ◌*◌, ◌/◌, List, [], ◌∷◌, leb, eqb, length, get_or, if◌then◌else◌, Option, None, Some}
+use Rattle.std.specs.Prelude.{ℕ, Result, Ok, Err, zero, suc, ◌+◌, ◌-◌, ◌*◌, ◌/◌, List, [], ◌∷◌, leb, eqb, length, get_or, if◌then◌else◌, Option, None, Some}
+use Rattle.byte.specs.declared.Refusal.{Refusal}
 use Rattle.byte.specs.Refusals.{too_large, bad_session}
 use Rattle.source.specs.Cursor.{origin}
 use Rattle.lookup.specs.declared.Lookup.{Lookup}
@@ -54,14 +55,18 @@ search_in (suc rounds) position byte low high =
 abbrev pub searched : (ℕ → ℕ) → ℕ → ℕ → ℕ → Search
 searched position byte low high = search_in (high - low) position byte low high
 
-unfoldable pub find_refusal : ℕ → ℕ → ℕ
+unfoldable pub find_refusal : ℕ → ℕ → Result (Unit {0}) Refusal
 find_refusal numbers count =
-    if leb (numbers / 8) 65537 then (if leb count (numbers / 8) then 0 else bad_session) else too_large
+    if leb (numbers / 8) 65537 then (if leb count (numbers / 8) then Ok tt else Err bad_session) else Err too_large
 
 abbrev pub told : List ℕ → Search → Lookup
 told list s = Lookup.Told s.found (length s.trail) (end_in list s.found)
 
+-- what was found, or the refusal
+abbrev pub unless_refused : Result (Unit {0}) Refusal → Lookup → Lookup
+unless_refused (Ok passes) found = found
+unless_refused (Err refusal) found = Lookup.Refused refusal origin
+
 unfoldable pub looked_up : List ℕ → ℕ → ℕ → Lookup
 looked_up list count byte =
-    if eqb (find_refusal (length list) count) 0 then told list (searched (position_in list) byte 0 count)
-    else Lookup.Refused (find_refusal (length list) count) origin
+    unless_refused (find_refusal (length list) count) (told list (searched (position_in list) byte 0 count))

@@ -22,35 +22,33 @@ pub enum Lookup {
     },
     // Nothing was looked at.
     Refused {
-        number: u32,
+        refusal: Refusal,
         span: Span,
     },
 }
 
-// Refusals 11 and 12 of `find`, or 0, of a list of so many numbers.
+// Refusals 11 and 12 of `find`, of a list of so many numbers.
 #[tactic(auto, unfolding(crate::specs::Lookups::find_refusal))]
-fn find_refusal(list: usize, count: usize) -> u32
+fn find_refusal(list: usize, count: usize) -> Result<(), Refusal>
     ensures { result ≡ find_refusal list count }
 {
     if 65537 < list / 8 {
-        return Refusal::TooLarge;
+        return Err(Refusal::TooLarge);
     }
     if list / 8 < count {
-        return Refusal::BadSession;
+        return Err(Refusal::BadSession);
     }
-    0
+    Ok(())
 }
 
 // A refusal of a call without a session bears a script's beginning.
-fn refuse(number: u32) -> Lookup
-    ensures { result ≡ Lookup.Refused number origin }
+fn refuse(refusal: Refusal) -> Lookup
+    ensures { result ≡ Lookup.Refused refusal origin }
 {
-    let span = Span {
-        line: 1,
-        column: 1,
-        position: 0,
-    };
-    Lookup::Refused { refusal, span }
+    Lookup::Refused {
+        refusal,
+        span: state::origin(),
+    }
 }
 
 // The number of the last of so many records.
@@ -106,9 +104,8 @@ fn search(list: &[u32], count: u32, at: usize) -> Lookup
 pub fn find(list: &[u32], count: usize, at: usize) -> Lookup
     ensures { result ≡ looked_up list.now count at }
 {
-    let number = find_refusal(list.len(), count);
-    if number != 0 {
-        return refuse(number);
+    if let Err(refusal) = find_refusal(list.len(), count) {
+        return refuse(refusal);
     }
     search(list, count as u32, at)
 }

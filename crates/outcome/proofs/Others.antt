@@ -9,7 +9,7 @@ use mathlib.Core.List.{List, [], ◌∷◌, ◌++◌}
 use lib.ListN.{drop}
 use Rattle.byte.specs.Words.{◌is◌, every}
 use Rattle.byte.specs.Bytes.{is_start}
-use Rattle.byte.specs.Refusals.{is_among}
+use Rattle.byte.specs.Words.{is_one_of}
 use Rattle.byte.proofs.Tests.{choice}
 use Rattle.token.specs.Kinds.{inline_html, string_part, question_arrow, arrow}
 use Rattle.unit.specs.declared.Indentation.{Indentation}
@@ -34,7 +34,7 @@ TellsNone (Outcome.Refused refusal place) = Unit {0}
 TellsNone Outcome.Wait = Unit {0}
 
 stop_kind_other : (m : Mode) (stop : Stop) → is_literal (stop_kind m stop) ≡ false
-unfolding is_literal is_among stop_kind quote_kind doc_kind
+unfolding is_literal is_one_of stop_kind quote_kind doc_kind
 stop_kind_other Mode.Single Stop.Quote = refl
 stop_kind_other (Mode.Double octals) Stop.Quote = refl
 stop_kind_other (Mode.DoubleQuote octals) Stop.Quote = refl
@@ -51,7 +51,7 @@ stop_kind_other m (Stop.Label Indentation.Tab amount) = refl
 stop_kind_other m (Stop.Label Indentation.Mixed amount) = refl
 
 tag_kind_other : (kind : OpenTagKind) → is_literal (tag_kind kind) ≡ false
-unfolding is_literal is_among tag_kind
+unfolding is_literal is_one_of tag_kind
 tag_kind_other OpenTagKind.Full = refl
 tag_kind_other OpenTagKind.Echo = refl
 tag_kind_other OpenTagKind.Short = refl
@@ -67,14 +67,14 @@ parted_none kind n [] p e f = rw f
 parted_none kind n (b ∷ vs) p e f = rw (e, f)
 
 pub texted_none : (m : Mode) (n : ℕ) (xs : List ℕ) (r : unit.Reading) → TellsNone (texted m n xs r)
-unfolding texted is_literal is_among
+unfolding texted is_literal is_one_of
 texted_none m n xs (unit.Text value stop from after) = parted_none string_part n value _ refl (stop_kind_other m stop)
 texted_none m n xs (unit.Refused refusal place) = tt
 texted_none m n xs unit.Wait = tt
 
 module _ (end : Bool) (n : ℕ) where
   pub initial_none : (xs : List ℕ) → TellsNone (initial end n xs)
-  unfolding initial inlined every is_literal is_among
+  unfolding initial inlined every is_literal is_one_of
   initial_none xs = go (tagged end n xs)
     where
       go : (t : Tagged) → TellsNone (inlined n xs t)
@@ -83,7 +83,7 @@ module _ (end : Bool) (n : ℕ) where
       go Tagged.Undecided = tt
 
   varname_none : (xs : List ℕ) (r : Option ℕ) → TellsNone (varname n xs r)
-  unfolding varname every is_literal is_among
+  unfolding varname every is_literal is_one_of
   varname_none xs (Some k) = if_none (is_bracketed (drop k xs)) _ _ refl refl
   varname_none xs None = tt
 
@@ -93,7 +93,7 @@ module _ (end : Bool) (n : ℕ) where
   looking_for_varname_none (b ∷ xs) = if_none (is_start b) _ _ (varname_none (b ∷ xs) (named end 1 xs)) refl
 
   property_none : (xs : List ℕ) (r : Option ℕ) → TellsNone (property n xs r)
-  unfolding property every is_literal is_among
+  unfolding property every is_literal is_one_of
   property_none xs (Some k) = refl
   property_none xs None = tt
 
@@ -103,12 +103,12 @@ module _ (end : Bool) (n : ℕ) where
   arrow_head_none kind k e xs (b ∷ ys) = if_none (b is ">") _ _ (rw e) tt
 
   questioned_none : (xs ys : List ℕ) → TellsNone (questioned end n xs ys)
-  unfolding questioned is_literal is_among
+  unfolding questioned is_literal is_one_of
   questioned_none xs [] = if_none end _ _ tt tt
   questioned_none xs (b ∷ ys) = if_none (b is "-") _ _ (arrow_head_none question_arrow 2 refl xs ys) tt
 
   pub looking_for_property_none : (xs : List ℕ) → TellsNone (looking_for_property end n xs)
-  unfolding looking_for_property is_literal is_among
+  unfolding looking_for_property is_literal is_one_of
   looking_for_property_none [] = if_none end _ _ tt tt
   looking_for_property_none (b ∷ xs) =
       if_none (b is "?") _ _ (questioned_none (b ∷ xs) xs)

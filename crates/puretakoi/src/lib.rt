@@ -54,10 +54,10 @@ pub extern "C" fn puretakoi_past(part: &[u8], span: &mut [u32]) -> u32
     ensures { Past part.now span.old result span.new }
 {
     if 65536 < part.len() {
-        return Refusal::TooLarge;
+        return u32::from(Refusal::TooLarge);
     }
     if span.len() != 3 {
-        return Refusal::OutOfPlace;
+        return u32::from(Refusal::OutOfPlace);
     }
     let from = Span {
         line: span[0],
@@ -65,7 +65,7 @@ pub extern "C" fn puretakoi_past(part: &[u8], span: &mut [u32]) -> u32
         position: span[2],
     };
     if !is_small(from) {
-        return Refusal::BadSession;
+        return u32::from(Refusal::BadSession);
     }
     let to = source::past(part, from);
     span.copy_from_slice(&[to.line, to.column, to.position]);
@@ -99,10 +99,10 @@ pub extern "C" fn puretakoi_fresh(choices: u32, session: &mut [u32]) -> u32
     ensures { Begun choices session.old result session.new }
 {
     if session.len() < 199 {
-        return Refusal::OutOfPlace;
+        return u32::from(Refusal::OutOfPlace);
     }
     if !layout::are_choices(choices) {
-        return Refusal::BadSession;
+        return u32::from(Refusal::BadSession);
     }
     layout::put_session(session, state::fresh(layout::choices_in(choices)));
     0
@@ -124,7 +124,7 @@ fn turns(
     ensures { Turns call src.now end most session.old list.old pool.old answer.old result session.new list.new pool.new answer.new }
 {
     if !are_long(session.len(), answer.len()) {
-        return Refusal::OutOfPlace;
+        return u32::from(Refusal::OutOfPlace);
     }
     let r = walk::turns(call, src, end != 0, most, session, list, pool);
     let a = r.answer;
@@ -224,7 +224,7 @@ pub extern "C" fn puretakoi_skip(
     ensures { Crossed (skipped src.now (session_in session.old) count) session.old answer.old result session.new answer.new }
 {
     let Some(s) = session_of(session, answer) else {
-        return Refusal::OutOfPlace;
+        return u32::from(Refusal::OutOfPlace);
     };
     let t = state::skip(src, s, count);
     layout::put_turn(t, session, answer)
@@ -244,7 +244,7 @@ pub extern "C" fn puretakoi_push(
     ensures { Crossed (pushed src.now (session_in session.old) (frame_in frame start len)) session.old answer.old result session.new answer.new }
 {
     let Some(s) = session_of(session, answer) else {
-        return Refusal::OutOfPlace;
+        return u32::from(Refusal::OutOfPlace);
     };
     let t = state::push(src, s, layout::frame_in(frame, start, len));
     layout::put_turn(t, session, answer)
@@ -257,7 +257,7 @@ pub extern "C" fn puretakoi_pop(src: &[u8], session: &mut [u32], answer: &mut [u
     ensures { Crossed (popped src.now (session_in session.old)) session.old answer.old result session.new answer.new }
 {
     let Some(s) = session_of(session, answer) else {
-        return Refusal::OutOfPlace;
+        return u32::from(Refusal::OutOfPlace);
     };
     let t = state::pop(src, s);
     layout::put_turn(t, session, answer)
@@ -298,7 +298,7 @@ pub extern "C" fn puretakoi_find(list: &[u32], count: usize, at: usize, found: &
     ensures { Finds list.now count at found.old result found.new }
 {
     if found.len() < 3 {
-        return Refusal::OutOfPlace;
+        return u32::from(Refusal::OutOfPlace);
     }
     match lookup::find(list, count, at) {
         Lookup::Told {
@@ -312,6 +312,6 @@ pub extern "C" fn puretakoi_find(list: &[u32], count: usize, at: usize, found: &
             }
             0
         }
-        Lookup::Refused { number, .. } => number,
+        Lookup::Refused { refusal, .. } => u32::from(refusal),
     }
 }

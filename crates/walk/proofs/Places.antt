@@ -8,6 +8,8 @@ use mathlib.Core.Bool.{Bool, true, false, false≢true}
 use mathlib.Core.List.{List}
 use lib.Dec.{eqb}
 use lib.ListN.{length}
+use Rattle.lexer.proofs.Nexts.{roomy_cases}
+use Rattle.std.specs.Prelude.{Ok}
 use Rattle.byte.proofs.Tests.{choice}
 use Rattle.state.specs.declared.Session.{Session}
 use Rattle.state.specs.Gates.{lent_refusal}
@@ -36,9 +38,9 @@ module _ (src : List ℕ) (m : Mark) (t : Tables) where
       → Still (Outcome.Told pieces after change finished)
       → Kept (reached src m t (Outcome.Told pieces after change finished))
   unfolding reached is_done
-  told_still pieces after change true h = choice Kept (eqb (room_for m t pieces) 0) _ _ (λ e k. h) (λ e k. refl)
+  told_still pieces after change true h = roomy_cases Kept (room_for m t pieces) m t _ (λ e k. h) (λ refusal e k. refl)
   told_still pieces after change false h =
-      choice Kept (eqb (room_for m t pieces) 0) _ _ (λ e k. absurd (false≢true (sym k))) (λ e k. refl)
+      roomy_cases Kept (room_for m t pieces) m t _ (λ e k. absurd (false≢true (sym k))) (λ refusal e k. refl)
 
   still_next : (o : Outcome) → Still o → Kept (reached src m t o)
   unfolding reached
@@ -48,7 +50,7 @@ module _ (src : List ℕ) (m : Mark) (t : Tables) where
 
 -- after an open gate, where the call has made x
 module _ (call : Call) (src : List ℕ) (end : Bool) (s : Session) (l q : List ℕ)
-    (gate : lent_refusal src (length l) (length q) s ≡ 0) (x : Next) (l' q' : List ℕ)
+    (gate : lent_refusal src (length l) (length q) s ≡ Ok tt) (x : Next) (l' q' : List ℕ)
     (c : Committed src (mark_of s) l q (call_outcome call src end s) x l' q') where
   opened : Lent src s (length l) (length q)
   opened = lent_opened src s (length l) (length q) gate
@@ -72,6 +74,6 @@ module _ (call : Call) (src : List ℕ) (end : Bool) (s : Session) (l q : List �
   pub pool_kept : length q' ≡ length q
   pool_kept = ap length place_gives.pool ∙ place_sound.pool
 
-  pub place_next : lent_refusal src (length l') (length q') (turn_of s x).session ≡ 0
+  pub place_next : lent_refusal src (length l') (length q') (turn_of s x).session ≡ Ok tt
   place_next =
       rw (place_gives.list, place_gives.pool) (rw (← place_gives.turn) at (call_open call src end s l q gate))

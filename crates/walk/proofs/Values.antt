@@ -3,6 +3,7 @@
 --   read-back    what numbers are read as after a walk is the walk's session
 --   walk_value   the same for the session by value
 use Prim.Native.Nat.{ℕ, zero, suc}
+use Rattle.byte.specs.declared.Refusal.{Refusal}
 use mathlib.Core.Path.{◌≡◌, refl, sym, ap, subst, ◌∙◌}
 use mathlib.Core.Bool.{Bool, true, false}
 use mathlib.Core.List.{List}
@@ -12,6 +13,7 @@ use lib.ListN.{length}
 use borrow.Author.Tests.{eqb-false}
 use mir.Val.{Val}
 use denote.Laws.{Is}
+use Rattle.lexer.proofs.Nexts.{shut_cases}
 use Rattle.byte.specs.Laid.{laid}
 use Rattle.byte.proofs.Tests.{choice}
 use Rattle.source.specs.declared.Span.{Span}
@@ -20,7 +22,7 @@ use Rattle.state.specs.declared.Session.{Session}
 use Rattle.state.specs.Gates.{lent_refusal}
 use Rattle.state.specs.contracts.Session as session-type
 use Rattle.layout.specs.Sessions.{numbers_of, session_in}
-use Rattle.layout.specs.Answers.{refusal_in}
+use Rattle.layout.specs.Answers.{is_unrefused}
 use Rattle.layout.specs.Lent.{Rewritten}
 use Rattle.layout.proofs.Again.{session_again}
 use Rattle.outcome.specs.declared.Call.{Call}
@@ -33,13 +35,12 @@ use Rattle.walk.specs.Walks.{is_written, Walks}
 use Rattle.walk.proofs.Held.{session_held}
 use Rattle.walk.proofs.Walks.{called_on_over, is_written_some}
 
--- a refusal's number alone tells that a call was refused
-pub told : (a : Answer) → (refusal_in a ≡ 0 → ⊥) → (P : Type 0)
-    → ((number : ℕ) (span : Span) → a ≡ Answer.Refused refusal span → P) → P
-unfolding refusal_in
-told Answer.Done h P f = absurd (h refl)
-told Answer.Finished h P f = absurd (h refl)
-told (Answer.Refused refusal span) h P f = f number span refl
+-- an answer that is not unrefused is a refusal
+pub told : (a : Answer) → is_unrefused a ≡ false → (P : Type 0)
+    → ((refusal : Refusal) (span : Span) → a ≡ Answer.Refused refusal span → P) → P
+told Answer.Done h P f = absurd (false≢true (sym h))
+told Answer.Finished h P f = absurd (false≢true (sym h))
+told (Answer.Refused refusal span) h P f = f refusal span refl
 
 module _ (call : Call) (src : List ℕ) (end : Bool) (s : Session) (l q : List ℕ) where
   abbrev Same : After → Type 0
@@ -50,15 +51,15 @@ module _ (call : Call) (src : List ℕ) (end : Bool) (s : Session) (l q : List �
   unfolding called_on is_done
   unwritten zero e =
       shut_cases Same (lent_refusal src (length l) (length q) s) s l q _ (λ t. (refl, refl, refl))
-      (λ t. (refl, refl, refl))
+      (λ refusal t. (refl, refl, refl))
   unwritten (suc n) e =
       let one = called call src end s l q in
-      let refused : refusal_in one.turn.answer ≡ 0 → ⊥ =
-      eqb-false _ _ (sym (is_written_some (suc n) one (omega arith)) ∙ e) in
-      told one.turn.answer refused _ (λ number span f.
+      let refused : is_unrefused one.turn.answer ≡ false =
+      sym (is_written_some (suc n) one (omega arith)) ∙ e in
+      told one.turn.answer refused _ (λ refusal span f.
       let over : is_done one.turn.answer ≡ false = rw f in
       rw (called_on_over call src end s l q (suc n) (omega arith) over)
-      ((call_kept src s l q call end).back number span f))
+      ((call_kept src s l q call end).back refusal span f))
 
 module _ (call : Call) (most : ℕ) (src : List ℕ) (end : Bool) (n l q : List ℕ) where
   pub read_back : (n' : List ℕ) → (is_written most (called call src end (session_in n) l q) ≡ false → n' ≡ n)

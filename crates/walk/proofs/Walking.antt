@@ -11,6 +11,7 @@ use lib.Dec.{eqb, ltb}
 use lib.ListN.{length, get_or, drop, set}
 use lib.Seq.{get_or-set_same}
 use borrow.Author.Tests.{ltb-true, ltb-false, eqb-true, eq-eqb, not-true, not-false}
+use Rattle.std.specs.Prelude.{Ok}
 use Rattle.byte.specs.Laid.{laid}
 use Rattle.state.specs.declared.Answer.{Answer}
 use Rattle.state.specs.declared.Frame.{Frame}
@@ -22,7 +23,7 @@ use Rattle.state.specs.Bounds.{is_frame, no_slot}
 use Rattle.state.specs.Calls.{done}
 use Rattle.state.specs.Gates.{lent_refusal}
 use Rattle.layout.specs.Sessions.{slot_numbers, frames_in, are_choices, choices_in, depth_in, session_in}
-use Rattle.layout.specs.Answers.{refusal_in}
+use Rattle.layout.specs.Answers.{is_unrefused}
 use Rattle.layout.specs.Lent.{Rewritten}
 use Rattle.layout.proofs.Sessions.{length_frames_in}
 use Rattle.layout.proofs.Again.{is_held, depth_some}
@@ -57,7 +58,7 @@ pub record Walking (first : Call) (most : ℕ) (src : List ℕ) (end : Bool) (n�
   pub same : called_on first most src end (session_in n₀) l₀ q₀ ≡ called_on call left src end (standing mark depth n choices) l q
   pub count : calls_done first most src end (session_in n₀) l₀ q₀ + left
       ≡ most + calls_done call left src end (standing mark depth n choices) l q
-  pub gate : lent_refusal src (length l) (length q) (standing mark depth n choices) ≡ 0
+  pub gate : lent_refusal src (length l) (length q) (standing mark depth n choices) ≡ Ok tt
   pub top : f ≡ top_in n depth
   pub low : 1 ≤ depth
   pub high : depth ≤ 64
@@ -182,17 +183,17 @@ module _ (first : Call) (most : ℕ) (src : List ℕ) (end : Bool) (n₀ l₀ q�
       walking_pool = pool_kept call src end here l q w.gate x l' q' made_so ∙ w.pool
 
       -- whether the numbers are written where x is the last
-      written_so : is_written most one ≡ (ltb left most || eqb (refusal_in x.answer) 0)
+      written_so : is_written most one ≡ (ltb left most || is_unrefused x.answer)
       written_so = is_written_some most one w.some ∙ go (ltb left most) refl
         where
           go : (t : Bool) → ltb left most ≡ t
-              → eqb (refusal_in one.turn.answer) 0 ≡ (t || eqb (refusal_in x.answer) 0)
+              → is_unrefused one.turn.answer ≡ (t || is_unrefused x.answer)
           go true e =
               rw (done_unrefused one.turn.answer (w.begun (λ z. omega (arith, z, ltb-true left most e))))
           go false e =
               let whole : left ≡ most = omega (arith, w.least, ltb-false left most e) in
-              ap (λ (a : After). eqb (refusal_in a.turn.answer) 0) (w.fresh whole)
-              ∙ ap (λ (a : Answer). eqb (refusal_in a) 0) answer_same
+              ap (λ (a : After). is_unrefused a.turn.answer) (w.fresh whole)
+              ∙ ap (λ (a : Answer). is_unrefused a) answer_same
 
       module _ (flag : Bool) (d : flag ≡ is_done x.answer) where
         -- it is the last: the frame stays
@@ -217,10 +218,10 @@ module _ (first : Call) (most : ℕ) (src : List ℕ) (end : Bool) (n₀ l₀ q�
               holds = λ z. subst (λ (s : Session). Rewritten n₀ s n') ends (placed_so x.mark n' (e ∙ rw (sym written_so ∙ z)));
             }
           where
-            untouched : (ltb left most || eqb (refusal_in x.answer) 0) ≡ false → n' ≡ n₀
+            untouched : (ltb left most || is_unrefused x.answer) ≡ false → n' ≡ n₀
             untouched z = e ∙ rw z (go (ltb left most) refl z)
               where
-                go : (b : Bool) → ltb left most ≡ b → (b || eqb (refusal_in x.answer) 0) ≡ false → n ≡ n₀
+                go : (b : Bool) → ltb left most ≡ b → (b || is_unrefused x.answer) ≡ false → n ≡ n₀
                 go true k y = absurd (false≢true (sym y))
                 go false k y = w.still (omega (arith, w.least, ltb-false left most k))
 
@@ -238,7 +239,7 @@ module _ (first : Call) (most : ℕ) (src : List ℕ) (end : Bool) (n₀ l₀ q�
           done_so : is_done x.answer ≡ true
           done_so = sym d ∙ not-false flag t
 
-          gate_next : lent_refusal src (length l') (length q') turned ≡ 0
+          gate_next : lent_refusal src (length l') (length q') turned ≡ Ok tt
           gate_next = place_next call src end here l q w.gate x l' q' made_so
 
           deep_next : (1 ≤ turned.depth) × (turned.depth ≤ 64)

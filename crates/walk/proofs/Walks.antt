@@ -5,6 +5,7 @@
 --   is_written_some, is_written_refused       whether numbers are written: a call is wanted, or the first is refused
 --   walks                                     the ruleset of `turns`: the gate is shut, or no call is wanted
 use Prim.Native.Nat.{ℕ, zero, suc, ◌+◌, ◌-◌, ◌<◌}
+use Rattle.byte.specs.declared.Refusal.{Refusal}
 use mathlib.Core.Path.{◌≡◌, refl, sym, ◌∙◌}
 use mathlib.Core.Bool.{Bool, true, false, false≢true}
 use mathlib.Core.List.{List}
@@ -12,12 +13,15 @@ use native.Mathlib.Omega.{arith}
 use lib.Dec.{eqb}
 use lib.ListN.{length}
 use borrow.Author.Tests.{ne_eqb}
+use Rattle.std.specs.Prelude.{Ok}
+use Rattle.std.specs.Prelude.{Err}
+use Rattle.std.specs.Prelude.{Result}
 use Rattle.source.specs.Cursor.{origin}
 use Rattle.state.specs.declared.Answer.{Answer}
 use Rattle.state.specs.declared.Session.{Session}
 use Rattle.state.specs.Gates.{lent_refusal}
 use Rattle.layout.specs.Sessions.{session_in}
-use Rattle.layout.specs.Answers.{refusal_in}
+use Rattle.layout.specs.Answers.{is_unrefused}
 use Rattle.outcome.specs.declared.Call.{Call}
 use Rattle.lexer.specs.Turns.{After, refusing}
 use Rattle.lexer.specs.Calls.{gated, called}
@@ -32,7 +36,7 @@ module _ (src : List ℕ) (end : Bool) (s : Session) (l q : List ℕ) where
   walked_some zero h = absurd (omega (arith, h))
   walked_some (suc n) h = refl
 
-  pub walked_open : lent_refusal src (length l) (length q) s ≡ 0
+  pub walked_open : lent_refusal src (length l) (length q) s ≡ Ok tt
       → (n : ℕ) → called_on Call.Step n src end s l q ≡ walked n src end s l q
   unfolding called_on walked
   walked_open gate zero = rw gate
@@ -41,12 +45,12 @@ module _ (src : List ℕ) (end : Bool) (s : Session) (l q : List ℕ) where
   pub walked_called : (n : ℕ) → called_on Call.Step n src end s l q ≡ gated src s l q (walked n src end s l q)
   unfolding called_on walked gone_on called
   walked_called zero = refl
-  walked_called (suc n) = go (eqb (lent_refusal src (length l) (length q) s) 0) refl
+  walked_called (suc n) = go (lent_refusal src (length l) (length q) s) refl
     where
-      go : (t : Bool) → eqb (lent_refusal src (length l) (length q) s) 0 ≡ t
+      go : (told : Result (Unit {0}) Refusal) → lent_refusal src (length l) (length q) s ≡ told
           → called_on Call.Step (suc n) src end s l q ≡ gated src s l q (walked (suc n) src end s l q)
-      go true e = rw e
-      go false e = rw e
+      go (Ok tt) e = rw e
+      go (Err refusal) e = rw e
 
 module _ (call : Call) (src : List ℕ) (end : Bool) (s : Session) (l q : List ℕ) where
   abbrev now : After
@@ -119,32 +123,32 @@ module _ (call : Call) (src : List ℕ) (end : Bool) (s : Session) (l q : List �
       go (Answer.Refused refusal span) e = rw e
 
 -- a done answer refuses nothing
-pub done_unrefused : (a : Answer) → is_done a ≡ true → refusal_in a ≡ 0
-unfolding is_done refusal_in
+pub done_unrefused : (a : Answer) → is_done a ≡ true → is_unrefused a ≡ true
+unfolding is_done
 done_unrefused Answer.Done e = refl
 done_unrefused Answer.Finished e = absurd (false≢true e)
 done_unrefused (Answer.Refused refusal span) e = absurd (false≢true e)
 
-pub is_written_some : (most : ℕ) (a : After) → 0 < most → is_written most a ≡ eqb (refusal_in a.turn.answer) 0
+pub is_written_some : (most : ℕ) (a : After) → 0 < most → is_written most a ≡ is_unrefused a.turn.answer
 unfolding is_written
 is_written_some most a h = rw (ne_eqb most 0 (λ z. omega (arith, h, z)))
 
-pub is_written_refused : (most : ℕ) (a : After) → (refusal_in a.turn.answer ≡ 0 → ⊥) → is_written most a ≡ false
+pub is_written_refused : (most : ℕ) (a : After) → is_unrefused a.turn.answer ≡ false → is_written most a ≡ false
 unfolding is_written
 is_written_refused zero a h = refl
-is_written_refused (suc most) a h = is_written_some (suc most) a (omega arith) ∙ ne_eqb _ 0 h
+is_written_refused (suc most) a h = is_written_some (suc most) a (omega arith) ∙ h
 
 -- the gate is shut, or no call is wanted
-module _ (call : Call) (src : List ℕ) (end : Bool) (numbers l q : List ℕ) (most shut : ℕ)
+module _ (call : Call) (src : List ℕ) (end : Bool) (numbers l q : List ℕ) (most : ℕ) (shut : Result (Unit {0}) Refusal)
     (e : shut ≡ lent_refusal src (length l) (length q) (session_in numbers)) where
   abbrev alone : After
   alone = called call src end (session_in numbers) l q
 
-  pub walk_none : shut ≡ 0 → most ≡ 0
+  pub walk_none : shut ≡ Ok tt → most ≡ 0
       → Walks call most src end numbers l q (record { answer = Answer.Done; done = 0 }) numbers l q
   unfolding called_on calls_done is_written
   walk_none n z =
-      let gate : lent_refusal src (length l) (length q) (session_in numbers) ≡ 0 = sym e ∙ n in
+      let gate : lent_refusal src (length l) (length q) (session_in numbers) ≡ Ok tt = sym e ∙ n in
       rw z
       (record {
         answer = rw gate;
@@ -155,20 +159,20 @@ module _ (call : Call) (src : List ℕ) (end : Bool) (numbers l q : List ℕ) (m
         holds = λ x. absurd (false≢true x);
       })
 
-  module _ (n : shut ≡ 0 → ⊥) where
+  module _ (refusal : Refusal) (n : shut ≡ Err refusal) where
     shut_on : (m : ℕ) → called_on call m src end (session_in numbers) l q
-        ≡ refusing shut origin (session_in numbers) l q
+        ≡ refusing refusal origin (session_in numbers) l q
     unfolding called_on called gone_on
-    shut_on zero = rw (← e, ne_eqb shut 0 n)
-    shut_on (suc m) = rw (← e, ne_eqb shut 0 n)
+    shut_on zero = rw (← e, n)
+    shut_on (suc m) = rw (← e, n)
 
     pub walk_shut :
-        Walks call most src end numbers l q (record { answer = Answer.Refused shut origin; done = 0 }) numbers l q
-    unfolding called refusal_in is_done
+        Walks call most src end numbers l q (record { answer = Answer.Refused refusal origin; done = 0 }) numbers l q
+    unfolding called is_done
     walk_shut =
         let over = shut_on most in
-        let undone : is_done alone.turn.answer ≡ false = rw (← e, ne_eqb shut 0 n) in
-        let still : is_written most alone ≡ false = is_written_refused most alone (rw (← e, ne_eqb shut 0 n) n) in
+        let undone : is_done alone.turn.answer ≡ false = rw (← e, n) in
+        let still : is_written most alone ≡ false = is_written_refused most alone (rw (← e, n)) in
         record {
           answer = rw over;
           done = sym (calls_done_over call src end (session_in numbers) l q most undone);

@@ -11,6 +11,7 @@
 --   Opened             what `walk_on` may rely on: a call is wanted, and the gate is open
 --   Changes, Changed   what a change of frame may rely on, and what it gives
 use Rattle.std.specs.Prelude.{ℕ, ◌+◌, ◌*◌, ◌-◌, ◌≤◌, ◌<◌, Bool, false, ◌||◌, List, ◌≡◌, eqb, length, get_or, drop, if◌then◌else◌}
+use Rattle.std.specs.Prelude.{Ok}
 use Rattle.byte.specs.Laid.{laid}
 use Rattle.source.specs.declared.Span.{Span}
 use Rattle.state.specs.declared.Answer.{Answer}
@@ -18,7 +19,7 @@ use Rattle.state.specs.declared.Frame.{Frame}
 use Rattle.state.specs.Bounds.{no_slot}
 use Rattle.state.specs.Gates.{lent_refusal}
 use Rattle.layout.specs.Sessions.{slot_numbers, frames_in, session_in}
-use Rattle.layout.specs.Answers.{refusal_in}
+use Rattle.layout.specs.Answers.{is_unrefused}
 use Rattle.layout.specs.Lent.{place_numbers}
 use Rattle.outcome.specs.declared.Call.{Call}
 use Rattle.outcome.specs.declared.Change.{Change}
@@ -53,7 +54,7 @@ abbrev pub placed_at : Mark → ℕ → List ℕ → List ℕ
 placed_at m depth numbers = laid numbers 0 (place_numbers m.span depth m.tokens m.bytes)
 
 abbrev pub ended_at : Bool → Answer → Mark → ℕ → List ℕ → List ℕ
-ended_at begun answer m depth numbers = if begun || eqb (refusal_in answer) 0 then placed_at m depth numbers else numbers
+ended_at begun answer m depth numbers = if begun || is_unrefused answer then placed_at m depth numbers else numbers
 
 pub record Deep (numbers : List ℕ) (depth : ℕ) : Type 0 where
   pub long : 199 ≤ length numbers
@@ -62,7 +63,7 @@ pub record Deep (numbers : List ℕ) (depth : ℕ) : Type 0 where
 
 pub record Opened (most : ℕ) (src numbers : List ℕ) (list pool : ℕ) : Type 0 where
   pub long : 199 ≤ length numbers
-  pub gate : lent_refusal src list pool (session_in numbers) ≡ 0
+  pub gate : lent_refusal src list pool (session_in numbers) ≡ Ok tt
   pub some : 0 < most
 
 pub record Changes (numbers : List ℕ) (depth : ℕ) (change : Change) : Type 0 where

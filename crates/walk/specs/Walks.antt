@@ -3,7 +3,7 @@
 --   Walks        else the numbers stay as they were; a slot that no step changes keeps its numbers always
 use Rattle.std.specs.Prelude.{ℕ, Bool, true, false, not, ◌&&◌, List, ◌≡◌, eqb}
 use Rattle.layout.specs.Sessions.{session_in}
-use Rattle.layout.specs.Answers.{refusal_in}
+use Rattle.layout.specs.Answers.{is_unrefused}
 use Rattle.layout.specs.Lent.{Rewritten}
 use Rattle.outcome.specs.declared.Call.{Call}
 use Rattle.lexer.specs.Turns.{After}
@@ -12,7 +12,7 @@ use Rattle.demands.specs.Walks.{called_on, calls_done}
 use Rattle.walk.specs.declared.Ended.{Ended}
 
 unfoldable pub is_written : ℕ → After → Bool
-is_written most first = not (eqb most 0) && eqb (refusal_in first.turn.answer) 0
+is_written most first = not (eqb most 0) && is_unrefused first.turn.answer
 
 pub record Walks (call : Call) (most : ℕ) (src : List ℕ) (end : Bool) (n l q : List ℕ) (r : Ended) (n' l' q' : List ℕ) : Type 0 where
   pub answer : r.answer ≡ (called_on call most src end (session_in n) l q).turn.answer

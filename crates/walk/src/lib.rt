@@ -69,7 +69,7 @@ fn put_end(session: &mut [u32], begun: bool, answer: Answer, at: Place)
     requires { 199 ≤ length session.old }
     ensures { session.new ≡ ended_at begun answer at.mark at.depth session.old }
 {
-    if begun || layout::refusal_in(answer) == 0 {
+    if begun || layout::is_unrefused(answer) {
         put_at(session, at);
     }
 }
@@ -210,18 +210,12 @@ pub fn turns(
     requires { 199 ≤ length session.old }
     ensures { Walks call most src.now end session.old list.old pool.old result session.new list.new pool.new }
 {
-    let shut = layout::gate_in(src, list.len(), pool.len(), session);
-    if shut != 0 {
-        let origin = Span {
-            line: 1,
-            column: 1,
-            position: 0,
+    if let Err(refusal) = layout::gate_in(src, list.len(), pool.len(), session) {
+        let span = state::origin();
+        return Ended {
+            answer: Answer::Refused { refusal, span },
+            done: 0,
         };
-        let answer = Answer::Refused {
-            number: shut,
-            span: origin,
-        };
-        return Ended { answer, done: 0 };
     }
     if most == 0 {
         return Ended {
