@@ -15,9 +15,6 @@ use Rattle.probe.specs.declared.Probed.{Probed}
 use Rattle.probe.specs.Probes.{refusal}
 use Rattle.probe.specs.Literals.{literal_number, counted, asked_number, read_refusal, read_written, number_refusal, number_written, NumberValued}
 
-pub literal_arm : (literal arm : Literal) (r : ℕ) → literal ≡ arm → r ≡ literal_number arm → r ≡ literal_number literal
-literal_arm literal arm r e h = rw e h
-
 module _ (s : Scanned) where
   pub counted_number : (literal : Literal) (after len kind : ℕ) → s ≡ Scanned.Number literal after len → kind ≡ literal_number literal → record { number = 0; stop = kind; place = 0; detail = 0; from = after; after = after; len = len } ≡ counted s
   unfolding counted
