@@ -6,14 +6,13 @@ use mathlib.Core.Bool.{Bool, true, false, not}
 use mathlib.Core.List.{List, [], ◌∷◌}
 use native.Mathlib.Omega.{arith}
 use lib.Dec.{eqb}
-use lib.ListN.{length, get_or, take, drop, length-drop, drop_of_length-le}
+use lib.ListN.{length, get_or, take, drop, length-drop}
 use lib.Seq.{drop-drop}
 use borrow.Author.Tests.{eq-eqb, ne_eqb, le-leb, lt-leb}
 use Rattle.std.specs.List.{prefix_len, fold}
 use Rattle.byte.specs.Words.{◌is◌, run}
-use Rattle.byte.specs.Bytes.{is_blank, is_identifier, is_no_break}
+use Rattle.byte.specs.Bytes.{is_blank, is_no_break}
 use Rattle.source.specs.Code.{RunEnd}
-use Rattle.byte.proofs.Words.{drop-one}
 use Rattle.unit.specs.declared.Indentation.{Indentation}
 use Rattle.unit.specs.declared.Match.{Match}
 use Rattle.unit.specs.Closers.{matched, indented}
@@ -47,27 +46,6 @@ module _ (src : List ℕ) (at n : ℕ) (h : at < length src) (r : RunEnd is_no_b
   line_end_end k = record { place = omega (arith, r.place, r.inside, size); inside = r.inside; on = omega arith }
 
 pub ruleset line_ends = (line_end_break, line_end_end)
-
--- after the label: an identifier byte, another byte, or the end of the part
-module _ (line : List ℕ) (at : ℕ) (end : Bool) where
-  pub behind_end : length line ≤ at → end ≡ true → Match.Whole ≡ closing_label [] end (drop at line)
-  unfolding closing_label
-  behind_end h t = rw (drop_of_length-le line h, t)
-
-  pub behind_more : length line ≤ at → end ≡ false → Match.Undecided ≡ closing_label [] end (drop at line)
-  unfolding closing_label
-  behind_more h t = rw (drop_of_length-le line h, t)
-
-  module _ (h : at < length line) (flag : Bool) (f : flag ≡ is_identifier (get_or line at 0)) where
-    pub behind_identifier : flag ≡ true → Match.Other ≡ closing_label [] end (drop at line)
-    unfolding closing_label
-    behind_identifier t = rw (drop-one line at h, ← f, t)
-
-    pub behind_other : flag ≡ false → Match.Whole ≡ closing_label [] end (drop at line)
-    unfolding closing_label
-    behind_other t = rw (drop-one line at h, ← f, t)
-
-pub ruleset behinds = (behind_end, behind_more, behind_identifier, behind_other)
 
 -- the label, another byte, or the end of the part
 module _ (label line : List ℕ) (at : ℕ) (end : Bool) (m : Match) (e : m ≡ matched label (drop at line)) where

@@ -54,9 +54,9 @@ fn is_over(rest: &[u8]) -> bool
 
 // What comes off each line: so many of one blank.
 #[derive(Clone, Copy)]
-struct Indent {
-    blank: u8,
-    width: usize,
+pub struct Indent {
+    pub blank: u8,
+    pub width: usize,
 }
 
 impl Indent {
