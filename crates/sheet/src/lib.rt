@@ -96,7 +96,7 @@ impl Indent {
         }
         let mut i = at;
         let mut len = 0;
-        // A turn passes a line, whose end is looked for by blocks of bytes, so no iterator counts the places.
+        // A turn passes a line: `line_end` finds its end by blocks of bytes, where `split_inclusive` tests each.
         while i < body.len() {
             let next = closing::line_end(body, i);
             let off = self.offset(&body[i..next]);
