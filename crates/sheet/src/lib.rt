@@ -3,8 +3,7 @@
 // In order: the closing line (closing); what is left of a line and of the body; the scan, which writes nothing; the writer.
 #![tactic(auto)]
 
-ghost use Rattle.std.specs.Prelude.{◌≡◌, ◌==◌, false, ◌+◌, ◌≤◌, length, take, drop};
-ghost use Rattle.std.specs.List.{take_while};
+ghost use Rattle.std.specs.Prelude.{◌≡◌, false, ◌+◌, ◌≤◌, length, drop};
 ghost use Rattle.byte.specs.Laid.{laid};
 ghost use Rattle.text.specs.Code.{measured};
 ghost use Rattle.sheet.specs.Bodies.{lines, is_over, body_text};
@@ -60,21 +59,22 @@ pub struct Indent {
 }
 
 impl Indent {
-    // How many of its blanks a line begins with, as many as come off at most.
-    fn blanks(self, line: &[u8]) -> usize
-        ensures { result ≡ length (take_while (λ b. self.blank == b) (take self.width line.now)) }
-    {
-        line.iter()
-            .take(self.width)
-            .take_while(|b| self.blank == **b)
-            .count()
-    }
-
-    // How many bytes of indentation come off a line.
+    // How many bytes of indentation come off a line. By `take`, `take_while` and `count` a sheet took 17.9 instructions
+    // a byte, and the bar is 16.8.
     fn offset(self, line: &[u8]) -> usize
         ensures { result ≡ offset_of self line.now }
     {
-        self.blanks(line)
+        let mut i = 0;
+        while i < self.width {
+            if line.len() <= i {
+                return i;
+            }
+            if line[i] != self.blank {
+                return i;
+            }
+            i += 1;
+        }
+        i
     }
 
     // The byte after a line's indentation, of which `off` bytes come off, is stray.
