@@ -16,7 +16,7 @@ use Rattle.std.proofs.lemmas.List.Sums.{sum_by-cons}
 use Rattle.std.specs.Simd.{first_chunks}
 use lib.ListN.{length, get_or, take, drop, length-drop, take-append-drop, length-append, drop_of_length-le}
 use lib.Seq.{take-add, drop-drop, take_all, take-suc, length-take-le, get_or-drop}
-use borrow.Author.Tests.{eq-eqb, ne_eqb, not-true, not-false, eqb-false, ltb-true, ltb-false}
+use borrow.Author.Tests.{ne_eqb, not-true, not-false, eqb-false, ltb-true, ltb-false}
 use Rattle.byte.specs.Words.{every}
 use Rattle.byte.specs.Bytes.{is_no_break}
 use Rattle.source.specs.Cursor.{passed_byte, passed}
@@ -123,8 +123,6 @@ module _ (part : List ℕ) where
         let zero : i ≡ 0 = omega arith in
         record { last = rw zero at u; behind = λ h. absurd (omega arith) }
 
-pub ruleset walking_back = (unbroken_first, unbroken_block, unbroken_on, line_start_here, line_start_none)
-
 -- no second start stands further on: the byte before it would be an LF after the first
 later : (part : List ℕ) (r r' : ℕ) → LineStart part r → LineStart part r' → r < r' → ⊥
 unfolding is_no_break
@@ -178,20 +176,22 @@ pub passed_same : (part : List ℕ) (p : Span) (start : ℕ) → LineStart part 
 passed_same part p start s e = sym (passed_unbroken p part (rw e at s.last.clear))
 
 -- both ways of `past`
-module _ (part : List ℕ) (p : Span) (hit : Bool) (answer : hit ≡ not (every (is_not 10) part)) where
-  has : hit ≡ not (every is_no_break part)
-  unfolding is_no_break
-  has = answer
+module _ (part : List ℕ) (p : Span) where
+  module _ (hit : Bool) (has : hit ≡ not (every (is_not 10) part)) where
+    pub passed_clear : hit ≡ false
+        → record { line = p.line; column = p.column + length part; position = p.position + length part }
+        ≡ passed p part
+    unfolding is_no_break
+    passed_clear f = sym (passed_unbroken p part (not-false (every is_no_break part) (sym has ∙ f)))
 
-  pub passed_clear : not hit ≡ true
-      → record { line = p.line; column = p.column + length part; position = p.position + length part }
-      ≡ passed p part
-  passed_clear f = sym (passed_unbroken p part (not-false (every is_no_break part) (sym has ∙ not-true hit f)))
+    pub passed_broken : hit ≡ true → every (is_not 10) part ≡ false
+    passed_broken t = not-true (every (is_not 10) part) (sym has ∙ t)
 
-  module _ (start : ℕ) (s : LineStart part start) (f : not hit ≡ false) where
+  module _ (start : ℕ) (s : LineStart part start) (broken : every (is_not 10) part ≡ false) where
     -- a part with an LF has a line before its last
     line_start_some : start ≡ 0 → ⊥
-    line_start_some e = false≢true (sym (ap not (rw e at s.last.clear)) ∙ sym has ∙ not-false hit f)
+    unfolding is_no_break
+    line_start_some e = false≢true (sym broken ∙ rw e at s.last.clear)
 
     -- past the last LF
     first : passed p (take start part) ≡ record { line = p.line + breaks (take start part); column = 1; position = p.position + start }
@@ -218,4 +218,4 @@ module _ (part : List ℕ) (p : Span) (hit : Bool) (answer : hit ≡ not (every 
     pub passed_column : Reaches p (length part) → length part - start + 1 < 4294967296
     passed_column r = omega (arith, r.line, s.last.inside, line_start_some)
 
-pub ruleset passing_lines = (passed_clear, passed_lines, passed_room, passed_column)
+pub ruleset passing_lines = (passed_clear, passed_broken, passed_lines, passed_room, passed_column)

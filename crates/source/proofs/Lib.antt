@@ -2,7 +2,6 @@ pub mod Runs
 pub mod Blocks
 pub mod Places
 pub mod Marks
-pub mod Searches
 pub mod Cursor
 pub mod Counts
 pub mod Identifiers

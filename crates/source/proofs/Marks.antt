@@ -12,7 +12,7 @@ use lib.ListN.{length, get_or, take, drop, length-drop}
 use lib.Seq.{length-take-le, take_all}
 use Rattle.std.specs.Int.{from_le_bytes}
 use Rattle.std.proofs.Common.{w64, subst}
-use lib.Count.{count_trailing_zeros, under, trailing_le}
+use lib.Count.{count_trailing_zeros, under}
 use lib.Pow.{pow-add}
 use lib.Bits.{bit_and, bit_or, bit_xor, and_block, or_block, xor_block, and_le_l, and_le_r, or_lt, xor_lt}
 use lib.Bits.{xor_self, xor_add_and, shifted_half, shifted_even}
@@ -20,7 +20,7 @@ use borrow.Author.Tests.{eqb-true, eqb-false}
 use Rattle.byte.specs.Words.{run}
 use Rattle.byte.specs.Bytes.{is_none_of}
 use Rattle.byte.proofs.Table.{below, below_each}
-use Rattle.source.specs.Code.{word_of, repeated, is_not, mark, marks_of, Small, Word}
+use Rattle.source.specs.Code.{word_of, repeated, is_not, mark, marks_of}
 use Rattle.source.specs.Code.{Passing}
 use Rattle.source.proofs.Blocks.{eight_bytes, run_take, passing_part}
 
@@ -53,6 +53,11 @@ left_mark b c h k = go (eqb b c) refl
     go false f = left_other (bit_xor b c) (xor_lt 8 b c h k) (λ e. eqb-false b c f (xor-zero b c e))
 
 -- ---- n bytes
+
+-- each of them is a byte
+data Small : List ℕ → Type 0 where
+  none : Small []
+  more : {b : ℕ} {bs : List ℕ} → b < 256 → Small bs → Small (b ∷ bs)
 
 -- what the code computes
 abbrev marked : ℕ → ℕ → ℕ → ℕ
@@ -212,7 +217,7 @@ module _ (bs : List ℕ) (size : length bs ≡ 8) where
       rw (e, p, word_is, q.0, ← full, ← tops)
       (rw size at (marked_word c q.1 bs (all_small h)))
 
-  pub marks_run : (test : ℕ → Bool) (m : ℕ) → m ≡ word_of (marks_of test bs)
+  marks_run : (test : ℕ → Bool) (m : ℕ) → m ≡ word_of (marks_of test bs)
       → count_trailing_zeros 64 m / 8 ≡ run test bs
   marks_run test m e = rw e (rw size at (first_mark test bs))
 
@@ -224,15 +229,6 @@ marks_four bs w x y z k l m n e f g h =
     let two : ℕ → Bool = λ (b : ℕ). is_not w b && is_not x b in
     let three : ℕ → Bool = λ (b : ℕ). two b && is_not y b in
     rw (e, f, g, h, marks_both (is_not w) (is_not x) bs, marks_both two (is_not y) bs, marks_both three (is_not z) bs)
-
-pub raised_fits : (x : ℕ) → bit_and x 0x7f7f7f7f7f7f7f7f + 0x7f7f7f7f7f7f7f7f < 2 ^ 64
-raised_fits x = omega (arith, and_le_r x 0x7f7f7f7f7f7f7f7f)
-
-pub before_few : (m : ℕ) → count_trailing_zeros 64 m / 8 ≤ 8
-before_few m = omega (arith, trailing_le 64 m)
-
-pub before_fits : (m : ℕ) → count_trailing_zeros 64 m / 8 < 2 ^ 64
-before_fits m = omega (arith, trailing_le 64 m)
 
 -- a block of eight is passed up to its first mark; all of it where there is none
 module _ (test : ℕ → Bool) (src : List ℕ) (at i m : ℕ) (p : Passing test src at i) (h : 8 ≤ length src - i)
@@ -246,5 +242,3 @@ module _ (test : ℕ → Bool) (src : List ℕ) (at i m : ℕ) (p : Passing test
   pub passing_unmarked : m ≡ 0 → Passing test src at (i + 8)
   unfolding count_trailing_zeros
   passing_unmarked z = passing_marks 8 (rw z, omega arith)
-
-pub ruleset passing_words = (passing_marks, passing_unmarked)

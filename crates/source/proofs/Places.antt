@@ -2,20 +2,39 @@
 use Rattle.std.specs.Prelude.{if◌then◌else◌}
 use Rattle.std.specs.Simd.{first_chunks}
 use Rattle.std.proofs.Common.{◌≡◌, ℕ, zero, suc, ◌+◌, ◌-◌, ◌*◌, ◌/◌, ◌%◌, ◌<◌, ◌≤◌, Bool, true, false, not, cond, ◌||◌, ◌&&◌, List, [], ◌∷◌, ◌++◌, reverse, length, get_or, take, drop, refl, sym, ◌∙◌, ap, arith, Some, None, Option, unwrap_or}
-use Rattle.std.specs.List.{list_any, position_or_len, prefix_len}
+use Rattle.std.specs.List.{list_any, position, position_or_len}
 use Rattle.std.proofs.lemmas.List.{reverse-append, length-reverse}
-use Rattle.std.proofs.Math.Nat.{div-mul-le_self}
+use Rattle.std.proofs.Math.Nat.{div-mul-le_self, lt-div-mul-add}
 use Rattle.std.proofs.lemmas.List.Sums.{prefix_len-le-length}
 use lib.Dec.{eqb, ltb}
 use lib.ListN.{length-drop}
 use lib.Seq.{drop-drop, take-suc, take_all, length-take-le}
-use borrow.Author.Tests.{not-true, not-false, eqb-true, eqb-false, ltb-true, ltb-false}
+use borrow.Author.Tests.{not-true, eqb-true, eqb-false, ltb-false}
 use Rattle.byte.specs.Words.{run, every}
 use Rattle.byte.specs.Bytes.{is_no_break}
 use Rattle.source.specs.Code.{RunEnd, Passing, Unbroken, LineStart, is_not}
 use Rattle.source.proofs.Runs.{passing_first}
 use Rattle.source.proofs.Blocks.{passing_block}
 use Rattle.source.proofs.Counts.{unbroken_first, unbroken_block, unbroken_on, line_start_here, line_start_none}
+
+-- not all of a block pass
+abbrev pub fails : (ℕ → Bool) → List ℕ → Bool
+fails test block = not (every test block)
+
+-- how many of k blocks of n bytes pass, from the first on
+abbrev passes : (ℕ → Bool) → ℕ → ℕ → List ℕ → ℕ
+passes test n k bs = position_or_len (fails test) (first_chunks n k bs)
+
+-- how many of k blocks of 8 bytes have no LF, from the last on
+abbrev back : ℕ → List ℕ → ℕ
+back k bs = position_or_len (fails is_no_break) (reverse (first_chunks 8 k bs))
+
+abbrev pub is_break : ℕ → Bool
+is_break b = eqb b 10
+
+-- how many of the first n bytes are no LF, from the last of them on
+abbrev others : ℕ → List ℕ → ℕ
+others n bs = position_or_len is_break (reverse (take n bs))
 
 -- a byte stands in a part exactly if not each of its bytes is another
 pub any_is : (c : ℕ) (bs : List ℕ) → list_any (λ b. eqb b c) bs ≡ not (every (is_not c) bs)
@@ -29,7 +48,7 @@ any_is c (b ∷ bs) = go (eqb b c) (any_is c bs)
 
 -- where `position` stops, or else the end, is how many stand before the first that passes
 pub place_or_end : {X : Type 0} (p : X → Bool) (xs : List X) (found : Option ℕ)
-    → found ≡ cond (ltb (position_or_len p xs) (length xs)) (Some (position_or_len p xs)) None
+    → found ≡ position p xs
     → unwrap_or found (length xs) ≡ position_or_len p xs
 place_or_end p xs found e = rw e (go (ltb (position_or_len p xs) (length xs)) refl)
   where
@@ -49,7 +68,7 @@ run_is test (b ∷ bs) = go (test b) (run_is test bs)
 
 -- the first place from `at` on that fails
 pub run_found : (test : ℕ → Bool) (src part : List ℕ) (at passed : ℕ) (found : Option ℕ) → at ≤ length src → part ≡ take (length src - at) (drop at src)
-    → found ≡ cond (ltb (position_or_len (λ b. not (test b)) part) (length part)) (Some (position_or_len (λ b. not (test b)) part)) None
+    → found ≡ position (λ b. not (test b)) part
     → passed ≡ unwrap_or found (length src - at) → RunEnd test src at (at + passed)
 run_found test src part at passed found h w e f =
     let size : length (drop at src) ≡ length src - at = length-drop at src in
@@ -61,35 +80,70 @@ run_found test src part at passed found h w e f =
 
 -- blocks of n bytes that pass are passed
 blocks_passed : (test : ℕ → Bool) (src : List ℕ) (at n k i : ℕ) → Passing test src at i → i + k * n ≤ length src
-    → Passing test src at (i + position_or_len (λ block. not (every test block)) (first_chunks n k (drop i src)) * n)
+    → Passing test src at (i + passes test n k (drop i src) * n)
 blocks_passed test src at n zero i p h =
     let stay : i + 0 * n ≡ i = omega arith in
     rw stay p
 blocks_passed test src at n (suc k) i p h = go (not (every test (take n (drop i src)))) refl (λ q. blocks_passed test src at n k (i + n) q (omega (arith, h)))
   where
     go : (t : Bool) → t ≡ not (every test (take n (drop i src)))
-        → (Passing test src at (i + n) → Passing test src at (i + n + position_or_len (λ block. not (every test block)) (first_chunks n k (drop (i + n) src)) * n))
-        → Passing test src at (i + cond (not t) (1 + position_or_len (λ block. not (every test block)) (first_chunks n k (drop n (drop i src)))) 0 * n)
+        → (Passing test src at (i + n) → Passing test src at (i + n + passes test n k (drop (i + n) src) * n))
+        → Passing test src at (i + cond (not t) (1 + passes test n k (drop n (drop i src))) 0 * n)
     go true e more =
         let stay : i + 0 * n ≡ i = omega arith in
         rw stay p
     go false e more =
-        let rest : ℕ = position_or_len (λ block. not (every test block)) (first_chunks n k (drop (i + n) src)) in
+        let rest : ℕ = passes test n k (drop (i + n) src) in
         let on : i + (1 + rest) * n ≡ i + n + rest * n = omega arith in
         rw (drop-drop n i src, on) (more (passing_block test src at i p n false (omega arith) e refl))
 
-pub blocks_found : (test : ℕ → Bool) (src part : List ℕ) (blocks : List (List ℕ)) (at n passed : ℕ) (found : Option ℕ) → at ≤ length src
-    → part ≡ take (length src - at) (drop at src) → blocks ≡ first_chunks n (length part / n) part
-    → found ≡ cond (ltb (position_or_len (λ block. not (every test block)) blocks) (length blocks)) (Some (position_or_len (λ block. not (every test block)) blocks)) None
-    → passed ≡ unwrap_or found (length blocks) → Passing test src at (at + passed * n)
-blocks_found test src part blocks at n passed found h w b e f =
-    let size : length (drop at src) ≡ length src - at = length-drop at src in
-    let all : part ≡ drop at src = w ∙ take_all (length src - at) (drop at src) (omega (arith, size)) in
-    let many : passed ≡ position_or_len (λ block. not (every test block)) blocks = f ∙ place_or_end (λ block. not (every test block)) blocks found e in
-    let room : at + length part / n * n ≤ length src = omega (arith, div-mul-le_self (length part) n, ap length all, size) in
-    let at_first : Passing test src at at = passing_first test src at h in
-    let walk = blocks_passed test src at n (length part / n) at at_first room in
-    rw (many, b, all) (rw all at walk)
+-- and where that stops, the next block has a byte that fails, or there is none
+blocks_stopped : (test : ℕ → Bool) (src : List ℕ) (n k i : ℕ) → i ≤ length src → i + k * n ≤ length src → length src < i + (k + 1) * n
+    → n ≤ length src - (i + passes test n k (drop i src) * n)
+    → every test (take n (drop (i + passes test n k (drop i src) * n) src)) ≡ false
+blocks_stopped test src n zero i h l r m =
+    let none : i + 0 * n ≡ i = omega arith in
+    let over : length src < i + n = omega arith in
+    absurd (omega (arith, over, rw none at m))
+blocks_stopped test src n (suc k) i h l r m = go (not (every test (take n (drop i src)))) refl m (blocks_stopped test src n k (i + n) (omega (arith, l)) (omega (arith, l)) (omega (arith, r)))
+  where
+    go : (t : Bool) → t ≡ not (every test (take n (drop i src)))
+        → n ≤ length src - (i + cond (not t) (1 + passes test n k (drop n (drop i src))) 0 * n)
+        → (n ≤ length src - (i + n + passes test n k (drop (i + n) src) * n)
+        → every test (take n (drop (i + n + passes test n k (drop (i + n) src) * n) src)) ≡ false)
+        → every test (take n (drop (i + cond (not t) (1 + passes test n k (drop n (drop i src))) 0 * n) src)) ≡ false
+    go true e m more =
+        let stay : i + 0 * n ≡ i = omega arith in
+        rw stay (not-true (every test (take n (drop i src))) (sym e))
+    go false e m more =
+        let rest : ℕ = passes test n k (drop (i + n) src) in
+        let on : i + (1 + rest) * n ≡ i + n + rest * n = omega arith in
+        rw (drop-drop n i src, on) (more (rw (drop-drop n i src, on) at m))
+
+-- what `as_chunks` and `position` tell, put together
+module _ (test : ℕ → Bool) (src part : List ℕ) (blocks : List (List ℕ)) (at n passed : ℕ) (found : Option ℕ) (h : at ≤ length src)
+    (w : part ≡ take (length src - at) (drop at src)) (b : blocks ≡ first_chunks n (length part / n) part)
+    (e : found ≡ position (fails test) blocks)
+    (f : passed ≡ unwrap_or found (length blocks)) where
+  all : part ≡ drop at src
+  all = w ∙ take_all (length src - at) (drop at src) (omega (arith, length-drop at src))
+
+  size : length part ≡ length src - at
+  size = ap length all ∙ length-drop at src
+
+  many : passed ≡ passes test n (length part / n) (drop at src)
+  many = f ∙ place_or_end (fails test) blocks found e ∙ rw b (ap (λ bytes. passes test n (length part / n) bytes) all)
+
+  room : at + length part / n * n ≤ length src
+  room = omega (arith, div-mul-le_self (length part) n, size)
+
+  pub blocks_found : Passing test src at (at + passed * n)
+  blocks_found = rw many (blocks_passed test src at n (length part / n) at (passing_first test src at h) room)
+
+  pub block_stops : 0 < n → n ≤ length src - (at + passed * n) → every test (take n (drop (at + passed * n) src)) ≡ false
+  block_stops l m =
+      let over : length src < at + (length part / n + 1) * n = omega (arith, lt-div-mul-add {a = length part} {b = n} l, size) in
+      rw many (blocks_stopped test src n (length part / n) at h room over (rw many at m))
 
 -- a block of n bytes
 chunk_at : (n k j : ℕ) (xs : List ℕ) → j < k → get_or (first_chunks n k xs) j [] ≡ take n (drop (j * n) xs)
@@ -126,7 +180,7 @@ chunks_back n k xs = rw (chunks_last n k xs, reverse-append (first_chunks n k xs
 
 -- and is the first on the way back
 blocks_back : (part : List ℕ) (i k : ℕ) → Unbroken part (i + k * 8)
-    → Unbroken part (i + k * 8 - position_or_len (λ block. not (every is_no_break block)) (reverse (first_chunks 8 k (drop i part))) * 8)
+    → Unbroken part (i + k * 8 - back k (drop i part) * 8)
 blocks_back part i zero u =
     let stay : i + 0 * 8 - 0 * 8 ≡ i + 0 * 8 = omega arith in
     rw stay u
@@ -135,13 +189,13 @@ blocks_back part i (suc k) u =
     (go (not (every is_no_break (take 8 (drop (i + k * 8) part)))) refl (blocks_back part i k))
   where
     go : (t : Bool) → t ≡ not (every is_no_break (take 8 (drop (i + k * 8) part)))
-        → (Unbroken part (i + k * 8) → Unbroken part (i + k * 8 - position_or_len (λ block. not (every is_no_break block)) (reverse (first_chunks 8 k (drop i part))) * 8))
-        → Unbroken part (i + suc k * 8 - cond (not t) (1 + position_or_len (λ block. not (every is_no_break block)) (reverse (first_chunks 8 k (drop i part)))) 0 * 8)
+        → (Unbroken part (i + k * 8) → Unbroken part (i + k * 8 - back k (drop i part) * 8))
+        → Unbroken part (i + suc k * 8 - cond (not t) (1 + back k (drop i part)) 0 * 8)
     go true e more =
         let stay : i + suc k * 8 - 0 * 8 ≡ i + suc k * 8 = omega arith in
         rw stay u
     go false e more =
-        let rest : ℕ = position_or_len (λ block. not (every is_no_break block)) (reverse (first_chunks 8 k (drop i part))) in
+        let rest : ℕ = back k (drop i part) in
         let on : i + suc k * 8 - (1 + rest) * 8 ≡ i + k * 8 - rest * 8 = omega arith in
         let before : i + suc k * 8 - 8 ≡ i + k * 8 = omega arith in
         let clear : false ≡ not (every is_no_break (take 8 (drop (i + suc k * 8 - 8) part))) = rw before e in
@@ -150,19 +204,19 @@ blocks_back part i (suc k) u =
 
 pub last_block_found : (part : List ℕ) (blocks : List (List ℕ)) (passed : ℕ) (found : Option ℕ)
     → blocks ≡ first_chunks 8 (length part / 8) (drop (length part % 8) part)
-    → found ≡ cond (ltb (position_or_len (λ block. not (every is_no_break block)) (reverse blocks)) (length (reverse blocks))) (Some (position_or_len (λ block. not (every is_no_break block)) (reverse blocks))) None
+    → found ≡ position (fails is_no_break) (reverse blocks)
     → passed ≡ unwrap_or found (length blocks) → Unbroken part (length part - passed * 8)
 last_block_found part blocks passed found b e f =
     let size : length blocks ≡ length (reverse blocks) = sym (length-reverse blocks) in
-    let many : passed ≡ position_or_len (λ block. not (every is_no_break block)) (reverse blocks) =
-    f ∙ rw size (place_or_end (λ block. not (every is_no_break block)) (reverse blocks) found e) in
+    let many : passed ≡ position_or_len (fails is_no_break) (reverse blocks) =
+    f ∙ rw size (place_or_end (fails is_no_break) (reverse blocks) found e) in
     let whole : length part % 8 + length part / 8 * 8 ≡ length part = omega arith in
     let walk = blocks_back part (length part % 8) (length part / 8) (rw whole (unbroken_first part)) in
     rw (many, b) (rw whole at walk)
 
 -- byte by byte back to the last LF
 bytes_back : (part : List ℕ) (end : ℕ) → Unbroken part end
-    → LineStart part (end - position_or_len (λ b. eqb b 10) (reverse (take end part)))
+    → LineStart part (end - others end part)
 bytes_back part zero u = line_start_none part 0 u (omega arith)
 bytes_back part (suc end) u =
     let inside : end < length part = omega (arith, u.inside) in
@@ -171,21 +225,21 @@ bytes_back part (suc end) u =
     before : suc end - 1 ≡ end
     before = omega arith
 
-    go : (t : Bool) → eqb (get_or part end 0) 10 ≡ t → (Unbroken part end → LineStart part (end - position_or_len (λ b. eqb b 10) (reverse (take end part))))
-        → LineStart part (suc end - cond (not t) (1 + position_or_len (λ b. eqb b 10) (reverse (take end part))) 0)
+    go : (t : Bool) → eqb (get_or part end 0) 10 ≡ t → (Unbroken part end → LineStart part (end - others end part))
+        → LineStart part (suc end - cond (not t) (1 + others end part) 0)
     go true e more =
         let stay : suc end - 0 ≡ suc end = omega arith in
         rw stay (line_start_here part (suc end) u (rw before (eqb-true (get_or part end 0) 10 e)))
     go false e more =
-        let rest : ℕ = position_or_len (λ b. eqb b 10) (reverse (take end part)) in
+        let rest : ℕ = others end part in
         let on : suc end - (1 + rest) ≡ end - rest = omega arith in
         let one : Unbroken part (suc end - 1) = unbroken_on part (suc end) u (omega arith) (rw before (eqb-false (get_or part end 0) 10 e)) in
         rw on (more (rw before at one))
 
 pub line_start_found : (part bytes : List ℕ) (end passed : ℕ) (found : Option ℕ) → Unbroken part end → bytes ≡ take end part
-    → found ≡ cond (ltb (position_or_len (λ b. eqb b 10) (reverse bytes)) (length (reverse bytes))) (Some (position_or_len (λ b. eqb b 10) (reverse bytes))) None
+    → found ≡ position is_break (reverse bytes)
     → passed ≡ unwrap_or found end → LineStart part (end - passed)
 line_start_found part bytes end passed found u w e f =
     let size : length (reverse bytes) ≡ end = length-reverse bytes ∙ rw w (length-take-le end part u.inside) in
-    let many : passed ≡ position_or_len (λ b. eqb b 10) (reverse bytes) = f ∙ rw size at (place_or_end (λ b. eqb b 10) (reverse bytes) found e) in
+    let many : passed ≡ position_or_len is_break (reverse bytes) = f ∙ rw size at (place_or_end is_break (reverse bytes) found e) in
     rw (many, w) (bytes_back part end u)

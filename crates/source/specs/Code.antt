@@ -5,7 +5,6 @@
 --   breaks, Unbroken, LineStart   how many LFs a list has, from where on it has none, and the place after its last
 --   word_of, repeated             the number that bytes are, the first of them lowest; that of n bytes which are all c
 --   is_not, marks_of              any byte but c; 128 in place of each byte that fails a test, 0 in place of any other
---   Word                          a number is the word of these bytes, and they are bytes
 use Rattle.std.specs.Prelude.{ℕ, zero, suc, ◌+◌, ◌-◌, ◌*◌, ◌<◌, ◌≤◌, Bool, true, false, not, List, [], ◌∷◌, ◌≡◌, eqb, length, get_or, drop, if◌then◌else◌}
 use Rattle.byte.specs.Words.{◌is◌, run, every}
 use Rattle.byte.specs.Bytes.{is_no_break}
@@ -63,11 +62,3 @@ mark false = 128
 unfoldable pub marks_of : (ℕ → Bool) → List ℕ → List ℕ
 marks_of test [] = []
 marks_of test (b ∷ bs) = mark (test b) ∷ marks_of test bs
-
-pub data Small : List ℕ → Type 0 where
-  none : Small []
-  more : {b : ℕ} {bs : List ℕ} → b < 256 → Small bs → Small (b ∷ bs)
-
-pub record Word (bs : List ℕ) (r : ℕ) : Type 0 where
-  pub number : r ≡ word_of bs
-  pub small : Small bs

@@ -2,7 +2,7 @@
 // Of the Rust: state/source.rs, and `peek_identifier` of mod.rs. A cursor is a value beside the lent bytes.
 #![tactic(auto)]
 
-ghost use Rattle.std.specs.Prelude.{◌≡◌, ℕ, Bool, not, ◌+◌, ◌<◌, ◌≤◌, length, take, drop};
+ghost use Rattle.std.specs.Prelude.{◌≡◌, ℕ, Bool, false, not, ◌+◌, ◌-◌, ◌^◌, ◌<◌, ◌≤◌, length, take, drop};
 ghost use Rattle.byte.specs.Words.{every};
 ghost use Rattle.byte.specs.Bytes.{is_identifier, is_no_break, is_none_of};
 ghost use Rattle.source.specs.Cursor.{passed_byte, passed};
@@ -30,7 +30,8 @@ pub fn end_of<F: Fn(u8) -> bool>(src: &[u8], at: usize, test: F) -> usize
     at + passed.unwrap_or(src.len() - at)
 }
 
-// Whether a byte stands in a part.
+// Whether a byte stands in a part. Always inlined, so that a block's size picks one branch of `contains`.
+#[inline(always)]
 fn has(part: &[u8], c: u8) -> bool
     ensures { result ≡ not (every (is_not c) part.now) }
 {
@@ -40,8 +41,9 @@ fn has(part: &[u8], c: u8) -> bool
 // From `at` on past blocks of N bytes, up to one with the byte `c` or to fewer than N.
 pub fn pass_blocks<const N: usize>(src: &[u8], at: usize, c: u8) -> usize
     requires inside { at ≤ length src.now }
-    requires size { (0 < N) × (N < 9223372036854775808) }
-    ensures { Passing (is_not c) src.now at result }
+    requires size { (0 < N) × (N < 2 ^ 63) }
+    ensures passes { Passing (is_not c) src.now at result }
+    ensures stops { N ≤ length src.now - result → every (is_not c) (take N (drop result src.now)) ≡ false }
 {
     let (blocks, _) = src[at..].as_chunks::<N>();
     let passed = blocks.iter().position(
@@ -111,9 +113,9 @@ pub fn past_byte(p: Span, b: u8) -> Span
         };
     }
     Span {
-        line: p.line,
         column: p.column + 1,
         position: p.position + 1,
+        ..p
     }
 }
 
@@ -125,20 +127,20 @@ fn breaks_in(part: &[u8]) -> u8
     part.iter().map(|b| u8::from(*b == b'\n')).sum()
 }
 
+// The LFs of a block of 64 bytes, as a number that can be added up.
+fn breaks_in_block(block: &[u8; 64]) -> u32
+    ensures { result ≡ breaks block.now }
+{
+    u32::from(breaks_in(block))
+}
+
 // The LFs of a part, by blocks of 64 bytes and the bytes after them.
 fn breaks(part: &[u8]) -> u32
     requires { length part.now < 4294967296 }
     ensures { result ≡ breaks part.now }
 {
     let (blocks, rest) = part.as_chunks::<64>();
-    let whole: u32 = blocks
-        .iter()
-        .map(
-            |block| -> u32
-                ensures { result ≡ breaks block.now }
-            { u32::from(breaks_in(block)) },
-        )
-        .sum();
+    let whole: u32 = blocks.iter().map(breaks_in_block).sum();
     whole + u32::from(breaks_in(rest))
 }
 
@@ -160,25 +162,38 @@ fn line_start(part: &[u8]) -> usize
     end - passed.unwrap_or(end)
 }
 
-// The cursor past all bytes of a part: if it has LFs they are counted, and only the last line's bytes make its column.
+// The cursor past a part with LFs: they are counted, and only the last line's bytes make its column.
+// Never inlined, so that `past` is small and can be.
+#[inline(never)]
 #[tactic(auto, using(crate::proofs::Counts::passing_lines))]
-pub fn past(part: &[u8], p: Span) -> Span
-    requires { Reaches p (length part.now) }
+fn past_lines(part: &[u8], p: Span) -> Span
+    requires reaches { Reaches p (length part.now) }
+    requires broken { every (is_not 10) part.now ≡ false }
     ensures { result ≡ passed p part.now }
 {
     let len = part.len() as u32;
-    if !has(part, b'\n') {
-        return Span {
-            line: p.line,
-            column: p.column + len,
-            position: p.position + len,
-        };
-    }
     let start = line_start(part);
     Span {
         line: p.line + breaks(&part[0..start]),
         column: len - start as u32 + 1,
         position: p.position + len,
+    }
+}
+
+// The cursor past all bytes of a part.
+#[tactic(auto, using(crate::proofs::Counts::passing_lines))]
+pub fn past(part: &[u8], p: Span) -> Span
+    requires { Reaches p (length part.now) }
+    ensures { result ≡ passed p part.now }
+{
+    if has(part, b'\n') {
+        return past_lines(part, p);
+    }
+    let len = part.len() as u32;
+    Span {
+        column: p.column + len,
+        position: p.position + len,
+        ..p
     }
 }
 

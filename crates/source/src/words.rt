@@ -1,9 +1,9 @@
 // Eight bytes as one number: the marks of a byte that is looked for, and how many bytes stand before the first mark.
 // No byte carries into the next.
-ghost use Rattle.std.specs.Prelude.{◌≡◌, ◌+◌, ◌/◌, ◌<◌, ◌≤◌, length, take, drop};
+ghost use Rattle.std.specs.Prelude.{◌≡◌, ◌+◌, ◌/◌, ◌<◌, ◌≤◌};
 ghost use Rattle.std.specs.Int.Bits.{bit_and};
 ghost use Rattle.std.specs.Int.Count.{count_trailing_zeros};
-ghost use Rattle.source.specs.Code.{Word, word_of, marks_of, repeated, is_not};
+ghost use Rattle.source.specs.Code.{word_of, marks_of, repeated, is_not};
 
 // A byte eight times.
 #[tactic(auto, unfolding(crate::specs::Code::repeated))]

@@ -1,6 +1,5 @@
 -- `source::stop_blocks` passes each block up to its first mark. Assumes nothing.
 use Rattle.std.proofs.Common.{◌≡◌, refl, arith, ◌+◌, ◌*◌}
-use Rattle.byte.specs.Bytes.{is_none_of}
 use Rattle.source.proofs.Places.{block_at}
 use Rattle.source.proofs.Marks.{passing_marks, passing_unmarked}
 use Rattle.source.proofs.stop_blocks.Goals as goal
