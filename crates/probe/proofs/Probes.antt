@@ -15,6 +15,7 @@ use Rattle.byte.proofs.Tests.{choice}
 use Rattle.unit.specs.declared.Mode.{Mode}
 use Rattle.unit.specs.declared.Stop.{Stop}
 use Rattle.unit.specs.Readings.{Reading, Text, Refused, Wait, text_at}
+use Rattle.byte.specs.Refusals.{number_of}
 use Rattle.text.specs.declared.Scanned.{Scanned}
 use Rattle.text.specs.Code.{measured, value_of, gathered, Reads, Scans}
 use Rattle.text.proofs.Writes.{value_gathered}
@@ -74,16 +75,16 @@ is_refused Scanned.Wait = false
 
 abbrev size_of : Scanned → ℕ
 size_of (Scanned.Text len stop from after) = len
-size_of (Scanned.Refused refusal place) = number
+size_of (Scanned.Refused refusal place) = number_of refusal
 size_of Scanned.Wait = 0
 
 -- a reading from what its scan found
 module _ (part : List ℕ) where
-  refused_valued : (reading : Reading) (number place : ℕ) → Scanned.Refused refusal place ≡ measured reading → Valued part reading number part
+  refused_valued : (reading : Reading) (refusal : Refusal) (place : ℕ) → Scanned.Refused refusal place ≡ measured reading → Valued part reading (number_of refusal) part
   unfolding measured value_refusal written
-  refused_valued (Text value stop from after) number place e = absurd (false≢true (sym (ap is_refused e)))
-  refused_valued (Refused other there) number place e = record { answer = ap size_of e; holds = refl }
-  refused_valued Wait number place e = absurd (false≢true (sym (ap is_refused e)))
+  refused_valued (Text value stop from after) refusal place e = absurd (false≢true (sym (ap is_refused e)))
+  refused_valued (Refused other there) refusal place e = record { answer = ap size_of e; holds = refl }
+  refused_valued Wait refusal place e = absurd (false≢true (sym (ap is_refused e)))
 
   wait_valued : (reading : Reading) → Scanned.Wait ≡ measured reading → Valued part reading 6 part
   unfolding measured value_refusal written
@@ -151,8 +152,8 @@ module _ (mode : ℕ) (src label : List ℕ) (at end : ℕ) where
       none t = absurd (false≢true t)
 
   module _ (part : List ℕ) (s : Scanned) (e : s ≡ measured (asked mode src label at end)) where
-    pub value_refused : (number place : ℕ) → s ≡ Scanned.Refused refusal place → Valued part (asked mode src label at end) number part
-    value_refused number place t = refused_valued part (asked mode src label at end) number place (sym t ∙ e)
+    pub value_refused : (refusal : Refusal) (place number : ℕ) → s ≡ Scanned.Refused refusal place → number ≡ number_of refusal → Valued part (asked mode src label at end) number part
+    value_refused refusal place number t n = rw n (refused_valued part (asked mode src label at end) refusal place (sym t ∙ e))
 
     pub value_wait : s ≡ Scanned.Wait → Valued part (asked mode src label at end) 6 part
     value_wait t = wait_valued part (asked mode src label at end) (sym t ∙ e)

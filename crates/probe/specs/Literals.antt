@@ -7,7 +7,7 @@
 use Rattle.std.specs.Prelude.{ℕ, Option, Some, None, List, ◌≡◌, leb, length, drop, if◌then◌else◌}
 use Rattle.byte.specs.Words.{announced}
 use Rattle.byte.specs.Laid.{laid}
-use Rattle.byte.specs.Refusals.{wait, pool_full, out_of_place, too_large}
+use Rattle.byte.specs.Refusals.{wait, pool_full, out_of_place, too_large, number_of}
 use Rattle.number.specs.declared.Literal.{Literal}
 use Rattle.number.specs.declared.Scanned.{Scanned}
 use Rattle.number.specs.Numbers.{Reading, number_at, scanned}
@@ -29,17 +29,17 @@ counted (Some s) =
       after = s.after;
       len = s.len;
     }
-counted None = refusal wait 0
+counted None = refusal (number_of wait) 0
 
 unfoldable pub asked_number : List ℕ → ℕ → ℕ → Probed
 asked_number src at end =
     if leb (length src) 65536 then
-    (if leb at (length src) then counted (scanned (number_at (announced end) at (drop at src))) else refusal out_of_place 0)
-    else refusal too_large 0
+    (if leb at (length src) then counted (scanned (number_at (announced end) at (drop at src))) else refusal (number_of out_of_place) 0)
+    else refusal (number_of too_large) 0
 
 unfoldable pub read_refusal : ℕ → Reading → ℕ
-read_refusal room (Reading.Number literal value after) = if leb (length value) room then 0 else pool_full
-read_refusal room Reading.Wait = wait
+read_refusal room (Reading.Number literal value after) = if leb (length value) room then 0 else number_of pool_full
+read_refusal room Reading.Wait = number_of wait
 
 unfoldable pub read_written : List ℕ → Reading → List ℕ
 read_written part (Reading.Number literal value after) = if leb (length value) (length part) then laid part 0 value else part
@@ -48,8 +48,8 @@ read_written part Reading.Wait = part
 unfoldable pub number_refusal : List ℕ → ℕ → ℕ → ℕ → ℕ
 number_refusal src at end room =
     if leb (length src) 65536 then
-    (if leb at (length src) then read_refusal room (number_at (announced end) at (drop at src)) else out_of_place)
-    else too_large
+    (if leb at (length src) then read_refusal room (number_at (announced end) at (drop at src)) else number_of out_of_place)
+    else number_of too_large
 
 unfoldable pub number_written : List ℕ → ℕ → ℕ → List ℕ → List ℕ
 number_written src at end part =

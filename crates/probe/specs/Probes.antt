@@ -11,7 +11,7 @@ use Rattle.std.specs.Prelude.{ℕ, List, ◌≡◌, leb, eqb, length, drop, if�
 use Rattle.byte.specs.Words.{announced}
 use Rattle.byte.specs.Laid.{laid}
 use Rattle.byte.specs.declared.Octal.{Octal}
-use Rattle.byte.specs.Refusals.{wait, pool_full, out_of_place, too_large}
+use Rattle.byte.specs.Refusals.{wait, pool_full, out_of_place, too_large, number_of}
 use Rattle.unit.specs.declared.Follow.{Follow}
 use Rattle.unit.specs.declared.Indentation.{Indentation}
 use Rattle.unit.specs.declared.Mode.{Mode}
@@ -70,13 +70,13 @@ refusal number place = record { number = number; stop = 0; place = place; detail
 unfoldable pub numbered : Scanned → Probed
 numbered (Scanned.Text len stop from after) =
     record { number = 0; stop = stop_number stop; place = 0; detail = amount_of stop; from = from; after = after; len = len }
-numbered (Scanned.Refused refusal place) = refusal number place
-numbered Scanned.Wait = refusal wait 0
+numbered (Scanned.Refused why place) = refusal (number_of why) place
+numbered Scanned.Wait = refusal (number_of wait) 0
 
 unfoldable pub value_refusal : ℕ → Reading → ℕ
-value_refusal room (Text value stop from after) = if leb (length value) room then 0 else pool_full
-value_refusal room (Refused refusal place) = number
-value_refusal room Wait = wait
+value_refusal room (Text value stop from after) = if leb (length value) room then 0 else number_of pool_full
+value_refusal room (Refused refusal place) = number_of refusal
+value_refusal room Wait = number_of wait
 
 unfoldable pub written : List ℕ → Reading → List ℕ
 written part (Text value stop from after) = if leb (length value) (length part) then laid part 0 value else part

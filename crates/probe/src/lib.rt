@@ -4,6 +4,7 @@
 #![tactic(auto)]
 
 ghost use Rattle.std.specs.Prelude.{◌≡◌};
+ghost use Rattle.byte.specs.Refusals.{number_of};
 ghost use Rattle.text.specs.Code.{measured};
 ghost use Rattle.probe.specs.Probes.{mode_of, asked, stop_number, amount_of, refusal, numbered, Valued};
 ghost use Rattle.probe.specs.Literals.{literal_number, counted, asked_number, NumberValued};
@@ -98,11 +99,11 @@ fn amount_of(stop: Stop) -> usize
 }
 
 // No text: a refusal or wait, by its number, and where.
-fn refusal(number: u32, place: usize) -> Probed
-    ensures { result ≡ refusal number place }
+fn refusal(why: Refusal, place: usize) -> Probed
+    ensures { result ≡ refusal (number_of why) place }
 {
     Probed {
-        number,
+        number: u32::from(why),
         stop: 0,
         place,
         detail: 0,
@@ -131,14 +132,17 @@ fn numbered(s: Scanned) -> Probed
             after,
             len,
         },
-        Scanned::Refused { refusal, place } => refusal(number, place),
+        Scanned::Refused {
+            refusal: why,
+            place,
+        } => refusal(why, place),
         Scanned::Wait => refusal(Refusal::Wait, 0),
     }
 }
 
 // A reading that can't be asked for.
-fn refused(number: u32) -> Scanned
-    ensures { result ≡ Scanned.Refused number 0 }
+fn refused(refusal: Refusal) -> Scanned
+    ensures { result ≡ Scanned.Refused refusal 0 }
 {
     Scanned::Refused { refusal, place: 0 }
 }
@@ -187,13 +191,13 @@ pub extern "C" fn puretakoi_probe_value(
     match scanned(mode, src, label, at, end) {
         Scanned::Text { len, .. } => {
             if value.len() < len {
-                return Refusal::PoolFull;
+                return u32::from(Refusal::PoolFull);
             }
             text::read_text(mode_of(mode), src, label, at, end != 0, &mut value[..len]);
             0
         }
-        Scanned::Refused { number, .. } => number,
-        Scanned::Wait => Refusal::Wait,
+        Scanned::Refused { refusal, .. } => u32::from(refusal),
+        Scanned::Wait => u32::from(Refusal::Wait),
     }
 }
 
@@ -253,16 +257,16 @@ pub extern "C" fn puretakoi_probe_number_value(
     ensures { NumberValued src.now at end value.old result value.new }
 {
     if 65536 < src.len() {
-        return Refusal::TooLarge;
+        return u32::from(Refusal::TooLarge);
     }
     if src.len() < at {
-        return Refusal::OutOfPlace;
+        return u32::from(Refusal::OutOfPlace);
     }
     let Some(found) = number::scan_number(src, at, end != 0) else {
-        return Refusal::Wait;
+        return u32::from(Refusal::Wait);
     };
     if found.len > value.len() {
-        return Refusal::PoolFull;
+        return u32::from(Refusal::PoolFull);
     }
     number::write_number(src, at, found.after, value);
     0

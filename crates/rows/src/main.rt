@@ -8,7 +8,6 @@ ghost use Rattle.std.specs.Prelude.{length, ◌≤◌, IfOk};
 use byte::{Octal, Refusal};
 use outcome::Call;
 use shown::Refused;
-use source::Span;
 use state::{Answer, Choices, Reading};
 use std::io;
 use std::io::{Read, Write};
@@ -87,12 +86,11 @@ fn main(rt: HostRuntime) -> io::Result<()> {
     };
     let mut out = io::writer(&rt);
     if 16384 < n {
-        let first = Span {
-            line: 1,
-            column: 1,
-            position: 0,
+        let refused = Refused {
+            refusal: Refusal::TooLarge,
+            span: state::origin(),
         };
-        print_refusal(&mut out, Refusal::TooLarge, first)?;
+        writeln!(&mut out, "{refused}")?;
     } else {
         print_script(&mut out, &buffer[..n])?;
     }
