@@ -1,8 +1,7 @@
 -- Of a call that may be refused: which number is given back. Assumes nothing.
---   told_none     the number is 0 for no refusal alone
---   told_among    the number of a refusal of a list is one of the list's numbers
---   told_which    so what is told of a call with such refusals is 0 or one of them
---   one_of_more   a longer list
+--   number_some, told_none     the number is 0 where there is no refusal, and there alone
+--   told_among                 the number of a refusal of a list is one of the list's numbers
+--   one_of_more, one_of_here   a longer list, and its first
 use Rattle.std.specs.Prelude.{Result, Ok, Err}
 use Prim.Native.Nat.{ℕ}
 use mathlib.Core.Path.{◌≡◌, refl, sym, ap, ◌∙◌}
@@ -45,10 +44,3 @@ one_of_more number n numbers e = go (eqb number n)
 pub one_of_here : (n : ℕ) (numbers : List ℕ) → is_one_of n (n ∷ numbers) ≡ true
 unfolding is_one_of
 one_of_here n numbers = rw (eq-eqb n n refl)
-
-pub told_which : (refusals : List Refusal) (told : Result (Unit {0}) Refusal)
-    → ((refusal : Refusal) → told ≡ Err refusal → is_among refusal refusals ≡ true)
-    → is_one_of (told_number told) (0 ∷ numbers_told refusals) ≡ true
-told_which refusals (Ok passes) h = one_of_here 0 (numbers_told refusals)
-told_which refusals (Err refusal) h =
-    one_of_more (number_of refusal) 0 (numbers_told refusals) (told_among refusal refusals (h refusal refl))
