@@ -12,7 +12,7 @@ use lib.ListN.{length, get_or}
 use lib.Pow.{pow_pos}
 use borrow.Author.Tests.{lt-leb}
 use Rattle.byte.specs.Words.{every}
-use Rattle.std.specs.Prelude.{Ok, Option, None, Some}
+use Rattle.std.specs.Prelude.{Ok, Some}
 use Rattle.lookup.specs.declared.Lookup.{Lookup}
 use Rattle.lookup.specs.Lookups.{record_before, look, search_in, searched, position_in, end_in, find_refusal, told}
 use Rattle.lookup.specs.Lookups.{looked_up}
