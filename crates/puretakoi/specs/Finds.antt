@@ -6,7 +6,7 @@
 --   Finds           the refusal or 0, and what the slice holds: 10 first, for fewer than three numbers
 use Rattle.std.specs.Prelude.{ℕ, List, [], ◌∷◌, ◌++◌, ◌≡◌, leb, length, if◌then◌else◌, Option, None, Some}
 use Rattle.byte.specs.Laid.{laid}
-use Rattle.byte.specs.Refusals.{out_of_place}
+use Rattle.byte.specs.Refusals.{out_of_place, number_of}
 use Rattle.lookup.specs.declared.Lookup.{Lookup}
 use Rattle.lookup.specs.Lookups.{looked_up}
 
@@ -21,12 +21,12 @@ found_ended size found looks end =
 
 unfoldable pub finds_number : Lookup → ℕ
 finds_number (Lookup.Told found looks end) = 0
-finds_number (Lookup.Refused refusal span) = number
+finds_number (Lookup.Refused refusal span) = number_of refusal
 
 unfoldable pub found_after : Lookup → List ℕ → List ℕ
 found_after (Lookup.Told found looks end) slice = laid slice 0 (found_ended (length slice) found looks end)
 found_after (Lookup.Refused refusal span) slice = slice
 
 pub record Finds (list : List ℕ) (count byte : ℕ) (found : List ℕ) (r : ℕ) (found' : List ℕ) : Type 0 where
-  pub number : r ≡ (if leb 3 (length found) then finds_number (looked_up list count byte) else out_of_place)
+  pub number : r ≡ (if leb 3 (length found) then finds_number (looked_up list count byte) else number_of out_of_place)
   pub holds : found' ≡ (if leb 3 (length found) then found_after (looked_up list count byte) found else found)

@@ -12,7 +12,7 @@ use lib.ListN.{length, get_or}
 use lib.Pow.{pow_pos}
 use borrow.Author.Tests.{lt-leb}
 use Rattle.byte.specs.Words.{every}
-use Rattle.std.specs.Prelude.{Option, None, Some}
+use Rattle.std.specs.Prelude.{Ok, Some}
 use Rattle.lookup.specs.declared.Lookup.{Lookup}
 use Rattle.lookup.specs.Lookups.{record_before, look, search_in, searched, position_in, end_in, find_refusal, told}
 use Rattle.lookup.specs.Lookups.{looked_up}
@@ -94,7 +94,7 @@ unfolding halves long
 long_holds = down 65537 (omega arith) ∙ ap (look 32768) (halving 15)
 
 -- so in every such list
-pub long_list : (list : List ℕ) → find_refusal (length list) 65537 ≡ 0
+pub long_list : (list : List ℕ) → find_refusal (length list) 65537 ≡ Ok tt
     → every (λ i. eqb i (position_in list i)) long.trail ≡ true
     → looked_up list 65537 0 ≡ Lookup.Told (Some 0) 17 (get_or list 7 0)
 unfolding long end_in
