@@ -20,12 +20,11 @@ pub fn match_at(src: &[u8], at: usize, label: &[u8]) -> Match
     ensures { result ≡ matched label.now (drop at src.now) }
 {
     let rest = &src[at..];
-    if rest.starts_with(label) {
-        Match::Whole
-    } else if label.starts_with(rest) {
-        Match::Undecided
-    } else {
-        Match::Other
+    match rest.get(..label.len()) {
+        Some(part) if label == part => Match::Whole,
+        Some(_) => Match::Other,
+        None if label.starts_with(rest) => Match::Undecided,
+        None => Match::Other,
     }
 }
 
