@@ -1,15 +1,15 @@
 -- Laws of blocks: the bytes of a block of eight, and runs that are passed by parts and by whole blocks. Assumes nothing.
 use Rattle.std.specs.Prelude.{if◌then◌else◌}
-use mathlib.Core.Path.{◌≡◌, sym, ◌∙◌}
-use mathlib.Core.Bool.{Bool, true, false, not}
+use mathlib.Core.Path.{◌≡◌, refl, sym, ap, ◌∙◌}
+use mathlib.Core.Bool.{Bool, true, false, not, ◌&&◌}
 use mathlib.Core.List.{List, [], ◌∷◌}
 use Prim.Native.Nat.{ℕ, zero, suc, ◌+◌, ◌-◌, ◌<◌, ◌≤◌}
 use native.Mathlib.Omega.{arith}
 use lib.ListN.{length, get_or, take, drop, length-drop}
-use lib.Seq.{drop-drop}
+use lib.Seq.{drop-drop, length-take-le}
 use borrow.Author.Tests.{not-false}
 use Rattle.byte.specs.Words.{run, every}
-use Rattle.source.specs.Code.{Passing}
+use Rattle.source.specs.Code.{Passing, RunEnd}
 use Rattle.byte.proofs.Tests.{&&-left, &&-right}
 use Rattle.byte.proofs.Words.{drop-one}
 
@@ -92,3 +92,26 @@ module _ (test : ℕ → Bool) (src : List ℕ) (at i : ℕ) (p : Passing test s
   passing_block n hit h e f =
       let all : every test (take n (drop i src)) ≡ true = not-false (every test (take n (drop i src))) (sym e ∙ f) in
       passing_part n h (run_every test (drop i src) n (rw (length-drop i src) h) all)
+
+-- where not all of the first n pass, a run is over among them
+run_cut : (test : ℕ → Bool) (n : ℕ) (xs : List ℕ) → every test (take n xs) ≡ false → run test (take n xs) ≡ run test xs
+unfolding run every
+run_cut test zero xs e = cc
+run_cut test (suc n) [] e = cc
+run_cut test (suc n) (b ∷ rest) e = go (test b) (run_cut test n rest) e
+  where
+    go : (t : Bool) → (every test (take n rest) ≡ false → run test (take n rest) ≡ run test rest)
+        → (t && every test (take n rest)) ≡ false
+        → (if t then suc (run test (take n rest)) else 0) ≡ (if t then suc (run test rest) else 0)
+    go true ih f = ap suc (ih f)
+    go false ih f = refl
+
+-- a run goes on up to a place of the block in which it ends
+pub run_end_block : (test : ℕ → Bool) (src block : List ℕ) (at i n r : ℕ) → Passing test src at i
+    → every test (take n (drop i src)) ≡ false → block ≡ take n (drop i src) → n ≤ length src - i
+    → RunEnd test block 0 r → RunEnd test src at (i + r)
+run_end_block test src block at i n r p cut e h f =
+    let same : run test block ≡ run test (drop i src) = rw e (run_cut test n (drop i src) cut) in
+    let told : r ≡ run test (drop i src) = omega (arith, f.place, same) in
+    let size : length block ≡ n = rw e (length-take-le n (drop i src) (rw (length-drop i src) h)) in
+    record { place = omega (arith, told, p.same); inside = omega (arith, f.inside, size, h, p.inside) }
