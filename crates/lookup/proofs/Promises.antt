@@ -12,6 +12,7 @@
 --   cuts_found                             however a script is cut, the same is found
 --   find_refusals   the refusals are 11 and 12, at the script's beginning
 use Prim.Native.Nat.{ℕ, zero, suc, ◌+◌, ◌*◌, ◌/◌, ◌≤◌, ◌<◌}
+use Rattle.byte.specs.declared.Refusal.{Refusal}
 use mathlib.Core.Path.{◌≡◌, refl, sym, ap, ◌∙◌}
 use mathlib.Core.Bool.{Bool, true}
 use mathlib.Core.List.{List, [], ◌∷◌}
@@ -20,6 +21,9 @@ use lib.Dec.{leb, ltb, eqb}
 use lib.ListN.{length, get_or, drop}
 use lib.Seq.{get_or-drop}
 use borrow.Author.Tests.{le-leb}
+use Rattle.std.specs.Prelude.{Ok}
+use Rattle.std.specs.Prelude.{Err}
+use Rattle.std.specs.Prelude.{Result}
 use Rattle.byte.specs.Words.{every}
 use Rattle.byte.specs.Demand.{is_byte}
 use Rattle.byte.specs.Refusals.{too_large, bad_session, is_among}
@@ -40,7 +44,8 @@ use Rattle.demands.proofs.Filled.{steps_filled, walk_filled, fed_filled, filled_
 use Rattle.demands.proofs.Filled.{steps_size, walk_size, fed_size}
 use Rattle.std.specs.Prelude.{Option}
 use Rattle.lookup.specs.declared.Lookup.{Lookup}
-use Rattle.lookup.specs.Lookups.{Search, position_in, end_in, searched, find_refusal, told, looked_up}
+use Rattle.state.proofs.Refusals.{checked_among}
+use Rattle.lookup.specs.Lookups.{unless_refused, Search, position_in, end_in, searched, find_refusal, told, looked_up}
 use Rattle.lookup.specs.FullWalks.{is_seen, NeverFalls, AsFullWalk, IsReached}
 use Rattle.lookup.proofs.Searches.{searched_most, searched_inside, searched_seen, searched_reached}
 use Rattle.lookup.proofs.Searches.{searched_agrees}
@@ -49,7 +54,7 @@ use Rattle.lookup.proofs.Lookups.{find_bounded}
 
 -- ---- every list that 11 and 12 let pass
 
-module _ (list : List ℕ) (count byte : ℕ) (passes : find_refusal (length list) count ≡ 0) where
+module _ (list : List ℕ) (count byte : ℕ) (passes : find_refusal (length list) count ≡ Ok tt) where
   abbrev the : Search
   the = searched (position_in list) byte 0 count
 
@@ -76,7 +81,7 @@ module _ (list : List ℕ) (count byte : ℕ) (passes : find_refusal (length lis
       ∙ ap (λ (f : Option ℕ). Lookup.Told f (length the.trail) (end_in list f))
       (rising_found (position_in list) byte count rising)
 
-  module _ (list' : List ℕ) (passes' : find_refusal (length list') count ≡ 0)
+  module _ (list' : List ℕ) (passes' : find_refusal (length list') count ≡ Ok tt)
       (agree : every (λ i. eqb (position_in list i) (position_in list' i)) the.trail ≡ true) where
     same_search : the ≡ searched (position_in list') byte 0 count
     same_search = searched_agrees (position_in list) (position_in list') byte 0 count agree
@@ -95,30 +100,33 @@ module _ (list : List ℕ) (count byte : ℕ) (passes : find_refusal (length lis
 
 -- ---- the refusals
 
--- a number of this call
-abbrev Which : ℕ → Type 0
-Which n = is_among n (0 ∷ too_large ∷ bad_session ∷ []) ≡ true
+abbrev told_of : List ℕ → ℕ → ℕ → Lookup
+told_of list count byte = told list (searched (position_in list) byte 0 count)
 
-pub find_which : (list count : ℕ) → Which (find_refusal list count)
-unfolding find_refusal is_among
-find_which list count =
-    choice Which (leb (list / 8) 65537) _ _ (λ e. choice Which (leb count (list / 8)) _ _ (λ f. refl) (λ f. refl))
-    (λ e. refl)
+never_refused : (list : List ℕ) (count byte : ℕ) (refusal : Refusal) (span : Span)
+    → told_of list count byte ≡ Lookup.Refused refusal span → ⊥
+never_refused list count byte refusal span e = let never : ◌≡◌ {A = ℕ} 0 1 = cc in omega arith
 
-pub find_refusals : (list : List ℕ) (count byte number : ℕ) (span : Span)
+pub find_which : (list count : ℕ) (refusal : Refusal) → find_refusal list count ≡ Err refusal
+    → is_among refusal (too_large ∷ bad_session ∷ []) ≡ true
+unfolding find_refusal
+find_which list count refusal = checked_among (leb (list / 8) 65537) (leb count (list / 8)) refusal
+
+pub find_refusals : (list : List ℕ) (count byte : ℕ) (refusal : Refusal) (span : Span)
     → looked_up list count byte ≡ Lookup.Refused refusal span
-    → (is_among number (too_large ∷ bad_session ∷ []) ≡ true) × (span ≡ origin)
-unfolding looked_up is_among
-find_refusals list count byte number span =
-    choice
-    (λ (r : Lookup).
-    r ≡ Lookup.Refused refusal span → (is_among number (too_large ∷ bad_session ∷ []) ≡ true) × (span ≡ origin))
-    (eqb (find_refusal (length list) count) 0) _ _
-    (λ e f. let never : ◌≡◌ {A = ℕ} 0 1 = cc in absurd (omega arith))
-    (λ e f.
-    let same : find_refusal (length list) count ≡ number = cc in
-    let place : origin ≡ span = cc in
-    (rw (← same) (rw e at (find_which (length list) count)), sym place))
+    → (is_among refusal (too_large ∷ bad_session ∷ []) ≡ true) × (span ≡ origin)
+unfolding looked_up
+find_refusals list count byte refusal span = go (find_refusal (length list) count) (find_which (length list) count)
+  where
+    go : (told : Result (Unit {0}) Refusal)
+        → ((why : Refusal) → told ≡ Err why → is_among why (too_large ∷ bad_session ∷ []) ≡ true)
+        → unless_refused told (told_of list count byte) ≡ Lookup.Refused refusal span
+        → (is_among refusal (too_large ∷ bad_session ∷ []) ≡ true) × (span ≡ origin)
+    go (Ok tt) among e = absurd (never_refused list count byte refusal span e)
+    go (Err why) among e =
+        let same : why ≡ refusal = cc in
+        let place : origin ≡ span = cc in
+        (rw (← same) (among why refl), sym place)
 
 -- ---- lists that were filled
 

@@ -19,7 +19,7 @@ use lib.ListN.{length}
 use borrow.Author.Tests.{le-leb, lt-leb, leb-true, leb-false, lt-ltb, eq-eqb, eqb-true}
 use Rattle.byte.specs.Words.{every}
 use Rattle.byte.proofs.Tests.{choice, &&-left, &&-right, &&-both, suc_one}
-use Rattle.byte.specs.Refusals.{is_among}
+use Rattle.byte.specs.Words.{is_one_of}
 use Rattle.lookup.specs.Lookups.{Search, over, look, search_in, searched, record_before}
 use Rattle.lookup.specs.FullWalks.{is_seen, IsReached}
 
@@ -131,12 +131,12 @@ module _ (position : ℕ → ℕ) (byte : ℕ) where
   Seen low s = (s.found ≡ record_before low) ⊎ (is_seen s.found s.trail ≡ true)
 
   seen_later : (i : ℕ) (found : Option ℕ) (trail : List ℕ) → is_seen found trail ≡ true → is_seen found (i ∷ trail) ≡ true
-  unfolding is_seen is_among
+  unfolding is_seen is_one_of
   seen_later i None trail e = refl
   seen_later i (Some n) trail e = rw e (or-true (eqb n i))
 
   seen_first : (i : ℕ) (found : Option ℕ) (trail : List ℕ) → found ≡ record_before (i + 1) → is_seen found (i ∷ trail) ≡ true
-  unfolding is_seen is_among record_before
+  unfolding is_seen is_one_of record_before
   seen_first i found trail e = rw (e, ← suc_one i, eq-eqb i i refl)
 
   rounds_seen : (rounds low high : ℕ) → Seen low (search_in rounds position byte low high)

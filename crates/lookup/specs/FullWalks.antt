@@ -8,7 +8,7 @@
 --   is_seen       what is found was looked at
 --   IsReached     what is found is at or before the byte
 use Rattle.std.specs.Prelude.{ℕ, zero, suc, ◌≤◌, ◌<◌, Bool, true, List, ◌≡◌, leb, length, if◌then◌else◌, Option, None, Some}
-use Rattle.byte.specs.Refusals.{is_among}
+use Rattle.byte.specs.Words.{is_one_of}
 use Rattle.lookup.specs.declared.Lookup.{Lookup}
 use Rattle.lookup.specs.Lookups.{position_in, end_in, searched, looked_up}
 
@@ -33,7 +33,7 @@ AsFullWalk list count byte =
 
 unfoldable pub is_seen : Option ℕ → List ℕ → Bool
 is_seen None trail = true
-is_seen (Some i) trail = is_among i trail
+is_seen (Some i) trail = is_one_of i trail
 
 abbrev pub IsReached : (ℕ → ℕ) → ℕ → Option ℕ → Type 0
 IsReached position byte None = Unit {0}

@@ -19,6 +19,7 @@ use Rattle.std.specs.Prelude.{Result}
 use Rattle.source.specs.Cursor.{origin}
 use Rattle.state.specs.declared.Answer.{Answer}
 use Rattle.state.specs.declared.Session.{Session}
+use Rattle.source.specs.declared.Span.{Span}
 use Rattle.state.specs.Gates.{lent_refusal}
 use Rattle.layout.specs.Sessions.{session_in}
 use Rattle.layout.specs.Answers.{is_unrefused}
@@ -166,15 +167,15 @@ module _ (call : Call) (src : List ℕ) (end : Bool) (numbers l q : List ℕ) (m
     shut_on zero = rw (← e, n)
     shut_on (suc m) = rw (← e, n)
 
-    pub walk_shut :
-        Walks call most src end numbers l q (record { answer = Answer.Refused refusal origin; done = 0 }) numbers l q
+    pub walk_shut : (span : Span) → span ≡ origin
+        → Walks call most src end numbers l q (record { answer = Answer.Refused refusal span; done = 0 }) numbers l q
     unfolding called is_done
-    walk_shut =
+    walk_shut span o =
         let over = shut_on most in
         let undone : is_done alone.turn.answer ≡ false = rw (← e, n) in
         let still : is_written most alone ≡ false = is_written_refused most alone (rw (← e, n)) in
         record {
-          answer = rw over;
+          answer = rw (over, o);
           done = sym (calls_done_over call src end (session_in numbers) l q most undone);
           list = rw over;
           pool = rw over;
