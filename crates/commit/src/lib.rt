@@ -100,7 +100,7 @@ fn token_of(src: &[u8], after: usize, m: Mark, d: Draft) -> Token
     ensures { result ≡ draft_token src.now after m d }
 {
     Token {
-        kind: d.kind,
+        kind: u32::from(d.kind),
         detail: d.detail as u32,
         span: span_at(src, m.span, d.place),
         start: m.bytes,
