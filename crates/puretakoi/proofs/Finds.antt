@@ -132,7 +132,7 @@ module _ (list : List ℕ) (count byte : ℕ) (found : List ℕ) (r : ℕ) (foun
   unfolding looked_up
   finds-number =
       c.number
-      ∙ ap (λ (n : ℕ). if leb 3 (length found) then n else number_of out_of_place) (refused_number (find_refusal (length list) count) _ _ _)
+      ∙ ap (λ (n : ℕ). if leb 3 (length found) then n else number_of out_of_place) (refused_number (find_refusal (length list) count) _)
 
   -- 10, or one of the look-up's own
   pub finds_which : is_one_of r (0 ∷ numbers_told (out_of_place ∷ too_large ∷ bad_session ∷ [])) ≡ true
