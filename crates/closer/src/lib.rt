@@ -55,7 +55,7 @@ pub fn blank_end(src: &[u8], at: usize) -> usize
     requires { at ≤ length src.now }
     ensures { RunEnd is_blank src.now at result }
 {
-    source::end_of(src, at, byte::is_blank)
+    source::end_of(src, at, |b| (b == b' ') | (b == b'\t'))
 }
 
 // A label of `size` bytes at n after its indentation, which must not be mixed.
