@@ -68,6 +68,7 @@ fn bits(row: &[Class; 16], first: Class, last: Class) -> u64
 }
 
 // A quarter of the table from a row on, a bit for each of its sixty-four bytes.
+// One loop over all sixty-four is too long to be computed ahead: `is_identifier` then has 233 instructions, not 12.
 #[inline(always)]
 fn set_of(row: usize, first: Class, last: Class) -> u64
     requires { row ≤ 12 }
