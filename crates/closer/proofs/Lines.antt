@@ -2,7 +2,7 @@
 -- Assumes nothing.
 use Rattle.std.proofs.Common.{◌≡◌, ℕ, suc, ◌+◌, ◌-◌, ◌<◌, ◌≤◌, Bool, true, false, ◌&&◌, List, [], ◌∷◌, length, take, drop, refl, sym, ap, ◌∙◌, eqb, if◌then◌else◌, arith}
 use Rattle.std.proofs.Common.{add-zero}
-use Rattle.std.specs.List.{fold, slice_range, prefix_len, starts_with}
+use Rattle.std.specs.List.{fold, slice_range, starts_with}
 use Rattle.std.proofs.lemmas.List.{take_all, length-drop}
 use borrow.Author.Tests.{eqb-true, eq-eqb}
 use lib.Seq.{drop-drop}
@@ -83,16 +83,6 @@ matched_short (a ∷ label) (b ∷ xs) h e = go (eqb a b) refl (matched_short la
     go false k f g = refl
 
 -- ---- the blanks, and the line
-
-pub run_prefix : (test : ℕ → Bool) (xs : List ℕ) → run test xs ≡ prefix_len test xs
-unfolding run
-run_prefix test [] = refl
-run_prefix test (b ∷ rest) = go (test b) (run_prefix test rest)
-  where
-    go : (t : Bool) → run test rest ≡ prefix_len test rest
-        → (if t then suc (run test rest) else 0) ≡ (if t then 1 + prefix_len test rest else 0)
-    go true e = omega arith
-    go false e = refl
 
 -- so many blanks are passed, and the label decides
 line_run : (label : List ℕ) (end : Bool) (n : ℕ) (ind : Indentation) (amount : ℕ) (xs : List ℕ)

@@ -87,7 +87,7 @@ impl Indent {
         }
         let mut i = at;
         let mut len = 0;
-        // A turn passes a line: `line_end` finds its end by blocks of bytes, where `split_inclusive` tests each.
+        // `split_inclusive` looks at each byte alone, and the place of a stray byte would be added up all the same.
         while i < body.len() {
             let next = closing::line_end(body, i);
             let off = self.offset(&body[i..next]);
@@ -203,7 +203,7 @@ pub fn write_sheet(body: &[u8], at: usize, blank: u8, width: usize, len: usize, 
     let ind = Indent { blank, width };
     let mut i = at;
     let mut j = 0;
-    // A turn puts what is left of a line, so no iterator counts the places.
+    // `split_inclusive` looks at each byte alone, and the bytes put would be counted all the same.
     while j < len {
         let next = closing::line_end(body, i);
         let k = i + ind.offset(&body[i..next]);
