@@ -56,6 +56,7 @@ pub struct Work {
     pub finished: bool,
 }
 
+// What a routine answers. Three answers, as of a scan: a wait is no error.
 #[derive(Clone, Copy)]
 pub enum Plan {
     Told(Work),

@@ -8,6 +8,7 @@ use lib.ListN.{length, drop, length-drop}
 use borrow.Author.Tests.{le-leb, lt-leb}
 use Rattle.byte.specs.Words.{announced}
 use Rattle.byte.specs.Laid.{laid}
+use Rattle.byte.specs.Refusals.{wait, pool_full, out_of_place, too_large, number_of}
 use Rattle.number.specs.declared.Literal.{Literal}
 use Rattle.number.specs.declared.Scanned.{Scanned}
 use Rattle.number.specs.Numbers.{Reading, number_at, scanned, value_of}
@@ -22,19 +23,19 @@ module _ (s : Option Scanned) where
   unfolding counted
   counted_number n kind e f = rw (e, f)
 
-  pub counted_wait : (r : Probed) → s ≡ None → r ≡ refusal 6 0 → r ≡ counted s
+  pub counted_wait : (r : Probed) → s ≡ None → r ≡ refusal (number_of wait) 0 → r ≡ counted s
   unfolding counted
   counted_wait r e f = f ∙ rw e
 
 pub ruleset countings = (counted_number, counted_wait)
 
 module _ (src : List ℕ) (at end : ℕ) (r : Probed) where
-  pub number_large : 65536 < length src → r ≡ refusal 11 0 → r ≡ asked_number src at end
+  pub number_large : 65536 < length src → r ≡ refusal (number_of too_large) 0 → r ≡ asked_number src at end
   unfolding asked_number
   number_large h e = e ∙ rw (lt-leb (length src) 65536 h)
 
   module _ (short : length src ≤ 65536) where
-    pub number_past : length src < at → r ≡ refusal 10 0 → r ≡ asked_number src at end
+    pub number_past : length src < at → r ≡ refusal (number_of out_of_place) 0 → r ≡ asked_number src at end
     unfolding asked_number
     number_past h e = e ∙ rw (le-leb (length src) 65536 short, lt-leb at (length src) h)
 
@@ -75,22 +76,22 @@ waits (Reading.Number literal value after) s e f =
 waits Reading.Wait s e f = refl
 
 module _ (src : List ℕ) (at end : ℕ) (part : List ℕ) where
-  pub value_large : 65536 < length src → NumberValued src at end part 11 part
+  pub value_large : (r : ℕ) → 65536 < length src → r ≡ number_of too_large → NumberValued src at end part r part
   unfolding number_refusal number_written
-  value_large h = record { answer = rw (lt-leb (length src) 65536 h); holds = rw (lt-leb (length src) 65536 h) }
+  value_large r h e = record { answer = rw (e, lt-leb (length src) 65536 h); holds = rw (lt-leb (length src) 65536 h) }
 
   module _ (short : length src ≤ 65536) where
-    pub value_past : length src < at → NumberValued src at end part 10 part
+    pub value_past : (r : ℕ) → length src < at → r ≡ number_of out_of_place → NumberValued src at end part r part
     unfolding number_refusal number_written
-    value_past h =
-        record { answer = rw (le-leb (length src) 65536 short, lt-leb at (length src) h); holds = rw (le-leb (length src) 65536 short, lt-leb at (length src) h) }
+    value_past r h e =
+        record { answer = rw (e, le-leb (length src) 65536 short, lt-leb at (length src) h); holds = rw (le-leb (length src) 65536 short, lt-leb at (length src) h) }
 
     module _ (start : at ≤ length src) (s : Option Scanned) (e : s ≡ scanned (number_at (announced end) at (drop at src))) where
-      pub value_wait : s ≡ None → NumberValued src at end part 6 part
+      pub value_wait : (r : ℕ) → s ≡ None → r ≡ number_of wait → NumberValued src at end part r part
       unfolding number_refusal number_written read_refusal read_written
-      value_wait f =
+      value_wait r f g =
           let w = waits (number_at (announced end) at (drop at src)) s e f in
-          record { answer = rw (le-leb (length src) 65536 short, le-leb at (length src) start, w); holds = rw (le-leb (length src) 65536 short, le-leb at (length src) start, w) }
+          record { answer = rw (g, le-leb (length src) 65536 short, le-leb at (length src) start, w); holds = rw (le-leb (length src) 65536 short, le-leb at (length src) start, w) }
 
       module _ (n : Scanned) (f : s ≡ Some n) where
         number : Found (number_at (announced end) at (drop at src)) n.literal n.after n.len
@@ -105,12 +106,12 @@ module _ (src : List ℕ) (at end : ℕ) (part : List ℕ) where
         pub value_high : n.after ≤ length src
         value_high = omega (arith, length-drop at src, (number_at_inside (announced end) at (drop at src) n.literal number.value n.after number.is).1)
 
-        pub value_full : length part < n.len → NumberValued src at end part 8 part
+        pub value_full : (r : ℕ) → length part < n.len → r ≡ number_of pool_full → NumberValued src at end part r part
         unfolding number_refusal number_written read_refusal read_written
-        value_full h =
+        value_full r h g =
             let no = lt-leb (length number.value) (length part) (rw number.size at h) in
             record {
-              answer = rw (le-leb (length src) 65536 short, le-leb at (length src) start, number.is, no);
+              answer = rw (g, le-leb (length src) 65536 short, le-leb at (length src) start, number.is, no);
               holds = rw (le-leb (length src) 65536 short, le-leb at (length src) start, number.is, no);
             }
 

@@ -15,7 +15,7 @@ use Rattle.byte.proofs.Tests.{choice}
 use Rattle.unit.specs.declared.Mode.{Mode}
 use Rattle.unit.specs.declared.Stop.{Stop}
 use Rattle.unit.specs.Readings.{Reading, Text, Refused, Wait, text_at}
-use Rattle.byte.specs.Refusals.{number_of}
+use Rattle.byte.specs.Refusals.{wait, pool_full, out_of_place, too_large, number_of}
 use Rattle.text.specs.declared.Scanned.{Scanned}
 use Rattle.text.specs.Code.{measured, value_of, gathered, Reads, Scans}
 use Rattle.text.proofs.Writes.{value_gathered}
@@ -27,22 +27,22 @@ numbered_same s t r e h = h ∙ rw e
 
 -- what can't be taken, and what can
 module _ (mode : ℕ) (src label : List ℕ) (at end : ℕ) (r : Scanned) where
-  pub asked_large : 65536 < length src → r ≡ Scanned.Refused Refusal.TooLarge 0 → r ≡ measured (asked mode src label at end)
+  pub asked_large : 65536 < length src → r ≡ Scanned.Refused too_large 0 → r ≡ measured (asked mode src label at end)
   unfolding asked measured
   asked_large h e = e ∙ rw (lt-leb (length src) 65536 h)
 
   module _ (short : length src ≤ 65536) where
-    pub asked_mode : 8 < mode → r ≡ Scanned.Refused Refusal.OutOfPlace 0 → r ≡ measured (asked mode src label at end)
+    pub asked_mode : 8 < mode → r ≡ Scanned.Refused out_of_place 0 → r ≡ measured (asked mode src label at end)
     unfolding asked measured
     asked_mode h e = e ∙ rw (le-leb (length src) 65536 short, lt-leb mode 8 h)
 
     module _ (known : mode ≤ 8) where
-      pub asked_past : length src < at → r ≡ Scanned.Refused Refusal.OutOfPlace 0 → r ≡ measured (asked mode src label at end)
+      pub asked_past : length src < at → r ≡ Scanned.Refused out_of_place 0 → r ≡ measured (asked mode src label at end)
       unfolding asked measured
       asked_past h e = e ∙ rw (le-leb (length src) 65536 short, le-leb mode 8 known, lt-leb at (length src) h)
 
       module _ (start : at ≤ length src) where
-        pub asked_label : 64 < length label → r ≡ Scanned.Refused Refusal.OutOfPlace 0 → r ≡ measured (asked mode src label at end)
+        pub asked_label : 64 < length label → r ≡ Scanned.Refused out_of_place 0 → r ≡ measured (asked mode src label at end)
         unfolding asked measured
         asked_label h e =
             e ∙ rw (
@@ -86,14 +86,14 @@ module _ (part : List ℕ) where
   refused_valued (Refused other there) refusal place e = record { answer = ap size_of e; holds = refl }
   refused_valued Wait refusal place e = absurd (false≢true (sym (ap is_refused e)))
 
-  wait_valued : (reading : Reading) → Scanned.Wait ≡ measured reading → Valued part reading 6 part
+  wait_valued : (reading : Reading) → Scanned.Wait ≡ measured reading → Valued part reading (number_of wait) part
   unfolding measured value_refusal written
   wait_valued (Text value stop from after) e = absurd (false≢true (ap is_text e))
   wait_valued (Refused refusal place) e = absurd (false≢true (ap is_refused e))
   wait_valued Wait e = record { answer = refl; holds = refl }
 
   module _ (len : ℕ) (stop : Stop) (from after : ℕ) where
-    full_valued : (reading : Reading) → Scanned.Text len stop from after ≡ measured reading → length part < len → Valued part reading 8 part
+    full_valued : (reading : Reading) → Scanned.Text len stop from after ≡ measured reading → length part < len → Valued part reading (number_of pool_full) part
     unfolding measured value_refusal written
     full_valued (Text value other start end) e h =
         let no : leb (length value) (length part) ≡ false = lt-leb (length value) (length part) (rw (ap size_of e) at h) in
@@ -155,12 +155,12 @@ module _ (mode : ℕ) (src label : List ℕ) (at end : ℕ) where
     pub value_refused : (refusal : Refusal) (place number : ℕ) → s ≡ Scanned.Refused refusal place → number ≡ number_of refusal → Valued part (asked mode src label at end) number part
     value_refused refusal place number t n = rw n (refused_valued part (asked mode src label at end) refusal place (sym t ∙ e))
 
-    pub value_wait : s ≡ Scanned.Wait → Valued part (asked mode src label at end) 6 part
-    value_wait t = wait_valued part (asked mode src label at end) (sym t ∙ e)
+    pub value_wait : (number : ℕ) → s ≡ Scanned.Wait → number ≡ number_of wait → Valued part (asked mode src label at end) number part
+    value_wait number t n = rw n (wait_valued part (asked mode src label at end) (sym t ∙ e))
 
     module _ (len : ℕ) (stop : Stop) (from after' : ℕ) (t : s ≡ Scanned.Text len stop from after') where
-      pub value_full : length part < len → Valued part (asked mode src label at end) 8 part
-      value_full h = full_valued part len stop from after' (asked mode src label at end) (sym t ∙ e) h
+      pub value_full : (number : ℕ) → length part < len → number ≡ number_of pool_full → Valued part (asked mode src label at end) number part
+      value_full number h n = rw n (full_valued part len stop from after' (asked mode src label at end) (sym t ∙ e) h)
 
       bounds : InBounds mode src label at end (asked mode src label at end)
       bounds = asked_bounds (ap is_text (sym e ∙ t))

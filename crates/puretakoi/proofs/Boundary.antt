@@ -6,12 +6,15 @@
 --   walked_one   and of a walk or one call, all but the numbers of the session, which stand for
 --                the same session
 -- That reading what was written gives the session again, and that numbers which are no session are refused, is proved in crate layout.
+use Rattle.std.specs.Prelude.{Result}
 use Prim.Native.Nat.{ℕ}
 use mathlib.Core.Path.{◌≡◌, refl, sym, ap, ◌∙◌}
 use mathlib.Core.Bool.{Bool, true, false, ◌&&◌}
 use mathlib.Core.Logic.{◌⊎◌, inl, inr}
 use mathlib.Core.List.{List}
 use lib.ListN.{length}
+use Rattle.byte.specs.declared.Refusal.{Refusal}
+use Rattle.state.specs.declared.Answer.{Answer}
 use Rattle.state.specs.declared.Turn.{Turn}
 use Rattle.outcome.specs.declared.Call.{Call}
 use Rattle.lexer.specs.Turns.{After}
@@ -21,8 +24,15 @@ use Rattle.walk.specs.Walks.{is_written}
 use Rattle.walk.proofs.Walks.{called_on_one, is_written_refused}
 use Rattle.walk.proofs.Values.{unwritten}
 use Rattle.layout.specs.Sessions.{session_in}
-use Rattle.layout.specs.Answers.{refusal_in}
+use Rattle.layout.specs.Answers.{refusal_in, is_unrefused}
 use Rattle.puretakoi.specs.Calls.{are_long, Crossed, WalkCalled, Begun, Filed}
+
+-- a number that is not 0 is a refusal's
+refused_told : (a : Answer) → (refusal_in a ≡ 0 → ⊥) → is_unrefused a ≡ false
+unfolding refusal_in
+refused_told Answer.Done h = absurd (h refl)
+refused_told Answer.Finished h = absurd (h refl)
+refused_told (Answer.Refused refusal span) h = refl
 
 -- a call and the steps after it leave session, list and pool as they were
 module _ (most : ℕ) (first a : After) (done : ℕ) (session list pool answer : List ℕ) (r : ℕ)
@@ -46,7 +56,7 @@ module _ (src : List ℕ) (end : Bool) (session list pool answer : List ℕ) (r 
   call_refused call c h =
       let one = called call src end (session_in session) list pool in
       still 1 one one _ session list pool answer r session' list' pool' answer' c (λ e.
-      let written = is_written_refused 1 one (λ z. h (c.number ∙ rw e z)) in
+      let written = is_written_refused 1 one (refused_told one.turn.answer (λ z. h (c.number ∙ rw e z))) in
       let same = unwritten call src end (session_in session) list pool 1 written in
       let alone = called_on_one call src end (session_in session) list pool in
       (written, rw alone at same.1, rw alone at same.2))
@@ -71,7 +81,7 @@ module _ (src : List ℕ) (end : Bool) (session list pool answer : List ℕ) (r 
       where
         written : (most ≡ 0) ⊎ (refusal_in first.turn.answer ≡ 0 → ⊥) → is_written most first ≡ false
         written (inl z) = rw z
-        written (inr h) = is_written_refused most first h
+        written (inr h) = is_written_refused most first (refused_told first.turn.answer h)
 
 pub crossed_one : (t : Turn) (session answer : List ℕ) (r r' : ℕ) (s s' a a' : List ℕ) → Crossed t session answer r s a
     → Crossed t session answer r' s' a' → (r ≡ r') × (s ≡ s') × (a ≡ a')
@@ -101,7 +111,7 @@ pub begun_one : (choices : ℕ) (session : List ℕ) (r r' : ℕ) (s s' : List �
     → (r ≡ r') × (s ≡ s')
 begun_one choices session r r' s s' x y = (x.number ∙ sym y.number, x.holds ∙ sym y.holds)
 
-pub filed_one : (refusal : ℕ) (lent values : List ℕ) (r r' : ℕ) (l l' : List ℕ) → Filed refusal lent values r l
+pub filed_one : (refusal : Result (Unit {0}) Refusal) (lent values : List ℕ) (r r' : ℕ) (l l' : List ℕ) → Filed refusal lent values r l
     → Filed refusal lent values r' l'
     → (r ≡ r') × (l ≡ l')
 filed_one refusal lent values r r' l l' x y = (x.number ∙ sym y.number, x.holds ∙ sym y.holds)

@@ -1,15 +1,16 @@
 -- The calls of a host on each way through them. Assumes nothing.
-use Rattle.std.specs.Prelude.{Option, None, Some, SomeIff}
-use Prim.Native.Nat.{ℕ, zero, suc, ◌≤◌, ◌<◌}
-use mathlib.Core.Path.{◌≡◌, refl, sym, ◌∙◌}
+use Rattle.std.specs.Prelude.{Result, Ok, Err, Option, None, Some, SomeIff}
+use Prim.Native.Nat.{ℕ, ◌≤◌, ◌<◌}
+use mathlib.Core.Path.{◌≡◌, refl, sym, ap, ◌∙◌}
 use mathlib.Core.Bool.{Bool, true, false, not}
 use mathlib.Core.List.{List}
-use native.Mathlib.Omega.{arith}
 use lib.Dec.{leb}
 use lib.ListN.{length}
-use borrow.Author.Tests.{le-leb, lt-leb, leb-true, ne_eqb, not-true, not-false}
+use borrow.Author.Tests.{le-leb, lt-leb, leb-true, not-true, not-false}
 use Rattle.byte.proofs.Tests.{&&-left, &&-right}
 use Rattle.byte.specs.Laid.{laid}
+use Rattle.byte.specs.declared.Refusal.{Refusal}
+use Rattle.byte.specs.Refusals.{out_of_place, bad_session, number_of}
 use Rattle.state.specs.declared.Answer.{Answer}
 use Rattle.state.specs.declared.Frame.{Frame}
 use Rattle.state.specs.declared.Choices.{Choices}
@@ -19,17 +20,18 @@ use Rattle.state.specs.Calls.{fresh_session, skipped, pushed, popped}
 use Rattle.token.specs.Files.{file_answer, Written}
 use Rattle.layout.specs.Sessions.{numbers_of, frame_in, are_choices, choices_in, session_in}
 use Rattle.layout.specs.Answers.{refusal_in, Turned}
-use Rattle.puretakoi.specs.Calls.{are_long, Crossed, fresh_refusal, Begun, Filed}
+use Rattle.puretakoi.specs.Told.{told_number, Tells}
+use Rattle.puretakoi.specs.Calls.{are_long, Crossed, fresh_refusal, fresh_numbers, Begun, Filed}
 
 -- the refusal in the answer of a record file's call
-refusal_file : (number : ℕ) → refusal_in (file_answer number) ≡ number
+refusal_file : (told : Result (Unit {0}) Refusal) → refusal_in (file_answer told) ≡ told_number told
 unfolding refusal_in file_answer
-refusal_file zero = refl
-refusal_file (suc number) = rw (ne_eqb (suc number) 0 (λ h. omega arith))
+refusal_file (Ok passes) = refl
+refusal_file (Err refusal) = refl
 
-pub filed : (number : ℕ) (lent values : List ℕ) (a : Answer) (r : ℕ) (after : List ℕ) → Written number lent values a after → r ≡ refusal_in a
-    → Filed number lent values r after
-filed number lent values a r after w e = record { number = e ∙ rw w.answer (refusal_file number); holds = w.holds }
+pub filed : (told : Result (Unit {0}) Refusal) (lent values : List ℕ) (a : Answer) (r : ℕ) (after : List ℕ)
+    → Written told lent values a after → r ≡ refusal_in a → Filed told lent values r after
+filed told lent values a r after w e = record { number = e ∙ rw w.answer (refusal_file told); holds = w.holds }
 
 not_so : (b : Bool) → (b ≡ true → ⊥) → b ≡ false
 not_so true h = absurd (h refl)
@@ -49,11 +51,11 @@ module _ (session answer : List ℕ) (flag : Bool) (e : flag ≡ are_long (lengt
 -- a call over the session in a host's numbers
 module _ (session answer : List ℕ) (found : Option Session)
     (e : SomeIff found (are_long (length session) (length answer) ≡ true) (session_in session)) where
-  pub crossed_short : found ≡ None → (t : Turn) → Crossed t session answer 10 session answer
-  crossed_short n t =
+  pub crossed_short : (r : ℕ) → found ≡ None → r ≡ number_of out_of_place → (t : Turn) → Crossed t session answer r session answer
+  crossed_short r n z t =
       let no : are_long (length session) (length answer) ≡ true → ⊥ = rw n at e in
       let short : are_long (length session) (length answer) ≡ false = not_so _ no in
-      record { number = rw short; holds = rw short; tells = rw short }
+      record { number = z ∙ rw short; holds = rw short; tells = rw short }
 
   module _ (s : Session) (n : found ≡ Some s) where
     so : (are_long (length session) (length answer) ≡ true) × (s ≡ session_in session)
@@ -89,20 +91,33 @@ pub ruleset crossings = (crossed_session, crossed_answer, crossed_short, skip_do
 
 -- a fresh session
 module _ (number : ℕ) (session : List ℕ) where
-  pub begun_short : length session < 199 → Begun number session 10 session
+  abbrev Makes : Result (Unit {0}) Refusal → List ℕ → Type 0
+  Makes = Tells (fresh_refusal (length session) number) (fresh_numbers number session) session
+
+  pub begun_short : length session < 199 → Makes (Err out_of_place) session
   unfolding fresh_refusal
-  begun_short h = let e : fresh_refusal (length session) number ≡ 10 = rw (lt-leb 199 (length session) h) in record { number = sym e; holds = rw e }
+  begun_short h =
+      let e : fresh_refusal (length session) number ≡ Err out_of_place = rw (lt-leb 199 (length session) h) in
+      record { told = sym e; holds = rw e }
 
   module _ (n : 199 ≤ length session) (flag : Bool) (f : flag ≡ are_choices number) where
-    pub begun_none : not flag ≡ true → Begun number session 12 session
+    pub begun_none : not flag ≡ true → Makes (Err bad_session) session
     unfolding fresh_refusal
-    begun_none h = let e : fresh_refusal (length session) number ≡ 12 = rw (le-leb 199 (length session) n, ← f, not-true flag h) in record { number = sym e; holds = rw e }
+    begun_none h =
+        let e : fresh_refusal (length session) number ≡ Err bad_session = rw (le-leb 199 (length session) n, ← f, not-true flag h) in
+        record { told = sym e; holds = rw e }
 
     pub begun_done : (choices : Choices) (s : Session) (session' : List ℕ) → not flag ≡ false → choices ≡ choices_in number → s ≡ fresh_session choices
-        → session' ≡ laid session 0 (numbers_of s) → Begun number session 0 session'
+        → session' ≡ laid session 0 (numbers_of s) → Makes (Ok tt) session'
     unfolding fresh_refusal
     begun_done choices s session' h a b c =
-        let e : fresh_refusal (length session) number ≡ 0 = rw (le-leb 199 (length session) n, ← f, not-false flag h) in
-        record { number = sym e; holds = c ∙ rw (e, b, a) }
+        let e : fresh_refusal (length session) number ≡ Ok tt = rw (le-leb 199 (length session) n, ← f, not-false flag h) in
+        record { told = sym e; holds = c ∙ rw (e, b, a) }
 
 pub ruleset begun = (begun_short, begun_none, begun_done)
+
+-- and told as a number
+pub fresh_told : (choices : ℕ) (session : List ℕ) (told : Result (Unit {0}) Refusal) (r : ℕ) (session' : List ℕ)
+    → Tells (fresh_refusal (length session) choices) (fresh_numbers choices session) session told session'
+    → r ≡ told_number told → Begun choices session r session'
+fresh_told choices session told r session' t e = record { number = e ∙ ap told_number t.told; holds = t.holds }

@@ -8,16 +8,19 @@
 --   Stands, turns_stands, turns_in_a_row   all that a host then has, and after two calls, the
 --                                          second on what the first left
 --   steps_in_a_row                         the same of two steps
+use Rattle.std.specs.Prelude.{Result, Ok, Err}
 use Prim.Native.Nat.{ℕ, ◌+◌, ◌≤◌}
 use mathlib.Core.Path.{◌≡◌, refl, sym, ap, subst, ◌∙◌}
 use mathlib.Core.Bool.{Bool, true, false, ◌&&◌}
 use mathlib.Core.List.{List, [], ◌∷◌, ◌++◌}
-use lib.Dec.{leb, ltb, eqb}
+use lib.Dec.{leb, ltb}
 use lib.ListN.{length, get_or}
-use borrow.Author.Tests.{eqb-false, le-leb}
+use borrow.Author.Tests.{le-leb}
 use Rattle.byte.specs.Words.{announced}
 use Rattle.byte.specs.Laid.{laid}
 use Rattle.byte.proofs.Tests.{choice}
+use Rattle.byte.specs.declared.Refusal.{Refusal}
+use Rattle.source.specs.declared.Span.{Span}
 use Rattle.state.specs.declared.Answer.{Answer}
 use Rattle.state.specs.declared.Session.{Session}
 use Rattle.state.specs.declared.Turn.{Turn}
@@ -32,9 +35,9 @@ use Rattle.demands.specs.Walks.{called_on, steps_done, calls_done}
 use Rattle.demands.proofs.Steps.{calls_done_steps}
 use Rattle.walk.specs.Walks.{is_written}
 use Rattle.walk.proofs.Walks.{called_on_one}
-use Rattle.walk.proofs.Values.{told, read_back}
-use Rattle.layout.specs.Sessions.{frame_in, session_in}
-use Rattle.layout.specs.Answers.{answer_numbers, refusal_in, session_after}
+use Rattle.walk.proofs.Values.{read_back}
+use Rattle.layout.specs.Sessions.{numbers_of, frame_in, session_in}
+use Rattle.layout.specs.Answers.{answer_numbers, refusal_in, unless_refused, session_after}
 use Rattle.layout.proofs.Again.{Held, session_again, frame_in_held, held_in, held_moved, held_left, held_entered}
 use Rattle.puretakoi.specs.Calls.{are_long, Crossed, told_numbers, WalkCalled, Answered, Turns, Walked}
 
@@ -131,16 +134,20 @@ module _ (src session answer : List ℕ) (r : ℕ) (session' answer' : List ℕ)
 
   -- a session that is not refused is written whole, and a refused one stays
   crosses : (t : Turn) → Kept here t → HeldTurn t → Crossed t session answer r session' answer' → session_in session' ≡ t.session
-  unfolding session_after
+  unfolding unless_refused
   crosses t k h c =
       let holds : session' ≡ session_after t session = c.holds ∙ rw long in
-      ap session_in holds
-      ∙ choice (λ (xs : List ℕ). session_in xs ≡ t.session) (eqb (refusal_in t.answer) 0) _ _
-      (λ e. session_again t.session h session)
-      (λ e. told t.answer (eqb-false _ _ e) _ (λ number span f. sym (k.back number span f)))
+      ap session_in holds ∙ go t.answer (k.back)
+    where
+      go : (a : Answer) → ((refusal : Refusal) (span : Span) → a ≡ Answer.Refused refusal span → t.session ≡ here)
+          → session_in (unless_refused a (laid session 0 (numbers_of t.session)) session) ≡ t.session
+      go Answer.Done back = session_again t.session h session
+      go Answer.Finished back = session_again t.session h session
+      go (Answer.Refused refusal span) back = sym (back refusal span refl)
 
-  gated_held : (number : ℕ) (t : Turn) → HeldTurn t → HeldTurn (gated number here t)
-  gated_held number t h = choice HeldTurn (eqb number 0) t _ (λ e. h) (λ e. held_in session)
+  gated_held : (told : Result (Unit {0}) Refusal) (t : Turn) → HeldTurn t → HeldTurn (gated told here t)
+  gated_held (Ok passes) t h = h
+  gated_held (Err refusal) t h = held_in session
 
   pub skip_crosses : (count : ℕ) → Crossed (skipped src here count) session answer r session' answer'
       → session_in session' ≡ (skipped src here count).session

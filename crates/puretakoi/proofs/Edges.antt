@@ -6,16 +6,15 @@ use mathlib.Core.Path.{◌≡◌, refl, sym, ap, subst, ◌∙◌}
 use mathlib.Core.Bool.{Bool, true}
 use mathlib.Core.List.{List}
 use native.Mathlib.Omega.{arith}
-use lib.Dec.{eqb}
 use lib.ListN.{length, get_or}
 use Rattle.byte.specs.Words.{announced}
-use Rattle.byte.proofs.Tests.{choice}
 use Rattle.state.specs.declared.Session.{Session}
 use Rattle.state.specs.Gates.{lent_refusal}
 use Rattle.token.specs.Records.{token_in}
 use Rattle.outcome.specs.declared.Call.{Call}
 use Rattle.lexer.specs.Turns.{After}
 use Rattle.lexer.specs.Calls.{called}
+use Rattle.lexer.proofs.Nexts.{shut_cases}
 use Rattle.demands.specs.Walks.{walked, called_on}
 use Rattle.demands.specs.Edges.{Literally, IsNew, StepOf}
 use Rattle.demands.proofs.Choices.{call_choices}
@@ -31,7 +30,7 @@ called_on_none : (src : List ℕ) (end : Bool) (s : Session) (l q : List ℕ) (i
 unfolding called_on
 called_on_none src end s l q i =
     shut_cases (λ (a : After). IsNew s a i → ⊥) (lent_refusal src (length l) (length q) s) s l q _
-    (λ e new. omega (arith, new.0, new.1)) (λ e new. omega (arith, new.0, new.1))
+    (λ e new. omega (arith, new.0, new.1)) (λ refusal e new. omega (arith, new.0, new.1))
 
 called_on_walk : (n : ℕ) (src : List ℕ) (end : Bool) (s : Session) (l q : List ℕ)
     → called_on Call.Step (suc n) src end s l q ≡ walked (suc n) src end s l q

@@ -25,6 +25,7 @@ use Rattle.lookup.specs.FullWalks.{last_before}
 use Rattle.lookup.proofs.Promises.{filled_found}
 use Rattle.puretakoi.specs.Calls.{are_long, Crossed, WalkCalled, Answered, Turns, Walked, Begun}
 use Rattle.puretakoi.specs.Finds.{found_ended, finds_number, found_after, Finds}
+use Rattle.puretakoi.proofs.Told.{told_none}
 use Rattle.puretakoi.proofs.Chain.{Stands, turns_stands, reading_stands, skip_crosses, push_crosses, pop_crosses}
 
 -- a host may set the token mark to 0: what the list held is forgotten
@@ -37,7 +38,7 @@ pub begun_filled : (choices : ℕ) (session : List ℕ) (r : ℕ) (session' list
 unfolding laid
 begun_filled choices session r session' list pool b e =
     let fresh : session' ≡ laid session 0 (numbers_of (fresh_session (choices_in choices))) = b.holds
-    ∙ rw (sym b.number ∙ e) in
+    ∙ rw (told_none _ (sym b.number ∙ e)) in
     empty (ap (λ (l : List ℕ). get_or l 4 0) fresh)
 
 -- a host may lend another list and pool, longer or shorter, with the same records up to the mark

@@ -5,24 +5,28 @@
 --   finds_refused   where it is not 0, nothing is written
 --   finds_looks     the third number is 17 at most
 --   finds_end       the fourth, where it is lent, is the found record's eighth number, or 0
-use Rattle.std.specs.Prelude.{if◌then◌else◌, drop, Option, None, Some}
-use Prim.Native.Nat.{ℕ, ◌≤◌, ◌<◌}
+use Rattle.std.specs.Prelude.{if◌then◌else◌, drop, Option, None, Some, Result, Ok, Err}
+use Prim.Native.Nat.{ℕ, ◌/◌, ◌≤◌, ◌<◌}
 use mathlib.Core.Path.{◌≡◌, refl, sym, ap, ◌∙◌}
 use mathlib.Core.Bool.{Bool, true, false}
 use mathlib.Core.List.{List, [], ◌∷◌, ◌++◌}
 use native.Mathlib.Omega.{arith}
-use lib.Dec.{leb, eqb}
+use lib.Dec.{leb}
 use lib.ListN.{length, get_or, set}
-use borrow.Author.Tests.{le-leb, lt-leb, eqb-true}
+use borrow.Author.Tests.{le-leb, lt-leb}
 use Rattle.byte.specs.Laid.{laid}
-use Rattle.byte.specs.Refusals.{out_of_place, too_large, bad_session, is_among}
+use Rattle.byte.specs.declared.Refusal.{Refusal}
+use Rattle.byte.specs.Words.{is_one_of}
+use Rattle.byte.specs.Refusals.{number_of, out_of_place, too_large, bad_session}
 use Rattle.byte.proofs.Laid.{length_laid, laid_append, set_laid}
 use Rattle.byte.proofs.Tests.{choice}
 use Rattle.source.specs.declared.Span.{Span}
-use Rattle.state.proofs.Refusals.{among_more}
-use Rattle.lookup.specs.declared.Lookup.{Lookup}
-use Rattle.lookup.specs.Lookups.{Search, position_in, end_in, searched, find_refusal, looked_up}
-use Rattle.lookup.proofs.Promises.{find_here, find_looks, find_which}
+use Rattle.lookup.specs.declared.Looked.{Looked}
+use Rattle.lookup.specs.declared.Refused.{Refused}
+use Rattle.lookup.specs.Lookups.{Search, position_in, end_in, searched, find_refusal, unless_refused, looked_up}
+use Rattle.lookup.proofs.Promises.{find_here, find_looks}
+use Rattle.puretakoi.specs.Told.{told_number, numbers_told}
+use Rattle.puretakoi.proofs.Told.{number_some, told_none}
 use Rattle.puretakoi.specs.Finds.{found_numbers, found_ended, finds_number, found_after, Finds}
 
 -- three numbers are copied to the start of a slice
@@ -62,31 +66,37 @@ module _ (found written : List ℕ) (f : Option ℕ) (looks end : ℕ) (long : 3
       ∙ rw (le-leb 4 (length found) room)
 
 module _ (list : List ℕ) (count byte : ℕ) (found : List ℕ) where
-  pub finds_short : length found < 3 → Finds list count byte found 10 found
-  finds_short h = record { number = rw (lt-leb 3 (length found) h); holds = rw (lt-leb 3 (length found) h) }
+  pub finds_short : (r : ℕ) → length found < 3 → r ≡ number_of out_of_place → Finds list count byte found r found
+  finds_short r h e = record { number = rw (e, lt-leb 3 (length found) h); holds = rw (lt-leb 3 (length found) h) }
 
-  module _ (lookup : Lookup) (h : 3 ≤ length found) (e : lookup ≡ looked_up list count byte) where
-    pub finds_told : (f : Option ℕ) (looks end : ℕ) (found' : List ℕ) → lookup ≡ Lookup.Told f looks end
-        → found' ≡ laid found 0 (found_ended (length found) f looks end)
+  module _ (lookup : Result Looked Refused) (h : 3 ≤ length found) (e : lookup ≡ looked_up list count byte) where
+    pub finds_told : (looked : Looked) (found' : List ℕ) → lookup ≡ Ok looked
+        → found' ≡ laid found 0 (found_ended (length found) looked.found looked.looks looked.end)
         → Finds list count byte found 0 found'
     unfolding finds_number found_after
-    finds_told f looks end found' k w =
+    finds_told looked found' k w =
         record { number = rw (le-leb 3 (length found) h, ← e, k); holds = rw (le-leb 3 (length found) h, ← e, k) w }
 
-    pub finds_no : (number : ℕ) (span : Span) → lookup ≡ Lookup.Refused refusal span
+    pub finds_no : (refused : Refused) (number : ℕ) → lookup ≡ Err refused → number ≡ number_of refused.refusal
         → Finds list count byte found number found
     unfolding finds_number found_after
-    finds_no number span k =
-        record { number = rw (le-leb 3 (length found) h, ← e, k); holds = rw (le-leb 3 (length found) h, ← e, k) }
+    finds_no refused number k n =
+        record { number = rw (n, le-leb 3 (length found) h, ← e, k); holds = rw (le-leb 3 (length found) h, ← e, k) }
 
 pub ruleset finds = (found_three, found_four, finds_short, finds_told, finds_no)
 
 -- ---- what a host may rely on
 
-after_refused : (l : Lookup) (slice : List ℕ) → (finds_number l ≡ 0 → ⊥) → found_after l slice ≡ slice
+after_refused : (l : Result Looked Refused) (slice : List ℕ) → (finds_number l ≡ 0 → ⊥) → found_after l slice ≡ slice
 unfolding finds_number found_after
-after_refused (Lookup.Told found looks end) slice h = absurd (h refl)
-after_refused (Lookup.Refused refusal span) slice h = refl
+after_refused (Ok looked) slice h = absurd (h refl)
+after_refused (Err refused) slice h = refl
+
+refused_number : (told : Result (Unit {0}) Refusal) (looked : Looked)
+    → finds_number (unless_refused told looked) ≡ told_number told
+unfolding finds_number
+refused_number (Ok passes) looked = refl
+refused_number (Err refusal) looked = refl
 
 third_looks : (found : Option ℕ) (looks end : ℕ) (slice : List ℕ)
     → get_or (laid slice 0 (found_ended (length slice) found looks end)) 2 0 ≡ looks
@@ -118,40 +128,42 @@ finds_one list count byte found r r' f f' x y = (x.number ∙ sym y.number, x.ho
 module _ (list : List ℕ) (count byte : ℕ) (found : List ℕ) (r : ℕ) (found' : List ℕ)
     (c : Finds list count byte found r found') where
   -- the number that is given back, in the order in which it is asked
-  pub finds-number : r ≡ (if leb 3 (length found) then find_refusal (length list) count else out_of_place)
-  unfolding finds_number looked_up
+  pub finds-number : r ≡ (if leb 3 (length found) then told_number (find_refusal (length list) count) else number_of out_of_place)
+  unfolding looked_up
   finds-number =
       c.number
-      ∙ ap (λ (n : ℕ). if leb 3 (length found) then n else out_of_place)
-      (choice (λ (l : Lookup). finds_number l ≡ find_refusal (length list) count)
-      (eqb (find_refusal (length list) count) 0) _ _
-      (λ e. sym (eqb-true _ 0 e)) (λ e. refl))
+      ∙ ap (λ (n : ℕ). if leb 3 (length found) then n else number_of out_of_place) (refused_number (find_refusal (length list) count) _)
 
   -- 10, or one of the look-up's own
-  pub finds_which : is_among r (out_of_place ∷ 0 ∷ too_large ∷ bad_session ∷ []) ≡ true
-  unfolding is_among
+  pub finds_which : is_one_of r (0 ∷ numbers_told (out_of_place ∷ too_large ∷ bad_session ∷ [])) ≡ true
+  unfolding find_refusal is_one_of
   finds_which =
       rw finds-number
-      (choice (λ (n : ℕ). is_among n (out_of_place ∷ 0 ∷ too_large ∷ bad_session ∷ []) ≡ true) (leb 3 (length found)) _ _
+      (choice Given (leb 3 (length found)) _ _
       (λ e.
-      among_more (find_refusal (length list) count) out_of_place (0 ∷ too_large ∷ bad_session ∷ [])
-      (find_which (length list) count))
+      choice (λ (told : Result (Unit {0}) Refusal). Given (told_number told)) (leb (length list / 8) 65537) _ _
+      (λ f.
+      choice (λ (told : Result (Unit {0}) Refusal). Given (told_number told)) (leb count (length list / 8)) _ _ (λ g. refl) (λ g. refl))
+      (λ f. refl))
       (λ e. refl))
+    where
+      Given : ℕ → Type 0
+      Given n = is_one_of n (0 ∷ numbers_told (out_of_place ∷ too_large ∷ bad_session ∷ [])) ≡ true
 
   -- it is 0 exactly where a slice of three numbers is lent and neither 11 nor 12 is told
-  unrefused : r ≡ 0 → (leb 3 (length found) ≡ true) × (find_refusal (length list) count ≡ 0)
+  unrefused : r ≡ 0 → (leb 3 (length found) ≡ true) × (find_refusal (length list) count ≡ Ok tt)
   unrefused e = go (leb 3 (length found)) (sym finds-number ∙ e)
     where
-      go : (t : Bool) → (if t then find_refusal (length list) count else out_of_place) ≡ 0
-          → (t ≡ true) × (find_refusal (length list) count ≡ 0)
-      go true h = (refl, h)
-      go false h = absurd (omega arith)
+      go : (t : Bool) → (if t then told_number (find_refusal (length list) count) else number_of out_of_place) ≡ 0
+          → (t ≡ true) × (find_refusal (length list) count ≡ Ok tt)
+      go true h = (refl, told_none _ h)
+      go false h = absurd (number_some out_of_place h)
 
   -- demand 1: a refusal writes nothing; the list is only read
   pub finds_refused : (r ≡ 0 → ⊥) → found' ≡ found
   finds_refused h = go (leb 3 (length found)) (looked_up list count byte) c.number c.holds
     where
-      go : (t : Bool) (l : Lookup) → r ≡ (if t then finds_number l else out_of_place)
+      go : (t : Bool) (l : Result Looked Refused) → r ≡ (if t then finds_number l else number_of out_of_place)
           → found' ≡ (if t then found_after l found else found) → found' ≡ found
       go true l e g = g ∙ after_refused l found (λ z. h (e ∙ z))
       go false l e g = g

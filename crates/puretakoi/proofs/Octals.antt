@@ -16,9 +16,9 @@ use lib.Dec.{eqb}
 use lib.ListN.{length, get_or, set}
 use borrow.Author.Tests.{eqb-true, lt-ltb}
 use Rattle.byte.specs.declared.Octal.{Octal}
-use Rattle.byte.specs.Refusals.{invalid_octal_escape, octal_refusals, is_among}
+use Rattle.byte.specs.Refusals.{number_of, invalid_octal_escape, out_of_place, octal_refusals}
 use Rattle.byte.specs.Laid.{laid}
-use Rattle.byte.specs.Words.{announced}
+use Rattle.byte.specs.Words.{announced, is_one_of}
 use Rattle.source.specs.declared.Span.{Span}
 use Rattle.state.specs.declared.Answer.{Answer}
 use Rattle.state.specs.declared.Choices.{Choices}
@@ -33,6 +33,7 @@ use Rattle.demands.proofs.Choices.{called_on_choices}
 use Rattle.demands.proofs.Octals.{called_on_chosen, calls_done_chosen}
 use Rattle.layout.specs.Sessions.{are_choices, reading_in, choices_in, octal_in, depth_in, session_in}
 use Rattle.layout.specs.Answers.{refusal_in}
+use Rattle.puretakoi.specs.Told.{numbers_told}
 use Rattle.puretakoi.specs.Calls.{are_long, told_numbers, Answered, Turns, Walked}
 use Rattle.puretakoi.proofs.Chain.{turns_cross, turns_stands}
 use Rattle.puretakoi.proofs.Numbers.{host_call, host_walk}
@@ -52,9 +53,10 @@ flag_unset flag e = go (eqb flag 0) refl e
     go false z f = cc
 
 -- of 0, 10 and a call's refusals
-rust_number : (octals : Octal) (call : Call) → is_among invalid_octal_escape (0 ∷ 10 ∷ refusals octals call) ≡ true
+rust_number : (octals : Octal) (call : Call)
+    → is_one_of (number_of invalid_octal_escape) (0 ∷ numbers_told (out_of_place ∷ refusals octals call)) ≡ true
     → octals ≡ Octal.Rust
-unfolding refusals octal_refusals is_among
+unfolding refusals octal_refusals is_one_of
 rust_number Octal.Rust call e = refl
 rust_number Octal.Manual Call.Step e = absurd (false≢true e)
 rust_number Octal.Manual Call.Number e = absurd (false≢true e)
@@ -62,7 +64,7 @@ rust_number Octal.Manual Call.Single e = absurd (false≢true e)
 rust_number Octal.Manual Call.Double e = absurd (false≢true e)
 
 module _ (src : List ℕ) (end : ℕ) (session list pool answer : List ℕ) (r : ℕ) (session' list' pool' answer' : List ℕ)
-    (three : r ≡ invalid_octal_escape) where
+    (three : r ≡ number_of invalid_octal_escape) where
   pub host_call_octal : (call : Call) → Answered call src end session list pool answer r session' list' pool' answer'
       → flag_of session ≡ 0
   host_call_octal call c =
@@ -139,7 +141,7 @@ module _ (call : Call) (src : List ℕ) (end most : ℕ) (session other list poo
   abbrev count : Session → ℕ
   count s = calls_done call most src (announced end) s list pool
 
-  pub host_chosen : (r ≡ invalid_octal_escape → ⊥)
+  pub host_chosen : (r ≡ number_of invalid_octal_escape → ⊥)
       → (r₂ ≡ r) × (session_in other' ≡ chosen Octal.Manual (session_in session')) × (list₂ ≡ list') × (pool₂ ≡ pool')
       × (answer₂ ≡ answer')
   unfolding refusal_in

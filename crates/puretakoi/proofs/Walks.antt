@@ -10,6 +10,7 @@ use native.Mathlib.Omega.{arith}
 use lib.ListN.{length, set}
 use borrow.Author.Tests.{le-leb, lt-leb, not-true, not-false}
 use Rattle.byte.specs.Laid.{laid}
+use Rattle.byte.specs.Refusals.{out_of_place, number_of}
 use Rattle.byte.proofs.Laid.{length_laid, laid_append, set_laid}
 use Rattle.state.specs.declared.Answer.{Answer}
 use Rattle.outcome.specs.declared.Call.{Call}
@@ -50,12 +51,12 @@ module _ (answer written : List ℕ) (a : Answer) (done : ℕ) (long : 5 ≤ len
       ∙ rw (le-leb 6 (length answer) room)
 
 module _ (session answer : List ℕ) (flag : Bool) (e : flag ≡ are_long (length session) (length answer)) (most : ℕ) where
-  pub turns_short : (first a : After) (done : ℕ) (list pool : List ℕ) → not flag ≡ true
-      → WalkCalled most first a done session list pool answer 10 session list pool answer
-  turns_short first a done list pool h =
+  pub turns_short : (first a : After) (done : ℕ) (list pool : List ℕ) (r : ℕ) → not flag ≡ true → r ≡ number_of out_of_place
+      → WalkCalled most first a done session list pool answer r session list pool answer
+  turns_short first a done list pool r h n =
       let short : are_long (length session) (length answer) ≡ false = sym e ∙ not-true flag h in
       record {
-        number = rw short;
+        number = n ∙ rw short;
         stays = λ z. refl;
         holds = λ z. absurd (false≢true (rw short at z));
         tells = rw short;

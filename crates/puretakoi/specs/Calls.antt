@@ -7,12 +7,13 @@
 --                             refused, the session's numbers stay; else they stand for the session after it, and a slot
 --                             that no step changed keeps its own
 --   Answered, Turns, Walked   of one call, of a call and steps after it, and of steps
---   fresh_refusal, Begun      a fresh session
+--   fresh_refusal, fresh_numbers, Begun   a fresh session
 --   Filed   a record file or a list: the refusal or 0, and what the lent slice holds
-use Rattle.std.specs.Prelude.{ℕ, Bool, true, false, ◌&&◌, List, [], ◌∷◌, ◌++◌, ◌≡◌, leb, eqb, length, if◌then◌else◌}
+use Rattle.std.specs.Prelude.{ℕ, Result, Ok, Err, Bool, true, false, ◌&&◌, List, [], ◌∷◌, ◌++◌, ◌≡◌, leb, length, if◌then◌else◌}
 use Rattle.byte.specs.Words.{announced}
 use Rattle.byte.specs.Laid.{laid}
-use Rattle.byte.specs.Refusals.{out_of_place, bad_session}
+use Rattle.byte.specs.declared.Refusal.{Refusal}
+use Rattle.byte.specs.Refusals.{out_of_place, bad_session, number_of}
 use Rattle.state.specs.declared.Answer.{Answer}
 use Rattle.state.specs.declared.Turn.{Turn}
 use Rattle.state.specs.Calls.{fresh_session}
@@ -24,12 +25,14 @@ use Rattle.layout.specs.Sessions.{are_choices, choices_in, numbers_of, session_i
 use Rattle.layout.specs.Answers.{answer_numbers, refusal_in, session_after}
 use Rattle.layout.specs.Lent.{Rewritten}
 use Rattle.walk.specs.Walks.{is_written}
+use Rattle.token.specs.Files.{file_after}
+use Rattle.puretakoi.specs.Told.{told_number, told_after}
 
 unfoldable pub are_long : ℕ → ℕ → Bool
 are_long session answer = leb 199 session && leb 5 answer
 
 pub record Crossed (t : Turn) (session answer : List ℕ) (r : ℕ) (session' answer' : List ℕ) : Type 0 where
-  pub number : r ≡ (if are_long (length session) (length answer) then refusal_in t.answer else out_of_place)
+  pub number : r ≡ (if are_long (length session) (length answer) then refusal_in t.answer else number_of out_of_place)
   pub holds : session' ≡ (if are_long (length session) (length answer) then session_after t session else session)
   pub tells : answer' ≡ (if are_long (length session) (length answer) then laid answer 0 (answer_numbers t.answer) else answer)
 
@@ -40,7 +43,7 @@ told_numbers size answer done = if leb 6 size then answer_numbers answer ++ (don
 -- of at most so many calls: what the first comes to, what they all do, and how many are done
 pub record WalkCalled (most : ℕ) (first a : After) (done : ℕ) (session list pool answer : List ℕ) (r : ℕ)
     (session' list' pool' answer' : List ℕ) : Type 0 where
-  pub number : r ≡ (if are_long (length session) (length answer) then refusal_in a.turn.answer else out_of_place)
+  pub number : r ≡ (if are_long (length session) (length answer) then refusal_in a.turn.answer else number_of out_of_place)
   pub stays : (are_long (length session) (length answer) && is_written most first) ≡ false → session' ≡ session
   pub holds : (are_long (length session) (length answer) && is_written most first) ≡ true → Rewritten session a.turn.session session'
   pub tells : answer'
@@ -67,18 +70,19 @@ Walked src end most session list pool answer =
     (called_on Call.Step most src (announced end) (session_in session) list pool)
     (calls_done Call.Step most src (announced end) (session_in session) list pool) session list pool answer
 
--- 10 for a slice that is too short, 12 for a bit that is no choice's flag, or 0
-unfoldable pub fresh_refusal : ℕ → ℕ → ℕ
+-- 10 for a slice that is too short, 12 for a bit that is no choice's flag, or none
+unfoldable pub fresh_refusal : ℕ → ℕ → Result (Unit {0}) Refusal
 fresh_refusal session choices =
-    if leb 199 session then (if are_choices choices then 0 else bad_session) else out_of_place
+    if leb 199 session then (if are_choices choices then Ok tt else Err bad_session) else Err out_of_place
+
+abbrev pub fresh_numbers : ℕ → List ℕ → List ℕ
+fresh_numbers choices session = laid session 0 (numbers_of (fresh_session (choices_in choices)))
 
 pub record Begun (choices : ℕ) (session : List ℕ) (r : ℕ) (session' : List ℕ) : Type 0 where
-  pub number : r ≡ fresh_refusal (length session) choices
-  pub holds :
-      session' ≡ (if eqb (fresh_refusal (length session) choices) 0 then laid session 0 (numbers_of (fresh_session (choices_in choices)))
-      else session)
+  pub number : r ≡ told_number (fresh_refusal (length session) choices)
+  pub holds : session' ≡ told_after (fresh_refusal (length session) choices) (fresh_numbers choices session) session
 
--- with refusal 0 the values stand at the start of what was lent, and else it is as it was
-pub record Filed (refusal : ℕ) (lent values : List ℕ) (r : ℕ) (after : List ℕ) : Type 0 where
-  pub number : r ≡ refusal
-  pub holds : after ≡ (if eqb refusal 0 then laid lent 0 values else lent)
+-- without a refusal the values stand at the start of what was lent, and else it is as it was
+pub record Filed (refusal : Result (Unit {0}) Refusal) (lent values : List ℕ) (r : ℕ) (after : List ℕ) : Type 0 where
+  pub number : r ≡ told_number refusal
+  pub holds : after ≡ file_after refusal lent values

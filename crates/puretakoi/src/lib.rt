@@ -9,15 +9,15 @@ ghost use Rattle.source.specs.Identifiers.{identifier_at};
 ghost use Rattle.state.specs.Calls.{skipped, pushed, popped};
 ghost use Rattle.outcome.specs.declared.Call.{Call};
 ghost use Rattle.token.specs.Files.{file_of, list_of, to_file_refusal, to_list_refusal};
-ghost use Rattle.puretakoi.specs.Places.{is_small, Past};
+ghost use Rattle.puretakoi.specs.Told.{told_number, Tells};
+ghost use Rattle.puretakoi.specs.Places.{is_small, past_refusal, past_numbers, Past};
 ghost use Rattle.layout.specs.Sessions.{frame_in, session_in};
-ghost use Rattle.puretakoi.specs.Calls.{are_long, Crossed, Answered, Turns, Walked, Begun, Filed};
+ghost use Rattle.puretakoi.specs.Calls.{are_long, Crossed, Answered, Turns, Walked, fresh_refusal, fresh_numbers, Begun, Filed};
 ghost use Rattle.byte.specs.Classes.{classes_of};
 ghost use Rattle.byte.specs.Laid.{laid};
 ghost use Rattle.puretakoi.specs.Finds.{found_numbers, Finds};
 
 use byte::Refusal;
-use lookup::Lookup;
 use outcome::Call;
 use source::Span;
 use state::Session;
@@ -46,18 +46,27 @@ fn is_small(p: Span) -> bool
     (p.line <= 65537) & (p.column <= 65537) & (p.position <= 65537)
 }
 
-// The cursor past all bytes of a part: line, column and position stand in three lent numbers and are changed there.
-// Refused: a part over 65,536 bytes (11), no three numbers (10), a number over 65,537 (12). The answer is the refusal, or 0.
+// The number that a host is given: a refusal's, or 0.
+fn told_number(told: Result<(), Refusal>) -> u32
+    ensures { result ≡ told_number told }
+{
+    match told {
+        Ok(()) => 0,
+        Err(refusal) => u32::from(refusal),
+    }
+}
+
+// The cursor past all bytes of a part, in three numbers that are changed there.
+// Refused: a part over 65,536 bytes (11), no three numbers (10), a number over 65,537 (12).
 #[tactic(auto, using(crate::proofs::Places::pasts))]
-#[unsafe(no_mangle)]
-pub extern "C" fn puretakoi_past(part: &[u8], span: &mut [u32]) -> u32
-    ensures { Past part.now span.old result span.new }
+fn past(part: &[u8], span: &mut [u32]) -> Result<(), Refusal>
+    ensures { Tells (past_refusal part.now span.old) (past_numbers part.now span.old) span.old result span.new }
 {
     if 65536 < part.len() {
-        return u32::from(Refusal::TooLarge);
+        return Err(Refusal::TooLarge);
     }
     if span.len() != 3 {
-        return u32::from(Refusal::OutOfPlace);
+        return Err(Refusal::OutOfPlace);
     }
     let from = Span {
         line: span[0],
@@ -65,11 +74,20 @@ pub extern "C" fn puretakoi_past(part: &[u8], span: &mut [u32]) -> u32
         position: span[2],
     };
     if !is_small(from) {
-        return u32::from(Refusal::BadSession);
+        return Err(Refusal::BadSession);
     }
     let to = source::past(part, from);
     span.copy_from_slice(&[to.line, to.column, to.position]);
-    0
+    Ok(())
+}
+
+// The cursor past all bytes of a part: line, column and position stand in three lent numbers. The answer is the refusal, or 0.
+#[tactic(auto, using(crate::proofs::Places::past_told))]
+#[unsafe(no_mangle)]
+pub extern "C" fn puretakoi_past(part: &[u8], span: &mut [u32]) -> u32
+    ensures { Past part.now span.old result span.new }
+{
+    told_number(past(part, span))
 }
 
 // Whether a session and an answer have their numbers.
@@ -94,18 +112,26 @@ fn session_of(session: &[u32], answer: &[u32]) -> Option<Session>
 
 // A session before its script, with its choices.
 #[tactic(auto, using(crate::proofs::Calls::begun))]
+fn fresh(choices: u32, session: &mut [u32]) -> Result<(), Refusal>
+    ensures { Tells (fresh_refusal (length session.old) choices) (fresh_numbers choices session.old) session.old result session.new }
+{
+    if session.len() < 199 {
+        return Err(Refusal::OutOfPlace);
+    }
+    if !layout::are_choices(choices) {
+        return Err(Refusal::BadSession);
+    }
+    layout::put_session(session, state::fresh(layout::choices_in(choices)));
+    Ok(())
+}
+
+// The same for a host.
+#[tactic(auto, using(crate::proofs::Calls::fresh_told))]
 #[unsafe(no_mangle)]
 pub extern "C" fn puretakoi_fresh(choices: u32, session: &mut [u32]) -> u32
     ensures { Begun choices session.old result session.new }
 {
-    if session.len() < 199 {
-        return u32::from(Refusal::OutOfPlace);
-    }
-    if !layout::are_choices(choices) {
-        return u32::from(Refusal::BadSession);
-    }
-    layout::put_session(session, state::fresh(layout::choices_in(choices)));
-    0
+    told_number(fresh(choices, session))
 }
 
 // A call and the steps after it, at most `most` in all. Where none is wanted, or the first is refused, the session stays as it was.
@@ -301,17 +327,13 @@ pub extern "C" fn puretakoi_find(list: &[u32], count: usize, at: usize, found: &
         return u32::from(Refusal::OutOfPlace);
     }
     match lookup::find(list, count, at) {
-        Lookup::Told {
-            found: record,
-            looks,
-            end,
-        } => {
-            put_found(found, record, looks);
+        Ok(looked) => {
+            put_found(found, looked.found, looked.looks);
             if 4 <= found.len() {
-                found[3] = end;
+                found[3] = looked.end;
             }
             0
         }
-        Lookup::Refused { refusal, .. } => u32::from(refusal),
+        Err(refused) => u32::from(refused.refusal),
     }
 }

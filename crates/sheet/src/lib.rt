@@ -60,22 +60,12 @@ pub struct Indent {
 }
 
 impl Indent {
-    // How many bytes of indentation come off a line. By `take`, `take_while` and `count` a sheet took 17.9 instructions
-    // a byte, and the bar is 16.8.
+    // How many bytes of indentation come off a line.
     fn offset(self, line: &[u8]) -> usize
         ensures { result ≡ offset_of self line.now }
     {
-        let mut i = 0;
-        while i < self.width {
-            if line.len() <= i {
-                return i;
-            }
-            if line[i] != self.blank {
-                return i;
-            }
-            i += 1;
-        }
-        i
+        let most = self.width.min(line.len());
+        source::end_of(&line[..most], 0, |b| self.blank == b)
     }
 
     // The byte after a line's indentation, of which `off` bytes come off, is stray.

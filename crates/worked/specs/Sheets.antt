@@ -14,6 +14,7 @@ use Prim.Native.String.{String}
 use Rattle.byte.specs.Words.{bytes}
 use Rattle.source.specs.Cursor.{origin}
 use Rattle.byte.specs.declared.Octal.{Octal}
+use Rattle.byte.specs.declared.Refusal.{Refusal}
 use Rattle.byte.specs.Refusals.{unexpected_end_of_file, invalid_unicode_escape, invalid_octal_escape, invalid_doc_indentation}
 use Rattle.byte.specs.Refusals.{stray_indentation, wait}
 use Rattle.source.specs.declared.Span.{Span}
@@ -116,8 +117,8 @@ one kind value = record { kind = kind; detail = 0; span = origin; value = value 
 abbrev pub done : ℕ → List Written → Found
 done position tokens = record { answer = Answer.Done; position = position; tokens = tokens }
 
-abbrev pub refused : ℕ → Span → Found
-refused number span = record { answer = Answer.Refused refusal span; position = 0; tokens = [] }
+abbrev pub refused : Refusal → Span → Found
+refused refusal span = record { answer = Answer.Refused refusal span; position = 0; tokens = [] }
 
 abbrev label : ℕ → ℕ → Frame
 label start len = Frame.Nowdoc (record { start = start; len = len })
