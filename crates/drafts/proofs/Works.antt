@@ -25,7 +25,6 @@ use Rattle.unit.proofs.Inside as unit-inside
 use Rattle.text.specs.declared.Scanned.{Scanned}
 use Rattle.text.specs.Code as text-scans
 use Rattle.outcome.specs.declared.Change.{Change}
-use Rattle.number.specs.declared.Literal.{Literal}
 use Rattle.number.specs.declared.Scanned as number
 use Rattle.number.specs.Numbers as numbers
 use Rattle.number.proofs.Values.{number_at_inside, number_at_value_of}

@@ -151,12 +151,7 @@ fn number_at(file: &[u8], at: usize) -> u32
 
 // Of so many places, `unit` to a record, and room for so many records: 11 for too many, 10 for a broken one, or `full`.
 #[tactic(auto, unfolding(crate::specs::Files::records_refusal))]
-fn records_refusal(
-    size: usize,
-    unit: usize,
-    room: usize,
-    full: Refusal,
-) -> Result<(), Refusal>
+fn records_refusal(size: usize, unit: usize, room: usize, full: Refusal) -> Result<(), Refusal>
     requires { 0 < unit }
     ensures { result ≡ records_refusal size unit room full }
 {
