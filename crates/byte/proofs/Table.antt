@@ -4,21 +4,24 @@
 --                           byte
 --   classes_ruled           which classes each test of bytes looks for, computed for all 256 bytes
 --   table_holds   a quarter of the table is a number whose bits tell its bytes
-use Rattle.std.specs.Prelude.{if◌then◌else◌}
 use Prim.Native.Nat.{ℕ, zero, suc, ◌+◌, ◌-◌, ◌*◌, ◌/◌, ◌%◌, ◌^◌, ◌≤◌, ◌<◌}
 use mathlib.Core.Path.{◌≡◌, refl, sym, ◌∙◌, ap}
 use mathlib.Core.Bool.{Bool, true, false, not, ◌&&◌}
 use mathlib.Core.List.{List, [], ◌∷◌, ◌++◌}
 use native.Mathlib.Omega.{arith}
 use native.Mathlib.Nat.{pow-suc, mul_assoc}
-use lib.Dec.{leb, ltb, eqb}
+use Rattle.std.specs.Prelude.{take}
+use Rattle.std.proofs.lemmas.Nat.{one_shl}
+use native.Mathlib.Numerals.{add-one}
+use lib.Dec.{ltb, eqb}
 use borrow.Author.Tests.{eqb-true, eqb-false, ltb-true, ltb-false}
 use lib.ListN.{length, get_or, length-append, get_or-append}
 use lib.Seq.{get_or-append-add}
 use lib.Pow.{shr-shr}
 use Rattle.byte.specs.Bytes.{is_digit, is_octal, is_hex, is_letter, is_start, is_identifier, is_blank, is_none_of}
-use Rattle.byte.specs.Classes.{is_sign, is_alone, class_of, classes_of}
-use Rattle.byte.specs.Code.{is_from, Table, one, binary, Bits, Holds}
+use Rattle.byte.specs.Classes.{is_sign, is_alone, class_of}
+use Rattle.byte.specs.Code.{class_number, is_from, is_within, Table, one, binary, Bits, Holds}
+use Rattle.byte.specs.declared.classes.Class.{Class}
 use Rattle.byte.proofs.Tests.{&&-left, &&-right}
 
 -- all numbers below n pass a test: this is computed
@@ -81,6 +84,37 @@ classes_ruled b h =
       blank = same_each 256 (λ (k : ℕ). is_from 7 7 (class_of k)) is_blank refl b h;
     }
 
+-- The same for each test, as the checker finds it.
+module _ (b : ℕ) (h : b < 256) where
+  pub sign_ruled : is_from 0 0 (class_of b) ≡ is_sign b
+  sign_ruled = (classes_ruled b h).sign
+
+  pub octal_ruled : is_from 1 1 (class_of b) ≡ is_octal b
+  octal_ruled = (classes_ruled b h).octal
+
+  pub digit_ruled : is_from 1 2 (class_of b) ≡ is_digit b
+  digit_ruled = (classes_ruled b h).digit
+
+  pub hex_ruled : is_from 1 3 (class_of b) ≡ is_hex b
+  hex_ruled = (classes_ruled b h).hex
+
+  pub letter_ruled : is_from 3 4 (class_of b) ≡ is_letter b
+  letter_ruled = (classes_ruled b h).letter
+
+  pub start_ruled : is_from 3 5 (class_of b) ≡ is_start b
+  start_ruled = (classes_ruled b h).start
+
+  pub identifier_ruled : is_from 1 5 (class_of b) ≡ is_identifier b
+  identifier_ruled = (classes_ruled b h).identifier
+
+  pub alone_ruled : is_from 6 7 (class_of b) ≡ is_alone b
+  alone_ruled = (classes_ruled b h).alone
+
+  pub blank_ruled : is_from 7 7 (class_of b) ≡ is_blank b
+  blank_ruled = (classes_ruled b h).blank
+
+pub ruleset tests = (sign_ruled, octal_ruled, digit_ruled, hex_ruled, letter_ruled, start_ruled, identifier_ruled, alone_ruled, blank_ruled)
+
 -- ---- bits
 
 one-le : (t : Bool) → one t ≤ 1
@@ -88,8 +122,8 @@ unfolding one
 one-le true = omega arith
 one-le false = omega arith
 
-module _ (test : ℕ → Bool) where
-  binary-++ : (xs ys : List ℕ) → binary test (xs ++ ys) ≡ binary test xs + binary test ys * 2 ^ length xs
+module _ {A : Type 0} (test : A → Bool) where
+  binary-++ : (xs ys : List A) → binary test (xs ++ ys) ≡ binary test xs + binary test ys * 2 ^ length xs
   unfolding binary
   binary-++ [] ys = omega arith
   binary-++ (x ∷ xs) ys =
@@ -98,133 +132,119 @@ module _ (test : ℕ → Bool) where
       let e : b * 2 ^ suc n ≡ b * 2 ^ n * 2 = ap (λ (m : ℕ). b * m) (pow-suc 2 n) ∙ sym (mul_assoc b (2 ^ n) 2) in
       omega (arith, binary-++ xs ys, e)
 
-  binary_bit : (xs : List ℕ) (k : ℕ) → k < length xs → binary test xs / 2 ^ k % 2 ≡ one (test (get_or xs k 0))
+  binary_suc : (d : A) (xs : List A) (i : ℕ) → i < length xs
+      → binary test (take (suc i) xs) ≡ binary test (take i xs) + one (test (get_or xs i d)) * 2 ^ i
   unfolding binary
-  binary_bit [] k h = absurd (omega arith)
-  binary_bit (x ∷ xs) zero h = omega (arith, one-le (test x))
-  binary_bit (x ∷ xs) (suc k) h =
+  binary_suc d [] i h = absurd (omega arith)
+  binary_suc d (x ∷ xs) zero h = omega arith
+  binary_suc d (x ∷ xs) (suc i) h =
+      let b = one (test (get_or xs i d)) in
+      let e : b * 2 ^ suc i ≡ b * 2 ^ i * 2 = ap (λ (m : ℕ). b * m) (pow-suc 2 i) ∙ sym (mul_assoc b (2 ^ i) 2) in
+      omega (arith, binary_suc d xs i (omega arith), e)
+
+  binary_bit : (d : A) (xs : List A) (k : ℕ) → k < length xs
+      → binary test xs / 2 ^ k % 2 ≡ one (test (get_or xs k d))
+  unfolding binary
+  binary_bit d [] k h = absurd (omega arith)
+  binary_bit d (x ∷ xs) zero h = omega (arith, one-le (test x))
+  binary_bit d (x ∷ xs) (suc k) h =
       let n = one (test x) + 2 * binary test xs in
       let half : n / 2 ^ 1 ≡ binary test xs = omega (arith, one-le (test x)) in
       let at : suc k ≡ 1 + k = omega arith in
-      rw (at, ← shr-shr n 1 k, half) (binary_bit xs k (omega arith))
+      rw (at, ← shr-shr n 1 k, half) (binary_bit d xs k (omega arith))
 
--- ---- what the code computes
-
-module _ (first last class : ℕ) where
-  pub bit_one : (leb first class && leb class last) ≡ true → Bits first last (class ∷ []) 2 1
-  unfolding binary one is_from
-  bit_one e = record { number = rw (e) refl; small = omega arith }
-
-  pub bit_none : (leb first class && leb class last) ≡ false → Bits first last (class ∷ []) 2 0
-  unfolding binary one is_from
-  bit_none e = record { number = rw (e) refl; small = omega arith }
-
--- n entries of a list from a place on, one by one
-abbrev pub listed : List ℕ → ℕ → ℕ → List ℕ
-listed xs from zero = []
-listed xs from (suc n) = get_or xs from 0 ∷ listed xs (suc from) n
-
-listed_suc : (x : ℕ) (xs : List ℕ) (from n : ℕ) → listed (x ∷ xs) (suc from) n ≡ listed xs from n
-listed_suc x xs from zero = refl
-listed_suc x xs from (suc n) = ap (λ (rest : List ℕ). get_or xs from 0 ∷ rest) (listed_suc x xs (suc from) n)
-
-listed_all : (xs : List ℕ) → listed xs 0 (length xs) ≡ xs
-listed_all [] = refl
-listed_all (x ∷ xs) = ap (λ (rest : List ℕ). x ∷ rest) (listed_suc x xs 0 (length xs) ∙ listed_all xs)
-
-listed_is : (xs : List ℕ) (n : ℕ) → length xs ≡ n → listed xs 0 n ≡ xs
-listed_is xs n e = rw (← e) (listed_all xs)
-
-module _ (first last : ℕ) where
-  -- a bit for each of four entries
-  pub four_entries : (part : List ℕ) → length part ≡ 4 → (w x y z : ℕ)
-      → Bits first last (get_or part 0 0 ∷ []) 2 w → Bits first last (get_or part 1 0 ∷ []) 2 x
-      → Bits first last (get_or part 2 0 ∷ []) 2 y → Bits first last (get_or part 3 0 ∷ []) 2 z
-      → Bits first last part 16 (w + x * 2 + y * 4 + z * 8)
-  unfolding binary
-  four_entries part h w x y z e f g i =
-      let whole : w + x * 2 + y * 4 + z * 8 ≡ binary (is_from first last) (listed part 0 4) =
-      omega (arith, e.number, f.number, g.number, i.number) in
-      record {
-        number = whole ∙ ap (binary (is_from first last)) (listed_is part 4 h);
-        small = omega (arith, e.small, f.small, g.small, i.small);
-      }
-
-  -- sixteen entries, four by four
-  pub sixteen_entries : (row : List ℕ) → length row ≡ 16 → (w x y z r : ℕ)
-      → Bits first last (listed row 0 4) 16 w → Bits first last (listed row 4 4) 16 x
-      → Bits first last (listed row 8 4) 16 y → Bits first last (listed row 12 4) 16 z
-      → (r ≡ w + 16 * (x + 16 * (y + 16 * z))) × (r < 65536) → Bits first last row 65536 r
-  unfolding binary
-  sixteen_entries row h w x y z r e f g i j =
-      let whole : r ≡ binary (is_from first last) (listed row 0 16) =
-      omega (arith, e.number, f.number, g.number, i.number, j.0) in
-      record { number = whole ∙ ap (binary (is_from first last)) (listed_is row 16 h); small = j.1 }
-
-module _ (test : ℕ → Bool) where
-  row-++ : (row rest : List ℕ) → length row ≡ 16
+  row-++ : (row rest : List A) → length row ≡ 16
       → binary test (row ++ rest) ≡ binary test row + 65536 * binary test rest
   row-++ row rest h =
       let e : binary test rest * 2 ^ length row ≡ binary test rest * 65536 = rw (h) refl in
-      omega (arith, binary-++ test row rest, e)
+      omega (arith, binary-++ row rest, e)
+
+one_shifted : (t : Bool) (i : ℕ) → i < 64 → one t * 2 ^ i % 18446744073709551616 ≡ one t * 2 ^ i
+unfolding one
+one_shifted true i h = let e : 1 * 2 ^ i ≡ 2 ^ i = omega arith in one_shl i 64 h ∙ sym e
+one_shifted false i h = omega arith
+
+one_fits : (t : Bool) (i : ℕ) → one t * 2 ^ i ≤ 2 ^ i
+unfolding one
+one_fits true i = omega arith
+one_fits false i = omega arith
+
+-- a row is read on by an entry
+module _ (first last : Class) (row : List Class) (i set bit : ℕ) (long : length row ≡ 16) (h : i < 16) where
+  pub bits_on : set ≡ binary (is_within first last) (take i row) → set < 2 ^ i
+      → bit ≡ one (is_within first last (get_or row i Class.S))
+      → (set + bit * 2 ^ i % 18446744073709551616 ≡ binary (is_within first last) (take (i + 1) row))
+      × (set + bit * 2 ^ i % 18446744073709551616 < 2 ^ (i + 1))
+  bits_on e f g =
+      let t = is_within first last (get_or row i Class.S) in
+      let next = binary_suc (is_within first last) Class.S row i (omega (arith, long, h)) in
+      let shifted : bit * 2 ^ i % 18446744073709551616 ≡ one t * 2 ^ i = rw (g) (one_shifted t i (omega (arith, h))) in
+      rw (shifted, add-one)
+      (omega (arith, e, next), omega (arith, f, one_fits t i, pow-suc 2 i))
 
 -- ---- the table
 
-abbrev entry_at : List (List ℕ) → ℕ → ℕ
-entry_at rows b = get_or (get_or rows (b / 16) []) (b % 16) 0
+abbrev entry_at : List (List Class) → ℕ → Class
+entry_at rows b = get_or (get_or rows (b / 16) []) (b % 16) Class.S
 
 -- The one test over the table, computed: it carries its rule to each entry.
-pub table_ruled : (rows : List (List ℕ)) → below 16 (λ (row : ℕ). eqb (length (get_or rows row [])) 16) ≡ true
-    → below 256 (λ (b : ℕ). eqb (entry_at rows b) (class_of b)) ≡ true → Table rows
+pub table_ruled : (rows : List (List Class)) → below 16 (λ (row : ℕ). eqb (length (get_or rows row [])) 16) ≡ true
+    → below 256 (λ (b : ℕ). eqb (class_number (entry_at rows b)) (class_of b)) ≡ true → Table rows
 table_ruled rows long right = record {
   wide = equal_each 16 (λ (row : ℕ). length (get_or rows row [])) (λ row. 16) long;
-  class = equal_each 256 (entry_at rows) class_of right;
+  class = equal_each 256 (λ (b : ℕ). class_number (entry_at rows b)) class_of right;
 }
 
--- an entry of a row, or of those after it
-row_entry : (row rest : List ℕ) (place c : ℕ) → length row ≡ 16 → (place < 16 → get_or row place 0 ≡ c)
-    → (16 ≤ place → get_or rest (place - 16) 0 ≡ c) → get_or (row ++ rest) place 0 ≡ c
-row_entry row rest place c long here later = go (ltb place 16) refl
+-- what holds of an entry of a row, or of those after it
+row_entry : {A : Type 0} (d : A) (P : A → Type 0) (row rest : List A) (place : ℕ) → length row ≡ 16
+    → (place < 16 → P (get_or row place d)) → (16 ≤ place → P (get_or rest (place - 16) d))
+    → P (get_or (row ++ rest) place d)
+row_entry d P row rest place long here later = go (ltb place 16) refl
   where
-    go : (q : Bool) → ltb place 16 ≡ q → get_or (row ++ rest) place 0 ≡ c
+    go : (q : Bool) → ltb place 16 ≡ q → P (get_or (row ++ rest) place d)
     go true f =
         let h : place < 16 = ltb-true place 16 f in
-        get_or-append row rest 0 place (omega (arith, h, long)) ∙ here h
+        rw (get_or-append row rest d place (omega (arith, h, long))) (here h)
     go false f =
         let h : 16 ≤ place = ltb-false place 16 f in
         let at : place ≡ length row + (place - 16) = omega (arith, h, long) in
-        ap (λ (k : ℕ). get_or (row ++ rest) k 0) at ∙ get_or-append-add row rest (place - 16) 0 ∙ later h
+        let e : get_or (row ++ rest) place d ≡ get_or rest (place - 16) d =
+        ap (λ (k : ℕ). get_or (row ++ rest) k d) at ∙ get_or-append-add row rest (place - 16) d in
+        rw (e) (later h)
 
 -- four rows from one on
-module _ (rows : List (List ℕ)) (t : Table rows) (q : ℕ) (low : q < 4) where
-  abbrev row_at : ℕ → List ℕ
-  row_at i = get_or rows (4 * q + i) []
+module _ (rows : List (List Class)) (t : Table rows) (first_row : ℕ) (low : first_row ≤ 12) where
+  abbrev row_at : ℕ → List Class
+  row_at i = get_or rows (first_row + i) []
+
+  abbrev Classed : ℕ → Class → Type 0
+  Classed place class = class_number class ≡ class_of (16 * first_row + place)
 
   row_class : (i column place : ℕ) → place ≡ 16 * i + column → column < 16 → place < 64
-      → get_or (row_at i) column 0 ≡ class_of (64 * q + place)
+      → Classed place (get_or (row_at i) column Class.S)
   row_class i column place e h k =
-      let row : (64 * q + place) / 16 ≡ 4 * q + i = omega arith in
-      let at : (64 * q + place) % 16 ≡ column = omega arith in
-      rw (row, at) at (t.class (64 * q + place) (omega arith))
+      let row : (16 * first_row + place) / 16 ≡ first_row + i = omega arith in
+      let at : (16 * first_row + place) % 16 ≡ column = omega arith in
+      rw (row, at) at (t.class (16 * first_row + place) (omega arith))
 
   row_wide : (i : ℕ) → i < 4 → length (row_at i) ≡ 16
-  row_wide i h = t.wide (4 * q + i) (omega arith)
+  row_wide i h = t.wide (first_row + i) (omega arith)
 
-  abbrev quarter_of : List ℕ
-  quarter_of = row_at 0 ++ (row_at 1 ++ (row_at 2 ++ row_at 3))
+  abbrev four_rows : List Class
+  four_rows = row_at 0 ++ (row_at 1 ++ (row_at 2 ++ row_at 3))
 
-  quarter_class : (place : ℕ) → place < 64 → get_or quarter_of place 0 ≡ class_of (64 * q + place)
-  quarter_class place k =
-      let c = class_of (64 * q + place) in
-      row_entry (row_at 0) _ place c (row_wide 0 (omega arith)) (λ h. row_class 0 place place (omega arith) h k)
-      (λ l. row_entry (row_at 1) _ (place - 16) c (row_wide 1 (omega arith))
+  four_class : (place : ℕ) → place < 64 → Classed place (get_or four_rows place Class.S)
+  four_class place k =
+      let P = Classed place in
+      row_entry Class.S P (row_at 0) _ place (row_wide 0 (omega arith)) (λ h. row_class 0 place place (omega arith) h k)
+      (λ l. row_entry Class.S P (row_at 1) _ (place - 16) (row_wide 1 (omega arith))
       (λ h. row_class 1 (place - 16) place (omega arith) h k)
-      (λ m. row_entry (row_at 2) (row_at 3) (place - 16 - 16) c (row_wide 2 (omega arith))
+      (λ m. row_entry Class.S P (row_at 2) (row_at 3) (place - 16 - 16) (row_wide 2 (omega arith))
       (λ h. row_class 2 (place - 16 - 16) place (omega arith) h k)
       (λ n. row_class 3 (place - 16 - 16 - 16) place (omega arith) (omega arith) k)))
 
-  quarter_long : length quarter_of ≡ 64
-  quarter_long =
+  four_long : length four_rows ≡ 64
+  four_long =
       omega (
         arith,
         length-append (row_at 0) (row_at 1 ++ (row_at 2 ++ row_at 3)),
@@ -236,18 +256,20 @@ module _ (rows : List (List ℕ)) (t : Table rows) (q : ℕ) (low : q < 4) where
         row_wide 3 (omega arith),
       )
 
-  -- a quarter of the table as a number
-  module _ (first last quarter : ℕ) (own : quarter ≡ q) where
+  -- as a number
+  module _ (first last : Class) where
     pub table_holds : {w x y z set : ℕ}
-        → Bits first last (row_at 0) 65536 w → Bits first last (row_at 1) 65536 x
-        → Bits first last (row_at 2) 65536 y → Bits first last (row_at 3) 65536 z
-        → set ≡ w + 65536 * (x + 65536 * (y + 65536 * z)) → Holds first last quarter set
+        → Bits first last (get_or rows first_row []) w → Bits first last (row_at 1) x
+        → Bits first last (row_at 2) y → Bits first last (row_at 3) z
+        → set ≡ w + 65536 * (x + 65536 * (y + 65536 * z)) → Holds first last first_row set
     unfolding Holds
     table_holds {w} {x} {y} {z} {set} e f g i s place h =
-        let test = is_from first last in
-        let whole : set ≡ binary test quarter_of = omega (
+        let test = is_within first last in
+        let at : first_row + 0 ≡ first_row = omega arith in
+        let number : w ≡ binary test (row_at 0) = rw (at) e.number in
+        let whole : set ≡ binary test four_rows = omega (
           arith,
-          e.number,
+          number,
           f.number,
           g.number,
           i.number,
@@ -256,9 +278,10 @@ module _ (rows : List (List ℕ)) (t : Table rows) (q : ℕ) (low : q < 4) where
           row-++ test (row_at 1) (row_at 2 ++ row_at 3) (row_wide 1 (omega arith)),
           row-++ test (row_at 2) (row_at 3) (row_wide 2 (omega arith)),
         ) in
-        rw (whole, own)
-        (binary_bit test quarter_of place (omega (arith, h, quarter_long))
-        ∙ ap (λ (r : ℕ). one (test r)) (quarter_class place h))
+        let classed : Classed place (get_or four_rows place Class.S) = four_class place h in
+        rw (whole)
+        (binary_bit test Class.S four_rows place (omega (arith, h, four_long))
+        ∙ ap (λ (n : ℕ). one (is_from (class_number first) (class_number last) n)) classed)
 
 one_is : (t : Bool) → eqb (one t) 1 ≡ t
 unfolding one
@@ -266,27 +289,9 @@ one_is true = refl
 one_is false = refl
 
 -- the bit of a byte is that of its place in its quarter
-pub classed : (first last b set : ℕ) → Holds first last (b / 64) set
-    → eqb (set / 2 ^ (b % 64) % 2) 1 ≡ is_from first last (class_of b)
+pub classed : (first last : Class) (b row set : ℕ) → row ≡ 4 * (b / 64) → Holds first last row set
+    → eqb (set / 2 ^ (b % 64) % 2) 1 ≡ is_from (class_number first) (class_number last) (class_of b)
 unfolding Holds
-classed first last b set holds =
-    let at : 64 * (b / 64) + b % 64 ≡ b = omega arith in
-    rw (holds (b % 64) (omega arith), at) (one_is (is_from first last (class_of b)))
-
-pub ruleset rows = (bit_one, bit_none, four_entries, sixteen_entries)
-
--- the flags of all tests, as the code adds them up
-pub flags_added : (b : ℕ) {blank octal digit hex letter start identifier sign : ℕ}
-    → (blank ≡ if is_blank b then 1 else 0) → (octal ≡ if is_octal b then 2 else 0)
-    → (digit ≡ if is_digit b then 4 else 0) → (hex ≡ if is_hex b then 8 else 0)
-    → (letter ≡ if is_letter b then 16 else 0) → (start ≡ if is_start b then 32 else 0)
-    → (identifier ≡ if is_identifier b then 64 else 0) → (sign ≡ if is_sign b then 128 else 0)
-    → blank + (octal + digit + hex) + (letter + start + identifier) + sign ≡ classes_of b
-unfolding classes_of
-flags_added b e f g h i j k l = omega (arith, e, f, g, h, i, j, k, l)
-
--- a flag of a test that is told
-pub flag_told : {test stated : Bool} {number flag : ℕ} → test ≡ stated
-    → (flag ≡ if test then number else 0) × (flag ≤ number)
-    → flag ≡ if stated then number else 0
-flag_told e f = f.0 ∙ rw (e) refl
+classed first last b row set e holds =
+    let at : 16 * row + b % 64 ≡ b = omega arith in
+    rw (holds (b % 64) (omega arith), at) (one_is (is_from (class_number first) (class_number last) (class_of b)))

@@ -1,8 +1,8 @@
 -- The class of each byte, as the table of src/classes.rt has it (P6), told by the tests of specs/Bytes.antt.
 --   is_sign      one of ' " ` . { } ? < / #, each of which begins a row of its own in Scripting's table
 --   is_alone     neither a sign nor an identifier byte: at Scripting it is passed alone
---   class_of     the number of a byte's class: 0 to 7 are the table's letters S O E H L U N B in this order. `Ruled`
---                (proofs/Table.antt) says which numbers each test looks for
+--   class_of     the number of a byte's class: 0 to 7 are the table's letters S O E H L U N B in this order
+--                (`class_number`, specs/Code.antt). `Ruled` (proofs/Table.antt) says which numbers each test looks for
 --   classes_of   all that a byte counts as, a flag each, as a host is told
 use Rattle.std.specs.Prelude.{ℕ, ◌+◌, Bool, ◌&&◌, not, ◌≡◌, refl, if◌then◌else◌}
 use Prim.Native.Char.{code}

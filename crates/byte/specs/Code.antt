@@ -1,31 +1,48 @@
 -- What the code of src/classes.rt computes with.
---   is_from   a class is one of those from the first to the last
---   Table     sixteen entries in each of sixteen rows, each the class of its byte
---   one       1 if a test passes, else 0
---   binary    the number whose bits say which entries of a list pass a test, the first entry's the lowest
---   Bits      a number below a limit is that of the entries which have one of these classes
---   Holds     the bits of a number say which of the 64 bytes of a quarter have one of these classes
+--   class_number   the number of a class, as `class_of` tells it
+--   is_from        a class is one of those from the first to the last, told by their numbers
+--   is_within      the same, told by the classes
+--   Table          sixteen entries in each of sixteen rows, each the class of its byte
+--   one            1 if a test passes, else 0
+--   binary         the number whose bits say which entries of a list pass a test, the first entry's the lowest
+--   Bits           a number of sixteen bits is that of the entries which have one of these classes
+--   Holds          the bits of a number say which of the 64 bytes of four rows have one of these classes
 use Rattle.std.specs.Prelude.{ℕ, ◌+◌, ◌*◌, ◌/◌, ◌%◌, ◌^◌, ◌<◌, Bool, ◌&&◌, List, [], ◌∷◌, ◌≡◌, leb, length, get_or, if◌then◌else◌}
+use Rattle.byte.specs.declared.classes.Class.{Class}
 use Rattle.byte.specs.Classes.{class_of}
+
+abbrev pub class_number : Class → ℕ
+class_number Class.S = 0
+class_number Class.O = 1
+class_number Class.E = 2
+class_number Class.H = 3
+class_number Class.L = 4
+class_number Class.U = 5
+class_number Class.N = 6
+class_number Class.B = 7
 
 unfoldable pub is_from : ℕ → ℕ → ℕ → Bool
 is_from first last class = leb first class && leb class last
 
-pub record Table (rows : List (List ℕ)) : Type 0 where
+abbrev pub is_within : Class → Class → Class → Bool
+is_within first last class = is_from (class_number first) (class_number last) (class_number class)
+
+pub record Table (rows : List (List Class)) : Type 0 where
   pub wide : (row : ℕ) → row < 16 → length (get_or rows row []) ≡ 16
-  pub class : (b : ℕ) → b < 256 → get_or (get_or rows (b / 16) []) (b % 16) 0 ≡ class_of b
+  pub class : (b : ℕ) → b < 256 → class_number (get_or (get_or rows (b / 16) []) (b % 16) Class.S) ≡ class_of b
 
 unfoldable pub one : Bool → ℕ
 one test = if test then 1 else 0
 
-unfoldable pub binary : (ℕ → Bool) → List ℕ → ℕ
+unfoldable pub binary : {A : Type 0} → (A → Bool) → List A → ℕ
 binary test [] = 0
-binary test (class ∷ rest) = one (test class) + 2 * binary test rest
+binary test (entry ∷ rest) = one (test entry) + 2 * binary test rest
 
-pub record Bits (first last : ℕ) (entries : List ℕ) (limit r : ℕ) : Type 0 where
-  pub number : r ≡ binary (is_from first last) entries
-  pub small : r < limit
+pub record Bits (first last : Class) (row : List Class) (r : ℕ) : Type 0 where
+  pub number : r ≡ binary (is_within first last) row
+  pub small : r < 65536
 
-unfoldable pub Holds : ℕ → ℕ → ℕ → ℕ → Type 0
-Holds first last quarter set =
-    (place : ℕ) → place < 64 → (set / 2 ^ place) % 2 ≡ one (is_from first last (class_of (64 * quarter + place)))
+unfoldable pub Holds : Class → Class → ℕ → ℕ → Type 0
+Holds first last row set =
+    (place : ℕ) → place < 64
+    → (set / 2 ^ place) % 2 ≡ one (is_from (class_number first) (class_number last) (class_of (16 * row + place)))

@@ -1,6 +1,6 @@
 // Bytes: their classes; the refusal numbers by name; and the choice that decides one of them.
 // Of the Rust: the byte tests of its macros, and error.rs.
-#![tactic(auto)]
+#![tactic(auto, using(crate::proofs::Table::tests))]
 
 ghost use Rattle.std.specs.Prelude.{◌≡◌, ◌≤◌, if◌then◌else◌};
 ghost use Rattle.byte.specs.Bytes.{is_digit, is_octal, is_hex, is_letter, is_start, is_identifier, is_blank, is_no_break, is_none_of};
@@ -8,6 +8,8 @@ ghost use Rattle.byte.specs.Refusals.{number_of};
 ghost use Rattle.byte.specs.Classes.{is_sign, is_alone, classes_of};
 
 mod classes;
+
+use classes::{Class, is_classed};
 
 // Why a call refuses (document 01, "Refusal numbers").
 #[derive(Clone, Copy, PartialEq, Eq)]
@@ -68,85 +70,81 @@ pub enum Octal {
 pub fn is_digit(b: u8) -> bool
     ensures { result ≡ is_digit b }
 {
-    classes::is_classed(b, classes::O, classes::E)
+    is_classed(b, Class::O, Class::E)
 }
 
 // A digit of an octal escape.
 pub fn is_octal(b: u8) -> bool
     ensures { result ≡ is_octal b }
 {
-    classes::is_classed(b, classes::O, classes::O)
+    is_classed(b, Class::O, Class::O)
 }
 
 // A hex digit, in either letter case.
 pub fn is_hex(b: u8) -> bool
     ensures { result ≡ is_hex b }
 {
-    classes::is_classed(b, classes::O, classes::H)
+    is_classed(b, Class::O, Class::H)
 }
 
 // A letter of ASCII.
 pub fn is_letter(b: u8) -> bool
     ensures { result ≡ is_letter b }
 {
-    classes::is_classed(b, classes::H, classes::L)
+    is_classed(b, Class::H, Class::L)
 }
 
 // What an identifier may start with.
 pub fn is_start(b: u8) -> bool
     ensures { result ≡ is_start b }
 {
-    classes::is_classed(b, classes::H, classes::U)
+    is_classed(b, Class::H, Class::U)
 }
 
 // What may stand in an identifier after its start.
 pub fn is_identifier(b: u8) -> bool
     ensures { result ≡ is_identifier b }
 {
-    classes::is_classed(b, classes::O, classes::U)
+    is_classed(b, Class::O, Class::U)
 }
 
 // A space or a tab.
 pub fn is_blank(b: u8) -> bool
     ensures { result ≡ is_blank b }
 {
-    classes::is_classed(b, classes::B, classes::B)
+    is_classed(b, Class::B, Class::B)
 }
 
 // Neither a sign nor an identifier byte: at Scripting it is passed alone.
 pub fn is_alone(b: u8) -> bool
     ensures { result ≡ is_alone b }
 {
-    classes::is_classed(b, classes::N, classes::B)
+    is_classed(b, Class::N, Class::B)
 }
 
 // One of ' " ` . { } ? < / #, each of which begins a row of its own in the table for Scripting.
 pub fn is_sign(b: u8) -> bool
     ensures { result ≡ is_sign b }
 {
-    classes::is_classed(b, classes::S, classes::S)
-}
-
-// A number if a test passed, else 0.
-fn flag(test: bool, number: u32) -> u32
-    ensures { (result ≡ if test then number else 0) × (result ≤ number) }
-{
-    if test {
-        return number;
-    }
-    0
+    is_classed(b, Class::S, Class::S)
 }
 
 // All that a byte counts as, a flag each.
 pub fn classes_of(b: u8) -> u32
     ensures { result ≡ classes_of b }
 {
-    let digits = flag(is_octal(b), 2) + flag(is_digit(b), 4) + flag(is_hex(b), 8);
-    let names = flag(is_letter(b), 16) + flag(is_start(b), 32) + flag(is_identifier(b), 64);
-    flag(is_blank(b), 1) + digits + names + flag(is_sign(b), 128)
+    u32::from(is_blank(b))
+        + u32::from(is_octal(b)) * 2
+        + u32::from(is_digit(b)) * 4
+        + u32::from(is_hex(b)) * 8
+        + u32::from(is_letter(b)) * 16
+        + u32::from(is_start(b)) * 32
+        + u32::from(is_identifier(b)) * 64
+        + u32::from(is_sign(b)) * 128
 }
 
 // No LF.
+#[tactic(auto, unfolding(crate::specs::Bytes::is_no_break))]
 pub fn is_no_break(b: u8) -> bool
     ensures { result ≡ is_no_break b }
 {
@@ -154,6 +152,7 @@ pub fn is_no_break(b: u8) -> bool
 }
 
 // None of four bytes.
+#[tactic(auto, unfolding(crate::specs::Bytes::is_none_of))]
 pub fn is_none_of(w: u8, x: u8, y: u8, z: u8, b: u8) -> bool
     ensures { result ≡ is_none_of w x y z b }
 {

@@ -1,8 +1,8 @@
 -- The closer of a text block: where the label stands, where the blanks before it end, and what a line is by the two.
 -- Assumes nothing.
-use Rattle.std.proofs.Common.{◌≡◌, ℕ, suc, ◌+◌, ◌-◌, Bool, true, false, ◌&&◌, List, [], ◌∷◌, length, take, drop, refl, sym, ◌∙◌, eqb, if◌then◌else◌, arith}
+use Rattle.std.proofs.Common.{◌≡◌, ℕ, suc, ◌+◌, ◌-◌, ◌<◌, ◌≤◌, Bool, true, false, ◌&&◌, List, [], ◌∷◌, length, take, drop, refl, sym, ap, ◌∙◌, eqb, if◌then◌else◌, arith}
 use Rattle.std.proofs.Common.{add-zero}
-use Rattle.std.specs.List.{fold, prefix_len, starts_with}
+use Rattle.std.specs.List.{fold, slice_range, starts_with}
 use Rattle.std.proofs.lemmas.List.{take_all, length-drop}
 use borrow.Author.Tests.{eqb-true, eq-eqb}
 use lib.Seq.{drop-drop}
@@ -18,6 +18,12 @@ use Rattle.unit.specs.Closers.{matched, indented, closer, judged, line}
 pub rest_from : (n : ℕ) (xs : List ℕ) → take (length xs - n) (drop n xs) ≡ drop n xs
 rest_from n xs = take_all _ _ (omega (arith, length-drop n xs))
 
+-- as many bytes as the label has, as the code cuts them
+pub first_part : (n : ℕ) (xs : List ℕ) → slice_range xs 0 n ≡ take n xs
+first_part n xs =
+    let size : n - 0 ≡ n = omega arith in
+    ap (λ (k : ℕ). take k xs) size
+
 -- ---- the label
 
 pub matched_whole : (label xs : List ℕ) → true ≡ starts_with eqb xs label → Match.Whole ≡ matched label xs
@@ -32,49 +38,51 @@ matched_whole (a ∷ label) (b ∷ xs) e = go (eqb a b) (matched_whole label xs)
     go true f h = f h
     go false f h = cc
 
-pub matched_cut : (label xs : List ℕ) → false ≡ starts_with eqb xs label → true ≡ starts_with eqb label xs
-    → Match.Undecided ≡ matched label xs
-unfolding matched
-matched_cut [] xs e f = cc
-matched_cut (a ∷ label) [] e f = refl
-matched_cut (a ∷ label) (b ∷ xs) e f = go (eqb b a) refl (matched_cut label xs) f
-  where
-    go : (t : Bool) → eqb b a ≡ t
-        → (false ≡ starts_with eqb xs label → true ≡ starts_with eqb label xs → Match.Undecided ≡ matched label xs)
-        → true ≡ (t && starts_with eqb label xs)
-        → Match.Undecided ≡ (if eqb a b then matched label xs else Match.Other)
-    go true k g h =
-        let same : eqb a b ≡ true = eq-eqb a b (sym (eqb-true b a k)) in
-        rw same (g (rw same at e) h)
-    go false k g h = cc
-
-pub matched_other : (label xs : List ℕ) → false ≡ starts_with eqb xs label → false ≡ starts_with eqb label xs
+pub matched_other : (label xs : List ℕ) → length label ≤ length xs → false ≡ starts_with eqb xs label
     → Match.Other ≡ matched label xs
 unfolding matched
-matched_other [] xs e f = cc
-matched_other (a ∷ label) [] e f = cc
-matched_other (a ∷ label) (b ∷ xs) e f = go (eqb a b) refl (matched_other label xs) e
+matched_other [] xs h e = cc
+matched_other (a ∷ label) [] h e = absurd (omega (arith, h))
+matched_other (a ∷ label) (b ∷ xs) h e = go (eqb a b) (matched_other label xs (omega (arith, h))) e
   where
-    go : (t : Bool) → eqb a b ≡ t
-        → (false ≡ starts_with eqb xs label → false ≡ starts_with eqb label xs → Match.Other ≡ matched label xs)
+    go : (t : Bool) → (false ≡ starts_with eqb xs label → Match.Other ≡ matched label xs)
         → false ≡ (t && starts_with eqb xs label)
         → Match.Other ≡ (if t then matched label xs else Match.Other)
-    go true k g h =
+    go true f k = f k
+    go false f k = refl
+
+-- the text is shorter than the label
+pub matched_cut : (label xs : List ℕ) → length xs < length label → true ≡ starts_with eqb label xs
+    → Match.Undecided ≡ matched label xs
+unfolding matched
+matched_cut [] xs h e = absurd (omega (arith, h))
+matched_cut (a ∷ label) [] h e = refl
+matched_cut (a ∷ label) (b ∷ xs) h e = go (eqb b a) refl (matched_cut label xs (omega (arith, h))) e
+  where
+    go : (t : Bool) → eqb b a ≡ t → (true ≡ starts_with eqb label xs → Match.Undecided ≡ matched label xs)
+        → true ≡ (t && starts_with eqb label xs)
+        → Match.Undecided ≡ (if eqb a b then matched label xs else Match.Other)
+    go true k f g =
+        let same : eqb a b ≡ true = eq-eqb a b (sym (eqb-true b a k)) in
+        rw same (f g)
+    go false k f g = cc
+
+pub matched_short : (label xs : List ℕ) → length xs < length label → false ≡ starts_with eqb label xs
+    → Match.Other ≡ matched label xs
+unfolding matched
+matched_short [] xs h e = absurd (omega (arith, h))
+matched_short (a ∷ label) [] h e = cc
+matched_short (a ∷ label) (b ∷ xs) h e = go (eqb a b) refl (matched_short label xs (omega (arith, h))) e
+  where
+    go : (t : Bool) → eqb a b ≡ t → (false ≡ starts_with eqb label xs → Match.Other ≡ matched label xs)
+        → false ≡ (eqb b a && starts_with eqb label xs)
+        → Match.Other ≡ (if t then matched label xs else Match.Other)
+    go true k f g =
         let same : eqb b a ≡ true = eq-eqb b a (sym (eqb-true a b k)) in
-        g h (rw same at f)
-    go false k g h = refl
+        f (rw same at g)
+    go false k f g = refl
 
 -- ---- the blanks, and the line
-
-pub run_prefix : (test : ℕ → Bool) (xs : List ℕ) → run test xs ≡ prefix_len test xs
-unfolding run
-run_prefix test [] = refl
-run_prefix test (b ∷ rest) = go (test b) (run_prefix test rest)
-  where
-    go : (t : Bool) → run test rest ≡ prefix_len test rest
-        → (if t then suc (run test rest) else 0) ≡ (if t then 1 + prefix_len test rest else 0)
-    go true e = omega arith
-    go false e = refl
 
 -- so many blanks are passed, and the label decides
 line_run : (label : List ℕ) (end : Bool) (n : ℕ) (ind : Indentation) (amount : ℕ) (xs : List ℕ)

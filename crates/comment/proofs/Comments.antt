@@ -8,7 +8,7 @@ use lib.ListN.{length, get_or, drop, length-drop, drop_of_length-le}
 use borrow.Author.Tests.{ne_eqb}
 use Rattle.byte.specs.Refusals.{unexpected_end_of_file}
 use Rattle.byte.proofs.Words.{drop-one}
-use Rattle.token.specs.Kinds.{comment}
+use Rattle.token.specs.declared.Kind.{Kind}
 use Rattle.outcome.specs.declared.Change.{Change}
 use Rattle.outcome.specs.declared.CommentEnd.{CommentEnd}
 use Rattle.outcome.specs.declared.CommentKind.{CommentKind}
@@ -25,10 +25,10 @@ taken_arm kind arm r e h = rw e h
 
 module _ (kind : CommentKind) (src : List ℕ) (at : ℕ) (end : Bool) (h : at ≤ length src) where
   pub endless_single : (r : Plan) → kind ≡ CommentKind.SingleLine
-      → r ≡ one_plan (copied_draft comment 0 at at (at + (length src - at))) (at + (length src - at)) Change.Keep
+      → r ≡ one_plan (copied_draft Kind.Comment 0 at at (at + (length src - at))) (at + (length src - at)) Change.Keep
       → Plans src end (endless kind at (drop at src)) r
   unfolding endless
-  endless_single r e p = rw (e, p, length-drop at src) (token_plans src end comment at (length src - at) Change.Keep (omega arith))
+  endless_single r e p = rw (e, p, length-drop at src) (token_plans src end Kind.Comment at (length src - at) Change.Keep (omega arith))
 
   pub endless_multi : kind ≡ CommentKind.MultiLine
       → Plans src end (endless kind at (drop at src)) (Plan.Refused unexpected_end_of_file (length src))
@@ -54,10 +54,10 @@ module _ (kind : CommentKind) (k : ℕ) (src : List ℕ) (at : ℕ) (end : Bool)
     pub taken_small : length src ≤ 65536 → j + taken < 2 ^ 64
     taken_small s = omega (arith, taken_inside)
 
-    pub comment_token : (r : Plan) → r ≡ one_plan (copied_draft comment 0 at at (at + (j + taken))) (at + (j + taken)) Change.Keep
+    pub comment_token : (r : Plan) → r ≡ one_plan (copied_draft Kind.Comment 0 at at (at + (j + taken))) (at + (j + taken)) Change.Keep
         → Plans src end (comment_at kind k end at (drop at src) (drop (at + k) src)) r
     unfolding commented
-    comment_token r p = rw (← f, e, p, ← t) (token_plans src end comment at (j + taken) Change.Keep taken_inside)
+    comment_token r p = rw (← f, e, p, ← t) (token_plans src end Kind.Comment at (j + taken) Change.Keep taken_inside)
 
   pub comment_endless : (r : Plan) → found ≡ CommentEnd.Over → Plans src end (endless kind at (drop at src)) r
       → Plans src end (comment_at kind k end at (drop at src) (drop (at + k) src)) r

@@ -11,6 +11,7 @@ ghost use Rattle.comment.specs.Code.{is_inner};
 use byte::Refusal;
 use outcome::{Change, CommentEnd, CommentKind};
 use plan::Plan;
+use token::Kind;
 
 // Whether this byte stands at a place.
 #[tactic(auto, using(crate::proofs::Ends::nexts))]
@@ -106,7 +107,7 @@ fn endless(kind: CommentKind, src: &[u8], at: usize, end: bool) -> Plan
 {
     match kind {
         CommentKind::SingleLine => {
-            plan::one_token(token::COMMENT, at, src.len() - at, Change::Keep)
+            plan::one_token(Kind::Comment, at, src.len() - at, Change::Keep)
         }
         CommentKind::MultiLine => Plan::Refused {
             refusal: Refusal::UnexpectedEndOfFile,
@@ -124,7 +125,7 @@ fn comment(kind: CommentKind, src: &[u8], at: usize, k: usize, end: bool) -> Pla
     match comment_end(kind, src, at, k, end) {
         CommentEnd::At(j) => {
             let len = j + end_taken(kind);
-            plan::one_token(token::COMMENT, at, len, Change::Keep)
+            plan::one_token(Kind::Comment, at, len, Change::Keep)
         }
         CommentEnd::Over => endless(kind, src, at, end),
         CommentEnd::Undecided => Plan::Wait,

@@ -11,7 +11,7 @@ use native.Mathlib.Omega.{arith}
 use lib.ListN.{length}
 use mir.Syntax.{w32}
 use mir.Val.{Fits}
-use borrow.Author.Tests.{leb-true, leb-false, ne_eqb, le-ltb, lt-ltb}
+use borrow.Author.Tests.{leb-true, leb-false, le-ltb, lt-ltb}
 use Rattle.source.specs.declared.Span.{Span}
 use Rattle.token.specs.Records.{room_refusal}
 use Rattle.outcome.specs.declared.Change.{Change}

@@ -13,6 +13,7 @@
 use Rattle.std.specs.Prelude.{ℕ, ◌+◌, ◌*◌, ◌/◌, ◌≤◌, Bool, false, List, [], ◌∷◌, ◌≡◌, leb, length}
 use Rattle.source.specs.declared.Span.{Span}
 use Rattle.token.specs.declared.Token.{Token}
+use Rattle.token.specs.Kinds.{kind_number}
 use Rattle.outcome.specs.declared.Change.{Change}
 use Rattle.outcome.specs.Outcomes.{Piece, Outcome}
 use Rattle.outcome.specs.Insides.{AllInside, ToldInside, Inside}
@@ -56,7 +57,7 @@ pub record Marked (src : List ℕ) (m : Mark) (list pool : ℕ) : Type 0 where
 -- the token of a draft of a step that ends at `after`
 abbrev pub draft_token : List ℕ → ℕ → Mark → Draft → Token
 draft_token src after m d = record {
-  kind = d.kind;
+  kind = kind_number d.kind;
   detail = d.detail;
   span = span_at src m.span d.place;
   start = m.bytes;

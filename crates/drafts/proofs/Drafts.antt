@@ -5,6 +5,8 @@ use mathlib.Core.Bool.{Bool, false}
 use mathlib.Core.List.{List, [], ◌∷◌, ◌++◌}
 use native.Mathlib.Omega.{arith}
 use lib.ListN.{length, take, drop}
+use Rattle.token.specs.declared.Kind.{Kind}
+use Rattle.token.specs.Kinds.{kind_number}
 use Rattle.outcome.specs.declared.Change.{Change}
 use Rattle.outcome.specs.Outcomes.{Piece, Outcome, piece, unless_empty}
 use Rattle.plan.specs.declared.Making.{Making}
@@ -19,9 +21,9 @@ pub record Makes (src : List ℕ) (end : Bool) (scratch : List ℕ) (p : Piece) 
   pub ready : Ready src end scratch d
 
 module _ {scratch : List ℕ} (src : List ℕ) (end : Bool) where
-  module _ (kind place : ℕ) (value : List ℕ) where
+  module _ (kind : Kind) (place : ℕ) (value : List ℕ) where
     pub copied_makes : (from len : ℕ) → from + len ≤ length src → value ≡ take len (drop from src)
-        → Makes src end scratch (piece kind place value) (copied_draft kind 0 place from (from + len))
+        → Makes src end scratch (piece (kind_number kind) place value) (copied_draft kind 0 place from (from + len))
     unfolding made_by
     copied_makes from len inside same =
         let n : from + len - from ≡ len = omega arith in
@@ -29,7 +31,7 @@ module _ {scratch : List ℕ} (src : List ℕ) (end : Bool) where
 
     pub made_makes : (making : Making) (from to : ℕ) → Able making src scratch from to (length value) value
         → made_by making src end from to ≡ value
-        → Makes src end scratch (piece kind place value) (made_draft kind place making from to (length value))
+        → Makes src end scratch (piece (kind_number kind) place value) (made_draft kind place making from to (length value))
     made_makes making from to able e = record { told = rw e; ready = record { size = rw e; able = rw e able } }
 
   module _ (after : ℕ) (change : Change) where

@@ -1,3 +1,4 @@
+pub mod KindNumbers
 pub mod Drafts
 pub mod Works
 pub mod Texts

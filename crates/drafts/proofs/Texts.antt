@@ -20,7 +20,8 @@ use Rattle.byte.proofs.Laid.{length_laid}
 use Rattle.state.specs.declared.Frame.{Frame}
 use Rattle.state.specs.declared.Label.{Label}
 use Rattle.state.specs.Bounds.{label_bytes}
-use Rattle.token.specs.Kinds.{string_part}
+use Rattle.token.specs.declared.Kind.{Kind}
+use Rattle.token.specs.Kinds.{kind_number}
 use Rattle.unit.specs.declared.Mode.{Mode}
 use Rattle.unit.specs.declared.Stop.{Stop}
 use Rattle.unit.specs.Readings as unit
@@ -64,15 +65,15 @@ module _ (mode : Mode) (place : ℕ) (label : Label) (at room : ℕ) (scan : Sca
 
   module _ (len : ℕ) (stop : Stop) (from after : ℕ) (d : Draft) (r : Plan)
       (a : scan ≡ Scanned.Text len stop from after) (held : Bool) (h : held ≡ is_held mode len room)
-      (making : Making) (g : making ≡ text_making mode label held) (found : Option ℕ)
+      (making : Making) (g : making ≡ text_making mode label held) (found : Option Kind)
       (k : found ≡ literal_kind mode) where
-    pub read_plan_parted : found ≡ None → d ≡ text_draft string_part at making at len stop from
+    pub read_plan_parted : found ≡ None → d ≡ text_draft Kind.StringPart at making at len stop from
         → r ≡ text_plan mode d stop from after → r ≡ read_plan mode place label at room scan
     unfolding read_plan text_read_plan
     read_plan_parted z m e = e ∙ rw (a, m, g, h, ← k, z)
 
-    pub read_plan_literal : (kind : ℕ) (left : Bool) (value : ℕ) → found ≡ Some kind → left ≡ is_left stop
-        → value ≡ (if left then string_part else kind) → d ≡ text_draft value place making at len stop from
+    pub read_plan_literal : (kind : Kind) (left : Bool) (value : Kind) → found ≡ Some kind → left ≡ is_left stop
+        → value ≡ (if left then Kind.StringPart else kind) → d ≡ text_draft value place making at len stop from
         → r ≡ literal_plan d left after → r ≡ read_plan mode place label at room scan
     unfolding read_plan text_read_plan
     read_plan_literal kind left value z l v m e = e ∙ rw (a, m, g, h, v, ← k, z, ← l)
@@ -81,9 +82,9 @@ pub ruleset read_plans = (placed_fits, placed_order, read_plan_arm, read_plan_pa
 
 -- a text is a mode's or a literal's
 module _ (place n : ℕ) (xs : List ℕ) where
-  read_as : Option ℕ → Mode → unit.Reading → Outcome
+  read_as : Option Kind → Mode → unit.Reading → Outcome
   read_as None mode r = texted mode n xs r
-  read_as (Some kind) mode r = literal kind place r
+  read_as (Some kind) mode r = literal (kind_number kind) place r
 
   text_read_as : (mode : Mode) (r : unit.Reading) → text_read mode place n xs r ≡ read_as (literal_kind mode) mode r
   unfolding literal_kind text_read read_as
@@ -192,10 +193,10 @@ module _ (mode : Mode) (src : List ℕ) (label : Label) (end : Bool) (at : ℕ) 
 
   module _ (holds : Holds mode src label end at scratch) where
     -- held or read again
-    value_makes : (kind place from : ℕ) (value : List ℕ)
+    value_makes : (kind : Kind) (place from : ℕ) (value : List ℕ)
         → text-scans.value_of (unit.text_at mode (label_bytes src label) end at (drop at src)) ≡ value → (held : Bool)
         → is_held mode (length value) (length scratch) ≡ held
-        → Makes src end scratch (piece kind place value)
+        → Makes src end scratch (piece (kind_number kind) place value)
         (made_draft kind place (text_making mode label held) at from (length value))
     unfolding text_making made_by
     value_makes kind place from value v true h =
@@ -205,41 +206,41 @@ module _ (mode : Mode) (src : List ℕ) (label : Label) (end : Bool) (at : ℕ) 
         made_makes src end kind place value (Making.Text mode label) at from block v
 
     -- copied or made, the draft of a text makes its piece
-    text_makes : (kind place : ℕ) (value : List ℕ) (stop : Stop) (from after : ℕ)
+    text_makes : (kind : Kind) (place : ℕ) (value : List ℕ) (stop : Stop) (from after : ℕ)
         → unit.text_at mode (label_bytes src label) end at (drop at src) ≡ unit.Text value stop from after
-        → Makes src end scratch (piece kind place value)
+        → Makes src end scratch (piece (kind_number kind) place value)
         (text_draft kind place (making_of value) at (length value) stop from)
     unfolding text_draft text-scans.value_of
     text_makes kind place value stop from after e =
         let i : TextStands (is_literal mode) at (length src) (drop at src) value stop from after = rw e at text-read in
-        choice (Makes src end scratch (piece kind place value)) (eqb (at + length value) (unit.text_end stop from)) _ _
+        choice (Makes src end scratch (piece (kind_number kind) place value)) (eqb (at + length value) (unit.text_end stop from)) _ _
         (λ t. copied_makes src end kind place value at (length value) (omega (arith, i.fits, i.order, i.inside))
         (text_copied mode (label_bytes src label) end at (drop at src) value stop from after e (eqb-true _ _ t)))
         (λ t. value_makes kind place from value (rw e) (is_held mode (length value) (length scratch)) refl)
 
     module _ (place : ℕ) where
-      literal_one : (kind from after : ℕ) (stop : Stop) (change : Change) (value : List ℕ)
+      literal_one : (kind : Kind) (from after : ℕ) (stop : Stop) (change : Change) (value : List ℕ)
           → unit.text_at mode (label_bytes src label) end at (drop at src) ≡ unit.Text value stop from after
-          → PlansIn src end scratch (Outcome.Told (piece kind place value ∷ []) after change false)
+          → PlansIn src end scratch (Outcome.Told (piece (kind_number kind) place value ∷ []) after change false)
           (one_plan (text_draft kind place (making_of value) at (length value) stop from) after change)
       literal_one kind from after stop change value e =
-          piece_plans src end after change kind place value _ (text_makes kind place value stop from after e)
+          piece_plans src end after change (kind_number kind) place value _ (text_makes kind place value stop from after e)
 
-      literal-plans : (kind : ℕ) (left : Bool) (from after : ℕ) (stop : Stop) (value : List ℕ) → left ≡ is_left stop
+      literal-plans : (kind : Kind) (left : Bool) (from after : ℕ) (stop : Stop) (value : List ℕ) → left ≡ is_left stop
           → unit.text_at mode (label_bytes src label) end at (drop at src) ≡ unit.Text value stop from after
-          → PlansIn src end scratch (literal kind place (unit.Text value stop from after))
+          → PlansIn src end scratch (literal (kind_number kind) place (unit.Text value stop from after))
           (literal_plan
-          (text_draft (if left then string_part else kind) place (making_of value) at (length value) stop from)
+          (text_draft (if left then Kind.StringPart else kind) place (making_of value) at (length value) stop from)
           left
           after)
       unfolding literal literal_plan
       literal-plans kind true from after stop value l e =
-          rw (← l) (literal_one string_part from after stop (Change.Swap Frame.DoubleQuote) value e)
+          rw (← l) (literal_one Kind.StringPart from after stop (Change.Swap Frame.DoubleQuote) value e)
       literal-plans kind false from after stop value l e =
           rw (← l) (literal_one kind from after stop Change.Keep value e)
 
       -- a mode's text, or a literal of a kind
-      read_plans_as : (kind : Option ℕ) (from after : ℕ) (stop : Stop) (value : List ℕ)
+      read_plans_as : (kind : Option Kind) (from after : ℕ) (stop : Stop) (value : List ℕ)
           → unit.text_at mode (label_bytes src label) end at (drop at src) ≡ unit.Text value stop from after
           → PlansIn src end scratch (read_as place at (drop at src) kind mode (unit.Text value stop from after))
           (text_read_plan kind mode place (making_of value) at (length value) stop from after)
@@ -250,8 +251,8 @@ module _ (mode : Mode) (src : List ℕ) (label : Label) (end : Bool) (at : ℕ) 
           let found = unit.Text value stop from after in
           let within = unit-inside.text_inside mode (label_bytes src label) end at xs in
           read-plans mode src end at
-          (λ len. text_draft string_part at (text_making mode label (is_held mode len (length scratch))) at len) whole
-          (text_makes string_part at) (faults mode) found e (rw e at (rw (all_left src at here.inside) at within))
+          (λ len. text_draft Kind.StringPart at (text_making mode label (is_held mode len (length scratch))) at len) whole
+          (text_makes Kind.StringPart at) (faults mode) found e (rw e at (rw (all_left src at here.inside) at within))
       read_plans_as (Some kind) from after stop value e = literal-plans kind (is_left stop) from after stop value refl e
 
       text_plans : (r : unit.Reading) → unit.text_at mode (label_bytes src label) end at (drop at src) ≡ r

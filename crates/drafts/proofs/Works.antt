@@ -16,6 +16,7 @@ use Rattle.byte.proofs.Tests.{choice}
 use Rattle.state.specs.declared.Label.{Label}
 use Rattle.state.specs.declared.Reading as session
 use Rattle.state.specs.Bounds.{label_bytes}
+use Rattle.token.specs.declared.Kind.{Kind}
 use Rattle.token.specs.Kinds.{string_part}
 use Rattle.unit.specs.declared.Mode.{Mode}
 use Rattle.unit.specs.declared.Stop.{Stop}
@@ -24,7 +25,6 @@ use Rattle.unit.proofs.Inside as unit-inside
 use Rattle.text.specs.declared.Scanned.{Scanned}
 use Rattle.text.specs.Code as text-scans
 use Rattle.outcome.specs.declared.Change.{Change}
-use Rattle.number.specs.declared.Literal.{Literal}
 use Rattle.number.specs.declared.Scanned as number
 use Rattle.number.specs.Numbers as numbers
 use Rattle.number.proofs.Values.{number_at_inside, number_at_value_of}
@@ -33,16 +33,16 @@ use Rattle.sheet.specs.Sheets.{sheet_at}
 use Rattle.sheet.proofs.Inside.{SheetStands, StandsSheet, sheet_stands, sheet_inside, sheet_faults}
 use Rattle.sheet.proofs.Writes.{sheet_copied}
 use Rattle.outcome.specs.Outcomes.{piece}
-use Rattle.outcome.specs.Texts.{slice, stop_kind, stop_detail, stop_change, texted, literal}
-use Rattle.outcome.specs.Texts.{number_kind, numbered}
+use Rattle.outcome.specs.Texts.{slice, stop_detail, stop_change, texted, literal, numbered}
 use Rattle.outcome.specs.Steps.{nowdoc}
 use Rattle.plan.specs.declared.Making.{Making}
 use Rattle.plan.specs.declared.Draft.{Draft}
 use Rattle.plan.specs.declared.Plan.{Plan}
 use Rattle.plan.specs.Code.{made_by, outcome_of, Here, PlansIn, Plans, copied_draft, one_plan}
-use Rattle.drafts.specs.Code.{made_draft, sheet_draft, text_plan, text_work}
+use Rattle.drafts.specs.Code.{stop_kind, number_kind, made_draft, sheet_draft, text_plan, text_work}
 use Rattle.drafts.specs.Code.{number_plan, number_work}
 use Rattle.plan.proofs.Plans.{named_short, copied_ready}
+use Rattle.drafts.proofs.KindNumbers.{stop_numbered, number_numbered}
 use Rattle.drafts.proofs.Drafts.{Makes, copied_makes, made_makes, one_plans, parted_plans}
 
 -- a part of the text from `at` on is a part of the source
@@ -89,7 +89,7 @@ module _ {scratch : List ℕ} (mode : Mode) (src : List ℕ) (end : Bool) (at : 
       → PlansIn src end scratch (texted mode at (drop at src) r) (text_work mode draft (text-scans.measured r))
   unfolding texted text_work text_plan text-scans.measured made_by outcome_of
   read-plans (unit.Text value stop from after) e i =
-      rw (slice_source src at from after (omega (arith, i.narrow)))
+      rw (slice_source src at from after (omega (arith, i.narrow)), ← stop_numbered mode stop)
       (parted_plans src end after (stop_change stop) string_part at value _
       (λ k. copied_draft (stop_kind mode stop) (stop_detail stop) k from after)
       (makes value stop from after e)
@@ -118,9 +118,9 @@ module _ (src : List ℕ) (label : Label) (end : Bool) (at : ℕ) (here : Here s
       let x : SheetStands (length (label_bytes src label)) at (length src) (drop at src) value stop from after = rw e at sheet_read in
       rw x.label
       (choice (Makes src end [] (piece string_part at value)) (eqb x.amount 0) _ _
-      (λ t. copied_makes src end string_part at value at (length value) (omega (arith, x.narrow, x.sized, x.inside))
+      (λ t. copied_makes src end Kind.StringPart at value at (length value) (omega (arith, x.narrow, x.sized, x.inside))
       (sheet_copied (length (label_bytes src label)) at (length src) (drop at src) value stop from after x (eqb-true _ _ t)))
-      (λ t. made_makes src end string_part at value (Making.Sheet (blank_of (Stop.Label x.ind x.amount)) x.amount) at (from - x.amount)
+      (λ t. made_makes src end Kind.StringPart at value (Making.Sheet (blank_of (Stop.Label x.ind x.amount)) x.amount) at (from - x.amount)
       (record { order = omega (arith, x.narrow); inside = omega (arith, x.sized, x.inside) })
       (sym x.same)))
 
@@ -163,7 +163,7 @@ module _ (place : ℕ) (src : List ℕ) (end : Bool) (at : ℕ) (here : Here src
   number_plans (numbers.Reading.Number literal value after) e =
       let inside = number_at_inside end at (drop at src) literal value after e in
       let high : after ≤ length src = omega (arith, inside.1, all_left src at here.inside) in
-      rw (number_at_value_of end src at literal value after e)
+      rw (number_at_value_of end src at literal value after e, ← number_numbered literal)
       (one_plans src end after Change.Keep
       (made_draft (number_kind literal) place Making.Number at after (length (numbers.value_of src at after)))
       (record { size = refl; able = record { order = inside.0; inside = high } }))
@@ -176,7 +176,7 @@ module _ (place : ℕ) (src : List ℕ) (end : Bool) (at : ℕ) (here : Here src
         let work : r ≡ number_work place at (numbers.scanned (numbers.number_at end at (drop at src))) = e ∙ rw (← a, s) in
         rw work (number_plans (numbers.number_at end at (drop at src)) refl)
 
-    pub number_found : (found : number.Scanned) (kind : ℕ) (d : Draft) (r : Plan) → scan ≡ Some found
+    pub number_found : (found : number.Scanned) (kind : Kind) (d : Draft) (r : Plan) → scan ≡ Some found
         → kind ≡ number_kind found.literal → d ≡ made_draft kind place Making.Number at found.after found.len
         → r ≡ one_plan d found.after Change.Keep
         → Plans src end (numbered place (numbers.number_at end at (drop at src))) r

@@ -4,13 +4,14 @@
 
 ghost use Rattle.std.specs.Prelude.{◌≡◌, ◌+◌, ◌≤◌, drop, if◌then◌else◌};
 ghost use Rattle.state.specs.Bounds.{label_bytes};
-ghost use Rattle.token.specs.Kinds.{string_part};
+ghost use Rattle.token.specs.declared.Kind.{Kind};
 ghost use Rattle.unit.specs.Readings.{text_at, gap, text_end};
 ghost use Rattle.number.specs.Numbers.{number_at};
-ghost use Rattle.outcome.specs.Texts.{doc_kind, quote_kind, stop_kind, stop_detail, variable_change, stop_change, is_left, number_kind};
+ghost use Rattle.outcome.specs.Texts.{stop_detail, variable_change, stop_change, is_left};
 ghost use Rattle.outcome.specs.Texts.{text_read, numbered};
 ghost use Rattle.outcome.specs.Steps.{nowdoc};
 ghost use Rattle.plan.specs.Code.{Here, Named, Plans, PlansIn};
+ghost use Rattle.drafts.specs.Code.{doc_kind, quote_kind, stop_kind, number_kind};
 ghost use Rattle.drafts.specs.Code.{made_draft, is_held, text_making, text_draft, sheet_draft, text_plan};
 ghost use Rattle.drafts.specs.Code.{literal_kind, literal_plan, Placed, read_plan};
 
@@ -19,42 +20,43 @@ use outcome::Change;
 use plan::{Draft, Making, Plan};
 use state::{Frame, Label, Reading};
 use text::Scanned;
+use token::Kind;
 use unit::{Follow, Indentation, Mode, Stop};
 
 // The kind of an EndDocString by its indentation, which is never mixed.
-#[tactic(auto, unfolding(outcome::specs::Texts::doc_kind))]
-fn doc_kind(ind: Indentation) -> u32
+#[tactic(auto, unfolding(crate::specs::Code::doc_kind))]
+fn doc_kind(ind: Indentation) -> Kind
     ensures { result ≡ doc_kind ind }
 {
     match ind {
-        Indentation::Space => token::END_DOC_STRING_SPACE,
-        Indentation::Tab => token::END_DOC_STRING_TAB,
-        Indentation::None | Indentation::Mixed => token::END_DOC_STRING_NONE,
+        Indentation::Space => Kind::EndDocStringSpace,
+        Indentation::Tab => Kind::EndDocStringTab,
+        Indentation::None | Indentation::Mixed => Kind::EndDocStringNone,
     }
 }
 
 // The kind of a closing quote.
-#[tactic(auto, unfolding(outcome::specs::Texts::quote_kind))]
-fn quote_kind(mode: Mode) -> u32
+#[tactic(auto, unfolding(crate::specs::Code::quote_kind))]
+fn quote_kind(mode: Mode) -> Kind
     ensures { result ≡ quote_kind mode }
 {
     match mode {
-        Mode::ShellExec => token::BACKTICK,
-        _ => token::DOUBLE_QUOTE,
+        Mode::ShellExec => Kind::Backtick,
+        _ => Kind::DoubleQuote,
     }
 }
 
 // The kind of the token that ends a text.
-#[tactic(auto, unfolding(outcome::specs::Texts::stop_kind))]
-fn stop_kind(mode: Mode, stop: Stop) -> u32
+#[tactic(auto, unfolding(crate::specs::Code::stop_kind))]
+fn stop_kind(mode: Mode, stop: Stop) -> Kind
     ensures { result ≡ stop_kind mode stop }
 {
     match stop {
         Stop::Quote => quote_kind(mode),
-        Stop::Interpolation => token::STRING_PART,
-        Stop::DollarLeftBrace => token::DOLLAR_LEFT_BRACE,
-        Stop::LeftBrace => token::LEFT_BRACE,
-        Stop::Variable(_) => token::VARIABLE,
+        Stop::Interpolation => Kind::StringPart,
+        Stop::DollarLeftBrace => Kind::DollarLeftBrace,
+        Stop::LeftBrace => Kind::LeftBrace,
+        Stop::Variable(_) => Kind::Variable,
         Stop::Label { indentation, .. } => doc_kind(indentation),
     }
 }
@@ -97,7 +99,7 @@ fn stop_change(stop: Stop) -> Change
 }
 
 // A token whose value is made: `len` bytes.
-fn made_draft(kind: u32, place: usize, making: Making, from: usize, to: usize, len: usize) -> Draft
+fn made_draft(kind: Kind, place: usize, making: Making, from: usize, to: usize, len: usize) -> Draft
     ensures { result ≡ made_draft kind place making from to len }
 {
     Draft {
@@ -147,7 +149,7 @@ fn text_making(mode: Mode, label: Label, held: bool) -> Making
 // A text's value of `len` bytes: where nothing was escaped it is the source's own bytes.
 #[tactic(auto, unfolding(crate::specs::Code::text_draft))]
 fn text_draft(
-    kind: u32,
+    kind: Kind,
     place: usize,
     making: Making,
     at: usize,
@@ -172,11 +174,11 @@ fn sheet_draft(at: usize, len: usize, stop: Stop, from: usize) -> Draft
 {
     let width = stop_detail(stop);
     if width == 0 {
-        return plan::copied(token::STRING_PART, 0, at, at, at + len);
+        return plan::copied(Kind::StringPart, 0, at, at, at + len);
     }
     let blank = sheet::blank_of(stop);
     let making = Making::Sheet { blank, width };
-    made_draft(token::STRING_PART, at, making, at, from - width, len)
+    made_draft(Kind::StringPart, at, making, at, from - width, len)
 }
 
 // A mode's text, and what ends it. Both tokens bear the span where the call began.
@@ -222,21 +224,21 @@ fn is_left(stop: Stop) -> bool
 
 // The kind of a literal; none for a mode.
 #[tactic(auto, unfolding(crate::specs::Code::literal_kind))]
-fn literal_kind(mode: Mode) -> Option<u32>
+fn literal_kind(mode: Mode) -> Option<Kind>
     ensures { result ≡ literal_kind mode }
 {
     match mode {
-        Mode::Single => Some(token::LITERAL_SINGLE_QUOTED_STRING),
-        Mode::Double(_) => Some(token::LITERAL_DOUBLE_QUOTED_STRING),
+        Mode::Single => Some(Kind::LiteralSingleQuotedString),
+        Mode::Double(_) => Some(Kind::LiteralDoubleQuotedString),
         _ => None,
     }
 }
 
 // The kind of a literal's token: before an interpolation it is a part.
-fn value_kind(kind: u32, left: bool) -> u32
-    ensures { result ≡ (if left then string_part else kind) }
+fn value_kind(kind: Kind, left: bool) -> Kind
+    ensures { result ≡ (if left then Kind.StringPart else kind) }
 {
-    if left { token::STRING_PART } else { kind }
+    if left { Kind::StringPart } else { kind }
 }
 
 // A literal: one token; before an interpolation its part.
@@ -269,7 +271,7 @@ fn read_plan(mode: Mode, place: usize, label: Label, at: usize, room: usize, sca
             let making = text_making(mode, label, is_held(mode, len, room));
             match literal_kind(mode) {
                 None => {
-                    let part = text_draft(token::STRING_PART, at, making, at, len, stop, from);
+                    let part = text_draft(Kind::StringPart, at, making, at, len, stop, from);
                     text_plan(mode, part, stop, from, after)
                 }
                 Some(kind) => {
@@ -305,13 +307,13 @@ pub fn text(
 }
 
 // The kind of a number's token.
-#[tactic(auto, unfolding(outcome::specs::Texts::number_kind))]
-fn number_kind(literal: Literal) -> u32
+#[tactic(auto, unfolding(crate::specs::Code::number_kind))]
+fn number_kind(literal: Literal) -> Kind
     ensures { result ≡ number_kind literal }
 {
     match literal {
-        Literal::Integer => token::LITERAL_INTEGER,
-        Literal::Float => token::LITERAL_FLOAT,
+        Literal::Integer => Kind::LiteralInteger,
+        Literal::Float => Kind::LiteralFloat,
     }
 }
 

@@ -18,11 +18,12 @@ use Rattle.byte.specs.Words.{bytes, run}
 use Rattle.source.specs.Code.{RunEnd}
 use Rattle.byte.proofs.Tests.{choice, none_of}
 use Rattle.byte.proofs.Words.{drop-one}
+use Rattle.token.specs.declared.Kind.{Kind}
 use Rattle.outcome.specs.declared.OpenTagKind.{OpenTagKind}
 use Rattle.outcome.specs.declared.Tag.{Tag}
 use Rattle.outcome.specs.declared.Tagged.{Tagged}
-use Rattle.outcome.specs.Initials.{lower, full_tag, open_tag, tag, or_later, tagged, tag_kind, tag_length}
-use Rattle.initial.specs.Code.{is_no_less, LessAt}
+use Rattle.outcome.specs.Initials.{lower, full_tag, open_tag, tag, or_later, tagged, tag_length}
+use Rattle.initial.specs.Code.{is_no_less, LessAt, tag_kind}
 
 -- nothing is left, where a tag would be the short one
 abbrev pub last_tag : Bool → Tag
@@ -263,7 +264,7 @@ module _ (src : List ℕ) (end : Bool) (at : ℕ) where
 
 pub ruleset finding = (finding_first, finding_over, finding_more, finding_tag, finding_undecided, finding_on)
 
-pub tag_kind_arm : (kind arm : OpenTagKind) (r : ℕ) → kind ≡ arm → r ≡ tag_kind arm → r ≡ tag_kind kind
+pub tag_kind_arm : (kind arm : OpenTagKind) (r : Kind) → kind ≡ arm → r ≡ tag_kind arm → r ≡ tag_kind kind
 tag_kind_arm kind arm r e h = rw e h
 
 pub tag_length_arm : (kind arm : OpenTagKind) (r : ℕ) → kind ≡ arm → r ≡ tag_length arm → r ≡ tag_length kind

@@ -1,6 +1,7 @@
 -- The plans of the mode Initial, and what its search for a tag passes.
 --   is_no_less  a byte that begins no tag
 --   LessAt      the first `<` from a place on
+--   tag_kind    a tag's kind as a token; its number is the outcome's (proofs/Initials.antt)
 --   tag_plan    the text before a tag, if there is some, and the tag with its own span
 --   over_plan   the text that has no tag, up to its end
 use Rattle.std.specs.Prelude.{ℕ, ◌+◌, ◌<◌, ◌≡◌, Bool, true, List, length, get_or}
@@ -8,10 +9,10 @@ use Prim.Native.Char.{code}
 use Rattle.byte.specs.Bytes.{is_none_of}
 use Rattle.source.specs.Code.{RunEnd}
 use Rattle.state.specs.declared.Frame.{Frame}
-use Rattle.token.specs.Kinds.{inline_html}
+use Rattle.token.specs.declared.Kind.{Kind}
 use Rattle.outcome.specs.declared.Change.{Change}
 use Rattle.outcome.specs.declared.OpenTagKind.{OpenTagKind}
-use Rattle.outcome.specs.Initials.{tag_kind, tag_length}
+use Rattle.outcome.specs.Initials.{tag_length}
 use Rattle.plan.specs.declared.Plan.{Plan}
 use Rattle.plan.specs.Code.{copied_draft, one_draft, parted_plan}
 
@@ -24,15 +25,20 @@ pub record LessAt (src : List ℕ) (at n : ℕ) : Type 0 where
   pub inside : n < length src
   pub less : get_or src n 0 ≡ code "<"
 
+unfoldable pub tag_kind : OpenTagKind → Kind
+tag_kind OpenTagKind.Full = Kind.OpenTagFull
+tag_kind OpenTagKind.Echo = Kind.OpenTagEcho
+tag_kind OpenTagKind.Short = Kind.OpenTagShort
+
 abbrev pub tag_plan : ℕ → OpenTagKind → ℕ → Plan
 tag_plan at kind place =
     parted_plan
-    (copied_draft inline_html 0 at at place)
+    (copied_draft Kind.InlineHtml 0 at at place)
     (copied_draft (tag_kind kind) 0 place place (place + tag_length kind))
     (place + tag_length kind)
     (Change.Swap Frame.Scripting)
 
 abbrev pub over_plan : ℕ → ℕ → Plan
 over_plan at hi =
-    let text = copied_draft inline_html 0 at at hi in
+    let text = copied_draft Kind.InlineHtml 0 at at hi in
     Plan.Told (record { drafts = one_draft text; after = hi; change = Change.Keep; finished = true })

@@ -9,13 +9,14 @@ ghost use Rattle.std.specs.Char.{to_ascii_lowercase};
 ghost use Rattle.byte.specs.Words.{bytes};
 ghost use Rattle.source.specs.Code.{RunEnd};
 ghost use Rattle.outcome.specs.declared.Tag.{Tag};
-ghost use Rattle.outcome.specs.Initials.{full_tag, open_tag, tag, tagged, tag_kind, tag_length, initial};
+ghost use Rattle.outcome.specs.Initials.{full_tag, open_tag, tag, tagged, tag_length, initial};
 ghost use Rattle.plan.specs.Code.{Here, Plans};
-ghost use Rattle.initial.specs.Code.{is_no_less, LessAt, tag_plan, over_plan};
+ghost use Rattle.initial.specs.Code.{is_no_less, LessAt, tag_kind, tag_plan, over_plan};
 
 use outcome::{Change, OpenTagKind, Tag, Tagged};
 use plan::{Plan, Work};
 use state::Frame;
+use token::Kind;
 
 // The text ends after `<?` or letters of the full tag.
 #[tactic(auto, using(crate::proofs::Tags::last_tags))]
@@ -113,14 +114,14 @@ fn find_tag(src: &[u8], at: usize, end: bool) -> Tagged
 }
 
 // A tag's kind as a token. This and the length are no methods: the type stands in the crate outcome, which holds no code.
-#[tactic(auto, using(crate::proofs::Tags::tag_kind_arm), unfolding(outcome::specs::Initials::tag_kind))]
-fn tag_kind(kind: OpenTagKind) -> u32
+#[tactic(auto, using(crate::proofs::Tags::tag_kind_arm), unfolding(crate::specs::Code::tag_kind))]
+fn tag_kind(kind: OpenTagKind) -> Kind
     ensures { result ≡ tag_kind kind }
 {
     match kind {
-        OpenTagKind::Full => token::OPEN_TAG_FULL,
-        OpenTagKind::Echo => token::OPEN_TAG_ECHO,
-        OpenTagKind::Short => token::OPEN_TAG_SHORT,
+        OpenTagKind::Full => Kind::OpenTagFull,
+        OpenTagKind::Echo => Kind::OpenTagEcho,
+        OpenTagKind::Short => Kind::OpenTagShort,
     }
 }
 
@@ -143,7 +144,7 @@ fn tag_plan(at: usize, kind: OpenTagKind, place: usize) -> Plan
     ensures { result ≡ tag_plan at kind place }
 {
     let after = place + tag_length(kind);
-    let text = plan::copied(token::INLINE_HTML, 0, at, at, place);
+    let text = plan::copied(Kind::InlineHtml, 0, at, at, place);
     let tag = plan::copied(tag_kind(kind), 0, place, place, after);
     plan::parted(text, tag, after, Change::Swap(Frame::Scripting))
 }
@@ -154,7 +155,7 @@ fn over_plan(at: usize, hi: usize) -> Plan
     requires { at ≤ hi }
     ensures { result ≡ over_plan at hi }
 {
-    let text = plan::copied(token::INLINE_HTML, 0, at, at, hi);
+    let text = plan::copied(Kind::InlineHtml, 0, at, at, hi);
     Plan::Told(Work {
         drafts: plan::only(text),
         after: hi,

@@ -16,7 +16,8 @@ use Rattle.std.specs.Prelude.{Result}
 use Rattle.source.specs.Cursor.{origin}
 use Rattle.byte.proofs.Tests.{unrefused}
 use Rattle.std.specs.Prelude.{Option, None, Some, SomeIff}
-use Rattle.lookup.specs.declared.Lookup.{Lookup}
+use Rattle.lookup.specs.declared.Looked.{Looked}
+use Rattle.lookup.specs.declared.Refused.{Refused}
 use Rattle.lookup.specs.Lookups.{Search, position_in, end_in, record_before, look, searched, told}
 use Rattle.lookup.specs.Lookups.{find_refusal, looked_up}
 use Rattle.lookup.proofs.Searches.{searched_over, searched_on}
@@ -36,6 +37,9 @@ pub record Searching (position : ℕ → ℕ) (byte count low high looks : ℕ) 
   pub spent : looks + (high - low) ≤ count
   pub same : after_looks looks (searched position byte low high) ≡ wholly (searched position byte 0 count)
 
+abbrev told_pair : Option ℕ → ℕ → ℕ → Looked
+told_pair found looks end = record { found = found; looks = looks; end = end }
+
 module _ (position : ℕ → ℕ) (byte count : ℕ) where
   pub searching_first : Searching position byte count 0 count 0
   searching_first = record { order = omega arith; room = omega arith; spent = omega arith; same = rw (zero-add _) }
@@ -47,14 +51,14 @@ module _ (position : ℕ → ℕ) (byte count : ℕ) where
 
     pub searching_end : (list : List ℕ) (found : Option ℕ) (end : ℕ) → high ≤ low → found ≡ record_before low
         → end ≡ end_in list (record_before low)
-        → Lookup.Told found looks end ≡ told list (searched position byte 0 count)
+        → record { found = found; looks = looks; end = end } ≡ told list (searched position byte 0 count)
     searching_end list found end h e f =
         let none : looks ≡ looks + 0 = omega arith in
         let all : ◌≡◌ {A = Option ℕ × ℕ} (record_before low, looks) (wholly (searched position byte 0 count)) =
         ap (λ (n : ℕ). (record_before low, n)) none
         ∙ sym (ap (after_looks looks) (searched_over position byte low high h))
         ∙ s.same in
-        rw (e, f) (ap (λ (p : Option ℕ × ℕ). Lookup.Told p.0 p.1 (end_in list p.0)) all)
+        rw (e, f) (ap (λ (p : Option ℕ × ℕ). told_pair p.0 p.1 (end_in list p.0)) all)
 
     -- a look at the middle one, whose position is v
     module _ (v : ℕ) (h : low < high) (f : v ≡ position ((low + high) / 2)) where
@@ -130,7 +134,7 @@ find_bounded list count e =
     record { places = leb-true (list / 8) 65537 large.0; counted = leb-true count (list / 8) above.0 }
 
 module _ (list : List ℕ) (count byte : ℕ) (shut : Result (Unit {0}) Refusal) (f : shut ≡ find_refusal (length list) count) where
-  pub find_refused : (r : Lookup) (refusal : Refusal) → shut ≡ Err refusal → r ≡ Lookup.Refused refusal origin → r ≡ looked_up list count byte
+  pub find_refused : (r : Result Looked Refused) (refusal : Refusal) → shut ≡ Err refusal → r ≡ Err (record { refusal = refusal; span = origin }) → r ≡ looked_up list count byte
   unfolding looked_up
   find_refused r refusal h e = rw (← f, h) e
 
@@ -144,9 +148,9 @@ module _ (list : List ℕ) (count byte : ℕ) (shut : Result (Unit {0}) Refusal)
     pub find_inside : count * 8 ≤ length list
     find_inside = omega (arith, (find_bounded (length list) count (sym f ∙ h)).counted)
 
-    pub find_told : (r : Lookup) → r ≡ told list (searched (position_in list) byte 0 count)
-        → r ≡ looked_up list count byte
+    pub find_told : (r : Looked) → r ≡ told list (searched (position_in list) byte 0 count)
+        → Ok r ≡ looked_up list count byte
     unfolding looked_up
-    find_told r e = rw (← f, h) e
+    find_told r e = rw (← f, h, e)
 
 pub ruleset finding = (find_refused, find_few, find_cast, find_inside, find_told)

@@ -43,7 +43,8 @@ use Rattle.demands.proofs.Ends.{cuts_same}
 use Rattle.demands.proofs.Filled.{steps_filled, walk_filled, fed_filled, filled_ordered}
 use Rattle.demands.proofs.Filled.{steps_size, walk_size, fed_size}
 use Rattle.std.specs.Prelude.{Option}
-use Rattle.lookup.specs.declared.Lookup.{Lookup}
+use Rattle.lookup.specs.declared.Looked.{Looked}
+use Rattle.lookup.specs.declared.Refused.{Refused}
 use Rattle.state.proofs.Refusals.{checked_among}
 use Rattle.lookup.specs.Lookups.{unless_refused, Search, position_in, end_in, searched, find_refusal, told, looked_up}
 use Rattle.lookup.specs.FullWalks.{is_seen, NeverFalls, AsFullWalk, IsReached}
@@ -52,13 +53,16 @@ use Rattle.lookup.proofs.Searches.{searched_agrees}
 use Rattle.lookup.proofs.FullWalks.{rising_found}
 use Rattle.lookup.proofs.Lookups.{find_bounded}
 
+abbrev looked : Option ℕ → ℕ → ℕ → Looked
+looked found looks end = record { found = found; looks = looks; end = end }
+
 -- ---- every list that 11 and 12 let pass
 
 module _ (list : List ℕ) (count byte : ℕ) (passes : find_refusal (length list) count ≡ Ok tt) where
   abbrev the : Search
   the = searched (position_in list) byte 0 count
 
-  pub find_here : looked_up list count byte ≡ told list the
+  pub find_here : looked_up list count byte ≡ Ok (told list the)
   unfolding looked_up
   find_here = rw passes
 
@@ -78,7 +82,7 @@ module _ (list : List ℕ) (count byte : ℕ) (passes : find_refusal (length lis
   pub find_rising : NeverFalls (position_in list) count → AsFullWalk list count byte
   find_rising rising =
       find_here
-      ∙ ap (λ (f : Option ℕ). Lookup.Told f (length the.trail) (end_in list f))
+      ∙ ap (λ (f : Option ℕ). Ok (looked f (length the.trail) (end_in list f)))
       (rising_found (position_in list) byte count rising)
 
   module _ (list' : List ℕ) (passes' : find_refusal (length list') count ≡ Ok tt)
@@ -95,17 +99,11 @@ module _ (list : List ℕ) (count byte : ℕ) (passes : find_refusal (length lis
       ap (λ (s : Search). s.found) same_search,
       λ e.
           rw (passes, passes')
-          (ap (Lookup.Told the.found (length the.trail)) e ∙ ap (told list') same_search),
+          (ap (λ (n : ℕ). Ok (looked the.found (length the.trail) n)) e ∙ ap (λ (s : Search). Ok (told list' s)) same_search),
     )
 
 -- ---- the refusals
 
-abbrev told_of : List ℕ → ℕ → ℕ → Lookup
-told_of list count byte = told list (searched (position_in list) byte 0 count)
-
-never_refused : (list : List ℕ) (count byte : ℕ) (refusal : Refusal) (span : Span)
-    → told_of list count byte ≡ Lookup.Refused refusal span → ⊥
-never_refused list count byte refusal span e = let never : ◌≡◌ {A = ℕ} 0 1 = cc in omega arith
 
 pub find_which : (list count : ℕ) (refusal : Refusal) → find_refusal list count ≡ Err refusal
     → is_among refusal (too_large ∷ bad_session ∷ []) ≡ true
@@ -113,20 +111,20 @@ unfolding find_refusal
 find_which list count refusal = checked_among (leb (list / 8) 65537) (leb count (list / 8)) refusal
 
 pub find_refusals : (list : List ℕ) (count byte : ℕ) (refusal : Refusal) (span : Span)
-    → looked_up list count byte ≡ Lookup.Refused refusal span
+    → looked_up list count byte ≡ Err (record { refusal = refusal; span = span })
     → (is_among refusal (too_large ∷ bad_session ∷ []) ≡ true) × (span ≡ origin)
 unfolding looked_up
 find_refusals list count byte refusal span = go (find_refusal (length list) count) (find_which (length list) count)
   where
-    go : (told : Result (Unit {0}) Refusal)
-        → ((why : Refusal) → told ≡ Err why → is_among why (too_large ∷ bad_session ∷ []) ≡ true)
-        → unless_refused told (told_of list count byte) ≡ Lookup.Refused refusal span
+    go : (shut : Result (Unit {0}) Refusal)
+        → ((why : Refusal) → shut ≡ Err why → is_among why (too_large ∷ bad_session ∷ []) ≡ true)
+        → unless_refused shut (told list (searched (position_in list) byte 0 count)) ≡ Err (record { refusal = refusal; span = span })
         → (is_among refusal (too_large ∷ bad_session ∷ []) ≡ true) × (span ≡ origin)
-    go (Ok tt) among e = absurd (never_refused list count byte refusal span e)
+    go (Ok tt) among e = cc
     go (Err why) among e =
-        let same : why ≡ refusal = cc in
-        let place : origin ≡ span = cc in
-        (rw (← same) (among why refl), sym place)
+        let here : Refused = record { refusal = why; span = origin } in
+        let same : here ≡ record { refusal = refusal; span = span } = cc in
+        (rw (← ap (λ (r : Refused). r.refusal) same) (among why refl), sym (ap (λ (r : Refused). r.span) same))
 
 -- ---- lists that were filled
 

@@ -7,9 +7,8 @@
 --   AsFullWalk    the look-up finds what the full walk finds
 --   is_seen       what is found was looked at
 --   IsReached     what is found is at or before the byte
-use Rattle.std.specs.Prelude.{ℕ, zero, suc, ◌≤◌, ◌<◌, Bool, true, List, ◌≡◌, leb, length, if◌then◌else◌, Option, None, Some}
+use Rattle.std.specs.Prelude.{ℕ, zero, suc, ◌≤◌, ◌<◌, Bool, true, List, ◌≡◌, leb, length, if◌then◌else◌, Option, None, Some, Ok}
 use Rattle.byte.specs.Words.{is_one_of}
-use Rattle.lookup.specs.declared.Lookup.{Lookup}
 use Rattle.lookup.specs.Lookups.{position_in, end_in, searched, looked_up}
 
 unfoldable pub last_before : (ℕ → ℕ) → ℕ → ℕ → Option ℕ
@@ -29,7 +28,7 @@ abbrev pub AsFullWalk : List ℕ → ℕ → ℕ → Type 0
 AsFullWalk list count byte =
     let last = last_before (position_in list) byte count in
     looked_up list count byte
-    ≡ Lookup.Told last (length (searched (position_in list) byte 0 count).trail) (end_in list last)
+    ≡ Ok (record { found = last; looks = length (searched (position_in list) byte 0 count).trail; end = end_in list last })
 
 unfoldable pub is_seen : Option ℕ → List ℕ → Bool
 is_seen None trail = true

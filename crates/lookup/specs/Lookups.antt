@@ -17,7 +17,8 @@ use Rattle.std.specs.Prelude.{ℕ, Result, Ok, Err, zero, suc, ◌+◌, ◌-◌,
 use Rattle.byte.specs.declared.Refusal.{Refusal}
 use Rattle.byte.specs.Refusals.{too_large, bad_session}
 use Rattle.source.specs.Cursor.{origin}
-use Rattle.lookup.specs.declared.Lookup.{Lookup}
+use Rattle.lookup.specs.declared.Looked.{Looked}
+use Rattle.lookup.specs.declared.Refused.{Refused}
 
 abbrev pub position_in : List ℕ → ℕ → ℕ
 position_in list i = get_or list (i * 8 + 4) 0
@@ -59,14 +60,14 @@ unfoldable pub find_refusal : ℕ → ℕ → Result (Unit {0}) Refusal
 find_refusal numbers count =
     if leb (numbers / 8) 65537 then (if leb count (numbers / 8) then Ok tt else Err bad_session) else Err too_large
 
-abbrev pub told : List ℕ → Search → Lookup
-told list s = Lookup.Told s.found (length s.trail) (end_in list s.found)
+abbrev pub told : List ℕ → Search → Looked
+told list s = record { found = s.found; looks = length s.trail; end = end_in list s.found }
 
 -- what was found, or the refusal
-abbrev pub unless_refused : Result (Unit {0}) Refusal → Lookup → Lookup
-unless_refused (Ok passes) found = found
-unless_refused (Err refusal) found = Lookup.Refused refusal origin
+abbrev pub unless_refused : Result (Unit {0}) Refusal → Looked → Result Looked Refused
+unless_refused (Ok passes) looked = Ok looked
+unless_refused (Err refusal) looked = Err (record { refusal = refusal; span = origin })
 
-unfoldable pub looked_up : List ℕ → ℕ → ℕ → Lookup
+unfoldable pub looked_up : List ℕ → ℕ → ℕ → Result Looked Refused
 looked_up list count byte =
     unless_refused (find_refusal (length list) count) (told list (searched (position_in list) byte 0 count))

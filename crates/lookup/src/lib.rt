@@ -5,7 +5,6 @@
 
 ghost use Rattle.std.specs.Prelude.{◌≡◌, ◌*◌, ◌≤◌, length};
 ghost use Rattle.source.specs.Cursor.{origin};
-ghost use Rattle.lookup.specs.declared.Lookup.{Lookup};
 ghost use Rattle.lookup.specs.Lookups.{position_in, end_in, record_before, searched, told, find_refusal, looked_up};
 
 use byte::Refusal;
@@ -13,18 +12,30 @@ use source::Span;
 
 // What a look-up comes to.
 #[derive(Clone, Copy)]
-pub enum Lookup {
-    // The record found, how many were looked at, and where the step ended that wrote it: 0 for none.
-    Told {
-        found: Option<u32>,
-        looks: u32,
-        end: u32,
-    },
-    // Nothing was looked at.
-    Refused {
-        refusal: Refusal,
-        span: Span,
-    },
+pub struct Looked {
+    // The number of the record that was found, if any.
+    pub found: Option<u32>,
+    // How many records were looked at.
+    pub looks: u32,
+    // Where the step ended that wrote it: 0 for none.
+    pub end: u32,
+}
+
+// Why nothing was looked at.
+#[derive(Clone, Copy)]
+pub struct Refused {
+    pub refusal: Refusal,
+    pub span: Span,
+}
+
+// A refusal of a call without a session bears a script's beginning.
+impl From<Refusal> for Refused {
+    ghost from_gives = { λ refusal refused. refused ≡ record { refusal = refusal; span = origin } };
+
+    fn from(refusal: Refusal) -> Refused {
+        let span = state::origin();
+        Refused { refusal, span }
+    }
 }
 
 // Refusals 11 and 12 of `find`, of a list of so many numbers.
@@ -39,16 +50,6 @@ fn find_refusal(list: usize, count: usize) -> Result<(), Refusal>
         return Err(Refusal::BadSession);
     }
     Ok(())
-}
-
-// A refusal of a call without a session bears a script's beginning.
-fn refuse(refusal: Refusal) -> Lookup
-    ensures { result ≡ Lookup.Refused refusal origin }
-{
-    Lookup::Refused {
-        refusal,
-        span: state::origin(),
-    }
 }
 
 // The number of the last of so many records.
@@ -74,7 +75,7 @@ fn end_before(list: &[u32], count: u32) -> u32
 // The search over the first `count` records: those before `low` are taken for at or before the byte, those from
 // `high` on for after it.
 #[tactic(auto, using(crate::proofs::Lookups::searching))]
-fn search(list: &[u32], count: u32, at: usize) -> Lookup
+fn search(list: &[u32], count: u32, at: usize) -> Looked
     requires { (count ≤ 65537) × (count * 8 ≤ length list.now) }
     ensures { result ≡ told list.now (searched (position_in list.now) at 0 count) }
 {
@@ -91,7 +92,7 @@ fn search(list: &[u32], count: u32, at: usize) -> Lookup
             low = middle + 1;
         }
     }
-    Lookup::Told {
+    Looked {
         found: record_before(low),
         looks,
         end: end_before(list, low),
@@ -101,11 +102,9 @@ fn search(list: &[u32], count: u32, at: usize) -> Lookup
 // The last record of the first `count` whose position is at or before the byte `at`, and how many were looked at.
 // Refused: a list over 65,537 places (11), a count above its places (12).
 #[tactic(auto, using(crate::proofs::Lookups::finding))]
-pub fn find(list: &[u32], count: usize, at: usize) -> Lookup
+pub fn find(list: &[u32], count: usize, at: usize) -> Result<Looked, Refused>
     ensures { result ≡ looked_up list.now count at }
 {
-    if let Err(refusal) = find_refusal(list.len(), count) {
-        return refuse(refusal);
-    }
-    search(list, count as u32, at)
+    find_refusal(list.len(), count)?;
+    Ok(search(list, count as u32, at))
 }

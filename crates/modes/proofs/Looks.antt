@@ -17,7 +17,8 @@ use Rattle.source.specs.Code.{RunEnd}
 use Rattle.byte.specs.Refusals.{unexpected_end_of_file, no_property}
 use Rattle.byte.proofs.Words.{drop-one}
 use Rattle.state.specs.declared.Frame.{Frame}
-use Rattle.token.specs.Kinds.{identifier, question_arrow, arrow}
+use Rattle.token.specs.declared.Kind.{Kind}
+use Rattle.token.specs.Kinds.{kind_number, question_arrow, arrow}
 use Rattle.outcome.specs.declared.Change.{Change}
 use Rattle.outcome.specs.Outcomes.{Outcome, goes, ending}
 use Rattle.outcome.specs.Lookings.{named, is_bracketed, varname, looking_for_varname, property, arrow_head, questioned, looking_for_property, var_offset}
@@ -119,10 +120,10 @@ pub ruleset bracketed = (is_bracketed_past, is_bracketed_here, is_bracketed_othe
 
 module _ (src : List ℕ) (end : Bool) (at k : ℕ) (flag : Bool) (f : flag ≡ is_bracketed (drop (at + k) src)) (r : Plan) where
   pub varname_token : at + k ≤ length src → flag ≡ true
-      → r ≡ one_plan (copied_draft identifier 0 at at (at + k)) (at + k) (Change.Swap Frame.Scripting)
+      → r ≡ one_plan (copied_draft Kind.Identifier 0 at at (at + k)) (at + k) (Change.Swap Frame.Scripting)
       → Plans src end (varname at (drop at src) (Some k)) r
   unfolding varname
-  varname_token h t e = rw (drop-drop k at src, ← f, t, e) (token_plans src end identifier at k (Change.Swap Frame.Scripting) h)
+  varname_token h t e = rw (drop-drop k at src, ← f, t, e) (token_plans src end Kind.Identifier at k (Change.Swap Frame.Scripting) h)
 
   pub varname_goes : flag ≡ false → r ≡ goes_plan at (Change.Swap Frame.Scripting)
       → Plans src end (varname at (drop at src) (Some k)) r
@@ -167,7 +168,7 @@ module _ (src : List ℕ) (end : Bool) (at : ℕ) where
     unproperty =
         rw (f, e) (ending_plans src end (Outcome.Refused no_property at) (Plan.Refused no_property at) (refused_plans src end no_property at))
 
-    pub arrow_head_past : (kind k : ℕ) → length src ≤ at + k → Plans src end (arrow_head kind k end at (drop at src) (drop (at + k) src)) r
+    pub arrow_head_past : (kind : Kind) (k : ℕ) → length src ≤ at + k → Plans src end (arrow_head (kind_number kind) k end at (drop at src) (drop (at + k) src)) r
     unfolding arrow_head
     arrow_head_past kind k h = rw (drop_of_length-le src h) unproperty
 
@@ -179,14 +180,14 @@ module _ (src : List ℕ) (end : Bool) (at : ℕ) where
     unfolding looking_for_property
     looking_for_property_past h = rw (drop_of_length-le src h) unproperty
 
-  module _ (kind k : ℕ) (h : at + k < length src) (r : Plan) where
+  module _ (kind : Kind) (k : ℕ) (h : at + k < length src) (r : Plan) where
     pub arrow_head_token : get_or src (at + k) 0 ≡ 62 → r ≡ one_plan (copied_draft kind 0 at at (at + (k + 1))) (at + (k + 1)) Change.Keep
-        → Plans src end (arrow_head kind k end at (drop at src) (drop (at + k) src)) r
+        → Plans src end (arrow_head (kind_number kind) k end at (drop at src) (drop (at + k) src)) r
     unfolding arrow_head
     arrow_head_token b e = rw (drop-one src (at + k) h, b, e, add-one k) (token_plans src end kind at (suc k) Change.Keep (omega arith))
 
     pub arrow_head_other : (get_or src (at + k) 0 ≡ 62 → ⊥) → r ≡ Plan.Refused no_property at
-        → Plans src end (arrow_head kind k end at (drop at src) (drop (at + k) src)) r
+        → Plans src end (arrow_head (kind_number kind) k end at (drop at src) (drop (at + k) src)) r
     unfolding arrow_head
     arrow_head_other b e = rw (drop-one src (at + k) h, ne_eqb (get_or src (at + k) 0) 62 b, e) (refused_plans src end no_property at)
 
@@ -225,12 +226,12 @@ module _ (src : List ℕ) (end : Bool) (at : ℕ) where
 
     module _ (t : not start ≡ false) (name : Option ℕ) (n : name ≡ named end 1 (drop (at + 1) src)) where
       pub looking_for_property_name : (k : ℕ) (r : Plan) → name ≡ Some k
-          → r ≡ one_plan (copied_draft identifier 0 at at (at + k)) (at + k) Change.Leave
+          → r ≡ one_plan (copied_draft Kind.Identifier 0 at at (at + k)) (at + k) Change.Leave
           → Plans src end (looking_for_property end at (drop at src)) r
       unfolding looking_for_property property
       looking_for_property_name k r e p =
           rw (drop-one src at h, ne_eqb (get_or src at 0) 63 q, ne_eqb (get_or src at 0) 45 d, ← f, not-false start t, ← n, e, p)
-          (rw (drop-one src at h) at (token_plans src end identifier at k Change.Leave (name_inside src end at h name n k e)))
+          (rw (drop-one src at h) at (token_plans src end Kind.Identifier at k Change.Leave (name_inside src end at h name n k e)))
 
       pub looking_for_property_waits : name ≡ None → Plans src end (looking_for_property end at (drop at src)) Plan.Wait
       unfolding looking_for_property property

@@ -2,6 +2,7 @@
 // Of the Rust: `looking_for_varname`, `looking_for_property`, `var_offset`.
 ghost use Rattle.std.specs.Prelude.{◌≡◌, ◌+◌, ◌≤◌, ◌<◌, length, drop};
 ghost use Rattle.byte.specs.Refusals.{no_property};
+ghost use Rattle.token.specs.Kinds.{kind_number};
 ghost use Rattle.outcome.specs.Lookings.{named, is_bracketed, varname, looking_for_varname, arrow_head, questioned, looking_for_property, var_offset};
 ghost use Rattle.plan.specs.Code.{Here, Plans};
 
@@ -9,6 +10,7 @@ use byte::Refusal;
 use outcome::Change;
 use plan::Plan;
 use state::Frame;
+use token::Kind;
 
 // How many identifier bytes come, with the one before `at`; none where the part may end within them.
 #[tactic(auto, using(crate::proofs::Looks::naming))]
@@ -38,7 +40,7 @@ fn varname(src: &[u8], at: usize, k: usize, end: bool) -> Plan
     ensures { Plans src.now end (varname at (drop at src.now) (Some k)) result }
 {
     if is_bracketed(src, at + k) {
-        return plan::one_token(token::IDENTIFIER, at, k, Change::Swap(Frame::Scripting));
+        return plan::one_token(Kind::Identifier, at, k, Change::Swap(Frame::Scripting));
     }
     plan::goes(at, Change::Swap(Frame::Scripting))
 }
@@ -73,9 +75,9 @@ fn no_property(at: usize) -> Plan
 
 // The `>` of an arrow at a place, of which `k` bytes stand before it.
 #[tactic(auto, using(crate::proofs::Looks::arrow_heads))]
-fn arrow_head(kind: u32, k: usize, src: &[u8], at: usize, end: bool) -> Plan
+fn arrow_head(kind: Kind, k: usize, src: &[u8], at: usize, end: bool) -> Plan
     requires { (at + k ≤ length src.now) × (length src.now ≤ 65536) }
-    ensures { Plans src.now end (arrow_head kind k end at (drop at src.now) (drop (at + k) src.now)) result }
+    ensures { Plans src.now end (arrow_head (kind_number kind) k end at (drop at src.now) (drop (at + k) src.now)) result }
 {
     let i = at + k;
     if src.len() <= i {
@@ -98,7 +100,7 @@ fn questioned(src: &[u8], at: usize, end: bool) -> Plan
         return plan::ending(end, no_property(at));
     }
     if src[i] == b'-' {
-        return arrow_head(token::QUESTION_ARROW, 2, src, at, end);
+        return arrow_head(Kind::QuestionArrow, 2, src, at, end);
     }
     no_property(at)
 }
@@ -117,13 +119,13 @@ pub fn looking_for_property(src: &[u8], at: usize, end: bool) -> Plan
         return questioned(src, at, end);
     }
     if b == b'-' {
-        return arrow_head(token::ARROW, 1, src, at, end);
+        return arrow_head(Kind::Arrow, 1, src, at, end);
     }
     if !byte::is_start(b) {
         return no_property(at);
     }
     match named_at(src, at + 1, end) {
-        Some(k) => plan::one_token(token::IDENTIFIER, at, k, Change::Leave),
+        Some(k) => plan::one_token(Kind::Identifier, at, k, Change::Leave),
         None => Plan::Wait,
     }
 }

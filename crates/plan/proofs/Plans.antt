@@ -12,6 +12,8 @@ use lib.Seq.{take-nil}
 use borrow.Author.Tests.{eq-eqb, ne_eqb}
 use Rattle.state.specs.declared.Label.{Label}
 use Rattle.state.specs.Bounds.{label_bytes}
+use Rattle.token.specs.declared.Kind.{Kind}
+use Rattle.token.specs.Kinds.{kind_number}
 use Rattle.outcome.specs.declared.Change.{Change}
 use Rattle.outcome.specs.Outcomes.{Outcome, unless_empty, goes, ending}
 use Rattle.outcome.specs.Lookings.{token}
@@ -28,7 +30,7 @@ pub named_short : (src : List ℕ) (label : Label) (part : List ℕ) → Named s
 named_short src label part name e = rw e (simp (length-take, length-drop) (omega (arith, name.short)))
 
 -- bytes of the source can be copied
-pub copied_ready : {scratch : List ℕ} (src : List ℕ) (end : Bool) (kind detail place from to : ℕ) → from ≤ to
+pub copied_ready : {scratch : List ℕ} (src : List ℕ) (end : Bool) (kind : Kind) (detail place from to : ℕ) → from ≤ to
     → to ≤ length src
     → Ready src end scratch (copied_draft kind detail place from to)
 unfolding made_by
@@ -39,8 +41,8 @@ copied_ready src end kind detail place from to h i =
     }
 
 -- k bytes from `at` on as a token
-pub token_plans : (src : List ℕ) (end : Bool) (kind at k : ℕ) (change : Change) → at + k ≤ length src
-    → Plans src end (token kind at (drop at src) k change) (one_plan (copied_draft kind 0 at at (at + k)) (at + k) change)
+pub token_plans : (src : List ℕ) (end : Bool) (kind : Kind) (at k : ℕ) (change : Change) → at + k ≤ length src
+    → Plans src end (token (kind_number kind) at (drop at src) k change) (one_plan (copied_draft kind 0 at at (at + k)) (at + k) change)
 unfolding made_by outcome_of pieces
 token_plans src end kind at k change inside =
     let n : at + k - at ≡ k = omega arith in
@@ -88,7 +90,7 @@ module _ {scratch : List ℕ} (src : List ℕ) (end : Bool) (part d : Draft) (af
   parted_value : (value : List ℕ) → made src end part ≡ value → part.detail ≡ 0 → Ready src end scratch part
       → Ready src end scratch d
       → PlansIn src end scratch
-      (Outcome.Told (unless_empty part.kind part.place value ++ piece_of src end d ∷ []) after change false)
+      (Outcome.Told (unless_empty (kind_number part.kind) part.place value ++ piece_of src end d ∷ []) after change false)
       (parted_plan part d after change)
   unfolding outcome_of pieces unless_empty
   parted_value [] v z p q =
@@ -100,7 +102,7 @@ module _ {scratch : List ℕ} (src : List ℕ) (end : Bool) (part d : Draft) (af
 
   pub parted_plans : part.detail ≡ 0 → Ready src end scratch part → Ready src end scratch d
       → PlansIn src end scratch
-      (Outcome.Told (unless_empty part.kind part.place (made src end part) ++ piece_of src end d ∷ []) after change false)
+      (Outcome.Told (unless_empty (kind_number part.kind) part.place (made src end part) ++ piece_of src end d ∷ []) after change false)
       (parted_plan part d after change)
   parted_plans z p q = parted_value (made src end part) refl z p q
 

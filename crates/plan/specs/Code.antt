@@ -13,6 +13,8 @@
 use Rattle.std.specs.Prelude.{ℕ, ◌+◌, ◌-◌, ◌≤◌, Bool, false, List, [], ◌∷◌, ◌≡◌, eqb, length, take, drop, if◌then◌else◌}
 use Rattle.state.specs.declared.Label.{Label}
 use Rattle.state.specs.Bounds.{label_bytes}
+use Rattle.token.specs.declared.Kind.{Kind}
+use Rattle.token.specs.Kinds.{kind_number}
 use Rattle.unit.specs.Readings.{text_at}
 use Rattle.text.specs.Code as text
 use Rattle.number.specs.Numbers as number
@@ -37,7 +39,7 @@ abbrev pub made : List ℕ → Bool → Draft → List ℕ
 made src end d = made_by d.making src end d.from d.to
 
 abbrev pub piece_of : List ℕ → Bool → Draft → Piece
-piece_of src end d = record { kind = d.kind; detail = d.detail; place = d.place; value = made src end d }
+piece_of src end d = record { kind = kind_number d.kind; detail = d.detail; place = d.place; value = made src end d }
 
 -- the drafts, in order
 abbrev pub drafts_of : Drafts → List Draft
@@ -110,7 +112,7 @@ pub record PlansIn (src : List ℕ) (end : Bool) (scratch : List ℕ) (o : Outco
 abbrev pub Plans : List ℕ → Bool → Outcome → Plan → Type 0
 Plans src end o r = PlansIn src end [] o r
 
-abbrev pub copied_draft : ℕ → ℕ → ℕ → ℕ → ℕ → Draft
+abbrev pub copied_draft : Kind → ℕ → ℕ → ℕ → ℕ → Draft
 copied_draft kind detail place from to =
     record { kind = kind; detail = detail; place = place; making = Making.Copied; from = from; to = to; len = to - from }
 

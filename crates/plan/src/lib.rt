@@ -9,6 +9,7 @@ ghost use Rattle.plan.specs.Code.{Named, copied_draft, no_drafts, one_draft, wor
 use byte::Refusal;
 use outcome::Change;
 use state::Label;
+use token::Kind;
 use unit::Mode;
 
 // How a token's value comes about.
@@ -28,7 +29,7 @@ pub enum Making {
 // A token to be written: its value has `len` bytes and comes from the source's bytes from `from` up to `to`.
 #[derive(Clone, Copy)]
 pub struct Draft {
-    pub kind: u32,
+    pub kind: Kind,
     pub detail: usize,
     // The place whose span it bears.
     pub place: usize,
@@ -55,6 +56,7 @@ pub struct Work {
     pub finished: bool,
 }
 
+// What a routine answers. Three answers, as of a scan: a wait is no error.
 #[derive(Clone, Copy)]
 pub enum Plan {
     Told(Work),
@@ -80,7 +82,7 @@ pub fn label_bytes(src: &[u8], label: Label) -> &[u8]
 }
 
 // A token whose value is the source's own bytes.
-pub fn copied(kind: u32, detail: usize, place: usize, from: usize, to: usize) -> Draft
+pub fn copied(kind: Kind, detail: usize, place: usize, from: usize, to: usize) -> Draft
     requires { from ≤ to }
     ensures { result ≡ copied_draft kind detail place from to }
 {
@@ -136,7 +138,7 @@ pub fn one(draft: Draft, after: usize, change: Change) -> Plan
 }
 
 // The `k` bytes at a place as a token.
-pub fn one_token(kind: u32, at: usize, k: usize, change: Change) -> Plan
+pub fn one_token(kind: Kind, at: usize, k: usize, change: Change) -> Plan
     requires { at + k ≤ 65536 }
     ensures { result ≡ one_plan (copied_draft kind 0 at at (at + k)) (at + k) change }
 {

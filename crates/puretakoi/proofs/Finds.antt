@@ -21,7 +21,8 @@ use Rattle.byte.specs.Refusals.{number_of, out_of_place, too_large, bad_session}
 use Rattle.byte.proofs.Laid.{length_laid, laid_append, set_laid}
 use Rattle.byte.proofs.Tests.{choice}
 use Rattle.source.specs.declared.Span.{Span}
-use Rattle.lookup.specs.declared.Lookup.{Lookup}
+use Rattle.lookup.specs.declared.Looked.{Looked}
+use Rattle.lookup.specs.declared.Refused.{Refused}
 use Rattle.lookup.specs.Lookups.{Search, position_in, end_in, searched, find_refusal, unless_refused, looked_up}
 use Rattle.lookup.proofs.Promises.{find_here, find_looks}
 use Rattle.puretakoi.specs.Told.{told_number, numbers_told}
@@ -68,34 +69,34 @@ module _ (list : List ℕ) (count byte : ℕ) (found : List ℕ) where
   pub finds_short : (r : ℕ) → length found < 3 → r ≡ number_of out_of_place → Finds list count byte found r found
   finds_short r h e = record { number = rw (e, lt-leb 3 (length found) h); holds = rw (lt-leb 3 (length found) h) }
 
-  module _ (lookup : Lookup) (h : 3 ≤ length found) (e : lookup ≡ looked_up list count byte) where
-    pub finds_told : (f : Option ℕ) (looks end : ℕ) (found' : List ℕ) → lookup ≡ Lookup.Told f looks end
-        → found' ≡ laid found 0 (found_ended (length found) f looks end)
+  module _ (lookup : Result Looked Refused) (h : 3 ≤ length found) (e : lookup ≡ looked_up list count byte) where
+    pub finds_told : (looked : Looked) (found' : List ℕ) → lookup ≡ Ok looked
+        → found' ≡ laid found 0 (found_ended (length found) looked.found looked.looks looked.end)
         → Finds list count byte found 0 found'
     unfolding finds_number found_after
-    finds_told f looks end found' k w =
+    finds_told looked found' k w =
         record { number = rw (le-leb 3 (length found) h, ← e, k); holds = rw (le-leb 3 (length found) h, ← e, k) w }
 
-    pub finds_no : (refusal : Refusal) (span : Span) (number : ℕ) → lookup ≡ Lookup.Refused refusal span → number ≡ number_of refusal
+    pub finds_no : (refused : Refused) (number : ℕ) → lookup ≡ Err refused → number ≡ number_of refused.refusal
         → Finds list count byte found number found
     unfolding finds_number found_after
-    finds_no refusal span number k n =
+    finds_no refused number k n =
         record { number = rw (n, le-leb 3 (length found) h, ← e, k); holds = rw (le-leb 3 (length found) h, ← e, k) }
 
 pub ruleset finds = (found_three, found_four, finds_short, finds_told, finds_no)
 
 -- ---- what a host may rely on
 
-after_refused : (l : Lookup) (slice : List ℕ) → (finds_number l ≡ 0 → ⊥) → found_after l slice ≡ slice
+after_refused : (l : Result Looked Refused) (slice : List ℕ) → (finds_number l ≡ 0 → ⊥) → found_after l slice ≡ slice
 unfolding finds_number found_after
-after_refused (Lookup.Told found looks end) slice h = absurd (h refl)
-after_refused (Lookup.Refused refusal span) slice h = refl
+after_refused (Ok looked) slice h = absurd (h refl)
+after_refused (Err refused) slice h = refl
 
-refused_number : (told : Result (Unit {0}) Refusal) (found : Option ℕ) (looks end : ℕ)
-    → finds_number (unless_refused told (Lookup.Told found looks end)) ≡ told_number told
+refused_number : (told : Result (Unit {0}) Refusal) (looked : Looked)
+    → finds_number (unless_refused told looked) ≡ told_number told
 unfolding finds_number
-refused_number (Ok passes) found looks end = refl
-refused_number (Err refusal) found looks end = refl
+refused_number (Ok passes) looked = refl
+refused_number (Err refusal) looked = refl
 
 third_looks : (found : Option ℕ) (looks end : ℕ) (slice : List ℕ)
     → get_or (laid slice 0 (found_ended (length slice) found looks end)) 2 0 ≡ looks
@@ -131,7 +132,7 @@ module _ (list : List ℕ) (count byte : ℕ) (found : List ℕ) (r : ℕ) (foun
   unfolding looked_up
   finds-number =
       c.number
-      ∙ ap (λ (n : ℕ). if leb 3 (length found) then n else number_of out_of_place) (refused_number (find_refusal (length list) count) _ _ _)
+      ∙ ap (λ (n : ℕ). if leb 3 (length found) then n else number_of out_of_place) (refused_number (find_refusal (length list) count) _)
 
   -- 10, or one of the look-up's own
   pub finds_which : is_one_of r (0 ∷ numbers_told (out_of_place ∷ too_large ∷ bad_session ∷ [])) ≡ true
@@ -162,7 +163,7 @@ module _ (list : List ℕ) (count byte : ℕ) (found : List ℕ) (r : ℕ) (foun
   pub finds_refused : (r ≡ 0 → ⊥) → found' ≡ found
   finds_refused h = go (leb 3 (length found)) (looked_up list count byte) c.number c.holds
     where
-      go : (t : Bool) (l : Lookup) → r ≡ (if t then finds_number l else number_of out_of_place)
+      go : (t : Bool) (l : Result Looked Refused) → r ≡ (if t then finds_number l else number_of out_of_place)
           → found' ≡ (if t then found_after l found else found) → found' ≡ found
       go true l e g = g ∙ after_refused l found (λ z. h (e ∙ z))
       go false l e g = g

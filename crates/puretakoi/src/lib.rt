@@ -18,7 +18,6 @@ ghost use Rattle.byte.specs.Laid.{laid};
 ghost use Rattle.puretakoi.specs.Finds.{found_numbers, Finds};
 
 use byte::Refusal;
-use lookup::Lookup;
 use outcome::Call;
 use source::Span;
 use state::Session;
@@ -328,17 +327,13 @@ pub extern "C" fn puretakoi_find(list: &[u32], count: usize, at: usize, found: &
         return u32::from(Refusal::OutOfPlace);
     }
     match lookup::find(list, count, at) {
-        Lookup::Told {
-            found: record,
-            looks,
-            end,
-        } => {
-            put_found(found, record, looks);
+        Ok(looked) => {
+            put_found(found, looked.found, looked.looks);
             if 4 <= found.len() {
-                found[3] = end;
+                found[3] = looked.end;
             }
             0
         }
-        Lookup::Refused { refusal, .. } => u32::from(refusal),
+        Err(refused) => u32::from(refused.refusal),
     }
 }

@@ -8,8 +8,6 @@ use native.Mathlib.Omega.{arith}
 use lib.Dec.{eqb}
 use lib.ListN.{length, get_or, take, drop, length-drop}
 use lib.Seq.{drop-drop}
-use lib.ListN.{drop_of_length-le}
-use Rattle.byte.proofs.Words.{drop-one}
 use borrow.Author.Tests.{eq-eqb, ne_eqb, le-leb, lt-leb}
 use Rattle.std.specs.List.{fold}
 use Rattle.byte.specs.Words.{◌is◌, run}
@@ -128,42 +126,24 @@ module _ (label line : List ℕ) (end : Bool) (n : ℕ) (r : RunEnd is_blank lin
 
 pub ruleset kinds = (kind_closes, kind_other, kind_end, kind_more)
 
--- i bytes of indentation come off
-pub record Counting (ind : Indent) (line : List ℕ) (i : ℕ) : Type 0 where
-  pub inside : i ≤ length line
-  pub within : i ≤ ind.width
-  pub same : run (eqb ind.blank) line ≡ i + run (eqb ind.blank) (drop i line)
+-- the run of the first n bytes is the whole run, or n
+run_first : (test : ℕ → Bool) (n : ℕ) (xs : List ℕ) → run test (take n xs) ≡ min n (run test xs)
+unfolding run
+run_first test zero xs = omega arith
+run_first test (suc n) [] = omega arith
+run_first test (suc n) (b ∷ rest) = go (test b) (run_first test n rest)
+  where
+    go : (t : Bool) → run test (take n rest) ≡ min n (run test rest)
+        → (if t then suc (run test (take n rest)) else 0) ≡ min (suc n) (if t then suc (run test rest) else 0)
+    go true e = omega (arith, e)
+    go false e = omega arith
 
-module _ (ind : Indent) (line : List ℕ) where
-  pub counting_first : Counting ind line 0
-  counting_first = record { inside = omega arith; within = omega arith; same = omega arith }
-
-  module _ (i : ℕ) (p : Counting ind line i) where
-    pub counting_full : ind.width ≤ i → i ≡ offset_of ind line
-    unfolding offset_of
-    counting_full h = omega (arith, p.within, p.same)
-
-    pub counting_end : i < ind.width → length line ≤ i → i ≡ offset_of ind line
-    unfolding offset_of run
-    counting_end w h =
-        let e : run (eqb ind.blank) line ≡ i = p.same ∙ rw (drop_of_length-le line h) (omega arith) in
-        omega arith
-
-    module _ (w : i < ind.width) (h : i < length line) where
-      pub counting_stop : (get_or line i 0 ≡ ind.blank → ⊥) → i ≡ offset_of ind line
-      unfolding offset_of run
-      counting_stop n =
-          let t : eqb ind.blank (get_or line i 0) ≡ false = ne_eqb ind.blank (get_or line i 0) (λ (z : ind.blank ≡ get_or line i 0). n (sym z)) in
-          let e : run (eqb ind.blank) line ≡ i = p.same ∙ rw (drop-one line i h, t) (omega arith) in
-          omega arith
-
-      pub counting_on : get_or line i 0 ≡ ind.blank → Counting ind line (i + 1)
-      unfolding run
-      counting_on e =
-          let t : eqb ind.blank (get_or line i 0) ≡ true = eq-eqb ind.blank (get_or line i 0) (sym e) in
-          record { inside = omega arith; within = omega arith; same = p.same ∙ rw (drop-one line i h, t) (omega arith) }
-
-pub ruleset counting = (counting_first, counting_full, counting_end, counting_stop, counting_on)
+-- where the blanks end of as much of a line as may come off
+pub offset_told : (ind : Indent) (line : List ℕ) (r : ℕ)
+    → RunEnd (eqb ind.blank) (take (min ind.width (length line)) line) 0 r → r ≡ offset_of ind line
+unfolding offset_of
+offset_told ind line r e =
+    omega (arith, e.place, run_first (eqb ind.blank) (min ind.width (length line)) line, run_length (eqb ind.blank) line)
 
 -- whether the byte after what comes off a line is stray
 pub offset-length : (ind : Indent) (line : List ℕ) → offset_of ind line ≤ length line

@@ -1,20 +1,17 @@
--- Laws of blocks: their bytes, one byte more of a block that is looked through, the loop that passes block after block.
--- Assumes nothing.
+-- Laws of blocks: the bytes of a block of eight, and runs that are passed by parts and by whole blocks. Assumes nothing.
 use Rattle.std.specs.Prelude.{if◌then◌else◌}
-use mathlib.Core.Path.{◌≡◌, refl, sym, ◌∙◌}
-use mathlib.Core.Bool.{Bool, true, false, not, ◌&&◌, ◌||◌, and-true, not-not}
+use mathlib.Core.Path.{◌≡◌, refl, sym, ap, ◌∙◌}
+use mathlib.Core.Bool.{Bool, true, false, not, ◌&&◌}
 use mathlib.Core.List.{List, [], ◌∷◌}
 use Prim.Native.Nat.{ℕ, zero, suc, ◌+◌, ◌-◌, ◌<◌, ◌≤◌}
 use native.Mathlib.Omega.{arith}
-use lib.Dec.{eqb}
 use lib.ListN.{length, get_or, take, drop, length-drop}
-use lib.Seq.{take-add, drop-drop}
+use lib.Seq.{drop-drop, length-take-le}
 use borrow.Author.Tests.{not-false}
 use Rattle.byte.specs.Words.{run, every}
-use Rattle.byte.specs.Bytes.{is_no_break}
-use Rattle.source.specs.Code.{Passing}
+use Rattle.source.specs.Code.{Passing, RunEnd}
 use Rattle.byte.proofs.Tests.{&&-left, &&-right}
-use Rattle.byte.proofs.Words.{drop-one, every_append}
+use Rattle.byte.proofs.Words.{drop-one}
 
 -- a block of eight, byte by byte
 pub eight_bytes : (src : List ℕ) (at : ℕ) → at + 8 ≤ length src
@@ -47,39 +44,6 @@ eight_bytes src at h =
   where
     one : (i n : ℕ) → i < length src → take (suc n) (drop i src) ≡ get_or src i 0 ∷ take n (drop (i + 1) src)
     one i n h = rw (drop-one src i h)
-
--- j of a block's n bytes are looked at: whether one of them fails the test
-pub record Meeting (test : ℕ → Bool) (src : List ℕ) (at n j : ℕ) (hit : Bool) : Type 0 where
-  pub inside : j ≤ n
-  pub same : hit ≡ not (every test (take j (drop at src)))
-
-module _ (test : ℕ → Bool) (src : List ℕ) (at n : ℕ) where
-  pub meeting_first : Meeting test src at n 0 false
-  unfolding every
-  meeting_first = record { inside = omega arith; same = refl }
-
-  module _ (j : ℕ) (hit : Bool) (m : Meeting test src at n j hit) where
-    pub meeting_end : n ≤ j → hit ≡ not (every test (take n (drop at src)))
-    meeting_end h =
-        let all : j ≡ n = omega (arith, m.inside) in
-        rw all at m.same
-
-    pub meeting_on : (more : Bool) → at + n ≤ length src → j < n → more ≡ (hit || not (test (get_or src (at + j) 0))) → Meeting test src at n (j + 1) more
-    unfolding every
-    meeting_on more fits h e =
-        let place : at + j < length src = omega arith in
-        record { inside = omega arith; same = e ∙ rw (m.same, take-add j 1 (drop at src), drop-drop j at src, drop-one src (at + j) place, every_append test (take j (drop at src)) (get_or src (at + j) 0 ∷ [])) (either (every test (take j (drop at src))) (test (get_or src (at + j) 0))) }
-      where
-        either : (a b : Bool) → (not a || not b) ≡ not (a && (b && true))
-        either true b = rw (and-true b)
-        either false b = refl
-
--- what the code asks of a byte is that it fails the test
-pub no_break_or : (hit : Bool) (b : ℕ) → (hit || eqb b 10) ≡ (hit || not (is_no_break b))
-unfolding is_no_break
-no_break_or hit b = rw (not-not (eqb b 10))
-
-pub ruleset meeting = (meeting_first, meeting_end, meeting_on, no_break_or)
 
 -- what is left of a run after k bytes of it
 run_drop : (test : ℕ → Bool) (xs : List ℕ) (k : ℕ) → k ≤ run test xs → run test xs ≡ k + run test (drop k xs)
@@ -128,3 +92,26 @@ module _ (test : ℕ → Bool) (src : List ℕ) (at i : ℕ) (p : Passing test s
   passing_block n hit h e f =
       let all : every test (take n (drop i src)) ≡ true = not-false (every test (take n (drop i src))) (sym e ∙ f) in
       passing_part n h (run_every test (drop i src) n (rw (length-drop i src) h) all)
+
+-- where not all of the first n pass, a run is over among them
+run_cut : (test : ℕ → Bool) (n : ℕ) (xs : List ℕ) → every test (take n xs) ≡ false → run test (take n xs) ≡ run test xs
+unfolding run every
+run_cut test zero xs e = cc
+run_cut test (suc n) [] e = cc
+run_cut test (suc n) (b ∷ rest) e = go (test b) (run_cut test n rest) e
+  where
+    go : (t : Bool) → (every test (take n rest) ≡ false → run test (take n rest) ≡ run test rest)
+        → (t && every test (take n rest)) ≡ false
+        → (if t then suc (run test (take n rest)) else 0) ≡ (if t then suc (run test rest) else 0)
+    go true ih f = ap suc (ih f)
+    go false ih f = refl
+
+-- a run goes on up to a place of the block in which it ends
+pub run_end_block : (test : ℕ → Bool) (src block : List ℕ) (at i n r : ℕ) → Passing test src at i
+    → every test (take n (drop i src)) ≡ false → block ≡ take n (drop i src) → n ≤ length src - i
+    → RunEnd test block 0 r → RunEnd test src at (i + r)
+run_end_block test src block at i n r p cut e h f =
+    let same : run test block ≡ run test (drop i src) = rw e (run_cut test n (drop i src) cut) in
+    let told : r ≡ run test (drop i src) = omega (arith, f.place, same) in
+    let size : length block ≡ n = rw e (length-take-le n (drop i src) (rw (length-drop i src) h)) in
+    record { place = omega (arith, told, p.same); inside = omega (arith, f.inside, size, h, p.inside) }

@@ -61,7 +61,11 @@ pub fn break_end(src: &[u8], at: usize) -> usize
     ensures { RunEnd is_no_break src.now at result }
 {
     let i = pass_blocks::<8>(src, at, b'\n');
-    end_of(src, i, byte::is_no_break)
+    // A block's end is looked for in its eight bytes alone, which needs no count of what is left.
+    match src[i..].first_chunk::<8>() {
+        Some(block) => i + end_of(block, 0, byte::is_no_break),
+        None => end_of(src, i, byte::is_no_break),
+    }
 }
 
 // The top bit of each of eight bytes that is one of four.

@@ -74,7 +74,7 @@ pub struct Session {
     pub choices: Choices,
 }
 
-// What came of a call.
+// What came of a call. Three answers, as a host is told them, and beside each a session: no `?` would pass a refusal on.
 #[derive(Clone, Copy)]
 pub enum Answer {
     Done,

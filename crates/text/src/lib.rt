@@ -16,7 +16,8 @@ use unit::{Mode, Stop, TextUnit};
 
 mod units;
 
-// What a scan found: how many bytes the value has, what ended it, and from where to where that stands.
+// What a scan found: how many bytes the value has, what ended it, and from where to where that stands. A wait is no error
+// (the theorems on waiting tell it from refusals), so it has a name of its own, and no Result is made of the three.
 #[derive(Clone, Copy)]
 pub enum Scanned {
     Text {

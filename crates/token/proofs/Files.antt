@@ -1,20 +1,19 @@
 -- The record file: its two loops, its refusals, and that reading and writing undo each other. Assumes nothing.
-use Rattle.std.specs.Prelude.{Result, Ok, Err, if◌then◌else◌}
+use Rattle.std.specs.Prelude.{Result, Ok, Err}
 use Prim.Native.Nat.{ℕ, zero, suc, ◌+◌, ◌*◌, ◌/◌, ◌%◌, ◌≤◌, ◌<◌}
 use Rattle.byte.specs.declared.Refusal.{Refusal}
 use mathlib.Core.Path.{◌≡◌, refl, sym, ap, ◌∙◌}
-use mathlib.Core.Bool.{Bool, true, false, ◌&&◌}
+use mathlib.Core.Bool.{◌&&◌}
 use mathlib.Core.List.{List, [], ◌∷◌, ◌++◌, append_assoc, append-nil}
 use native.Mathlib.Omega.{arith}
 use native.Mathlib.Numerals.{add-one}
 use lib.Dec.{leb, eqb}
 use lib.ListN.{length, take, drop, set, get_or}
 use lib.Seq.{take-length, take-suc, get_or-drop, length-take-le}
-use borrow.Author.Tests.{eq-eqb, leb-true, eqb-true}
+use borrow.Author.Tests.{leb-true, eqb-true}
 use Rattle.byte.specs.Laid.{laid}
 use Rattle.byte.proofs.Tests.{unrefused}
 use Rattle.byte.proofs.Laid.{set_laid, Writing, writing_first, writing_on, writing_end}
-use Rattle.source.specs.Cursor.{origin}
 use Rattle.state.specs.declared.Answer.{Answer}
 use Rattle.token.specs.Files.{little_endian, file_of, number_at, list_of, to_list_refusal, file_answer, file_after, Written}
 

@@ -1,4 +1,3 @@
-pub mod Copies
 pub mod Files
 pub mod RoundTrips
 pub mod Tokens

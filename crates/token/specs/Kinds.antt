@@ -1,5 +1,7 @@
 -- The kinds of tokens by name (document 01, "Token list", and document 02, P2), as the source has them.
+--   kind_number   the number by which a record names a kind
 use Rattle.std.specs.Prelude.{ℕ}
+use Rattle.token.specs.declared.Kind.{Kind}
 
 abbrev pub inline_html : ℕ
 inline_html = 1
@@ -63,3 +65,26 @@ literal_float = 20
 
 abbrev pub comment : ℕ
 comment = 21
+
+abbrev pub kind_number : Kind → ℕ
+kind_number Kind.InlineHtml = inline_html
+kind_number Kind.OpenTagFull = open_tag_full
+kind_number Kind.OpenTagEcho = open_tag_echo
+kind_number Kind.OpenTagShort = open_tag_short
+kind_number Kind.StringPart = string_part
+kind_number Kind.DollarLeftBrace = dollar_left_brace
+kind_number Kind.LeftBrace = left_brace
+kind_number Kind.DoubleQuote = double_quote
+kind_number Kind.Backtick = backtick
+kind_number Kind.Variable = variable
+kind_number Kind.EndDocStringNone = end_doc_string_none
+kind_number Kind.EndDocStringSpace = end_doc_string_space
+kind_number Kind.EndDocStringTab = end_doc_string_tab
+kind_number Kind.Identifier = identifier
+kind_number Kind.QuestionArrow = question_arrow
+kind_number Kind.Arrow = arrow
+kind_number Kind.LiteralSingleQuotedString = literal_single_quoted_string
+kind_number Kind.LiteralDoubleQuotedString = literal_double_quoted_string
+kind_number Kind.LiteralInteger = literal_integer
+kind_number Kind.LiteralFloat = literal_float
+kind_number Kind.Comment = comment

@@ -5,6 +5,7 @@
 ghost use Rattle.std.specs.Prelude.{◌≡◌, ◌+◌, ◌*◌, ◌≤◌, ◌<◌, length};
 ghost use Rattle.source.specs.Cursor.{origin};
 ghost use Rattle.byte.specs.Laid.{laid};
+ghost use Rattle.token.specs.Kinds.{kind_number};
 ghost use Rattle.token.specs.Records.{record_of, room_refusal};
 ghost use Rattle.token.specs.Files.{little_endian, number_at, file_of, list_of, records_refusal, to_file_refusal, to_list_refusal, ToFile, ToList};
 
@@ -13,52 +14,67 @@ use source::Span;
 use state::Answer;
 
 // The kinds of tokens (document 01, "Token list").
-pub const INLINE_HTML: u32 = 1;
+#[derive(Clone, Copy, PartialEq, Eq)]
+pub enum Kind {
+    InlineHtml,
+    OpenTagFull,
+    OpenTagEcho,
+    OpenTagShort,
+    StringPart,
+    DollarLeftBrace,
+    LeftBrace,
+    DoubleQuote,
+    Backtick,
+    Variable,
+    EndDocStringNone,
+    EndDocStringSpace,
+    EndDocStringTab,
+    Identifier,
+    QuestionArrow,
+    Arrow,
+    LiteralSingleQuotedString,
+    LiteralDoubleQuotedString,
+    LiteralInteger,
+    LiteralFloat,
+    // Of document 02, P2.
+    Comment,
+}
 
-pub const OPEN_TAG_FULL: u32 = 2;
+// The number by which a record names a kind.
+impl From<Kind> for u32 {
+    ghost from_gives = { λ kind number. number ≡ kind_number kind };
 
-pub const OPEN_TAG_ECHO: u32 = 3;
-
-pub const OPEN_TAG_SHORT: u32 = 4;
-
-pub const STRING_PART: u32 = 5;
-
-pub const DOLLAR_LEFT_BRACE: u32 = 6;
-
-pub const LEFT_BRACE: u32 = 7;
-
-pub const DOUBLE_QUOTE: u32 = 8;
-
-pub const BACKTICK: u32 = 9;
-
-pub const VARIABLE: u32 = 10;
-
-pub const END_DOC_STRING_NONE: u32 = 11;
-
-pub const END_DOC_STRING_SPACE: u32 = 12;
-
-pub const END_DOC_STRING_TAB: u32 = 13;
-
-pub const IDENTIFIER: u32 = 14;
-
-pub const QUESTION_ARROW: u32 = 15;
-
-pub const ARROW: u32 = 16;
-
-pub const LITERAL_SINGLE_QUOTED_STRING: u32 = 17;
-
-pub const LITERAL_DOUBLE_QUOTED_STRING: u32 = 18;
-
-pub const LITERAL_INTEGER: u32 = 19;
-
-pub const LITERAL_FLOAT: u32 = 20;
-
-// Of document 02, P2.
-pub const COMMENT: u32 = 21;
+    fn from(kind: Kind) -> u32 {
+        match kind {
+            Kind::InlineHtml => 1,
+            Kind::OpenTagFull => 2,
+            Kind::OpenTagEcho => 3,
+            Kind::OpenTagShort => 4,
+            Kind::StringPart => 5,
+            Kind::DollarLeftBrace => 6,
+            Kind::LeftBrace => 7,
+            Kind::DoubleQuote => 8,
+            Kind::Backtick => 9,
+            Kind::Variable => 10,
+            Kind::EndDocStringNone => 11,
+            Kind::EndDocStringSpace => 12,
+            Kind::EndDocStringTab => 13,
+            Kind::Identifier => 14,
+            Kind::QuestionArrow => 15,
+            Kind::Arrow => 16,
+            Kind::LiteralSingleQuotedString => 17,
+            Kind::LiteralDoubleQuotedString => 18,
+            Kind::LiteralInteger => 19,
+            Kind::LiteralFloat => 20,
+            Kind::Comment => 21,
+        }
+    }
+}
 
 // A token whose value stands in the pool: `len` bytes from `start` on. The step that wrote it ended at `end`.
 #[derive(Clone, Copy)]
 pub struct Token {
+    // The number of a `Kind`; in a list that a host lends it may be any number.
     pub kind: u32,
     // The indentation amount of an EndDocString, else 0.
     pub detail: u32,
@@ -135,12 +151,7 @@ fn number_at(file: &[u8], at: usize) -> u32
 
 // Of so many places, `unit` to a record, and room for so many records: 11 for too many, 10 for a broken one, or `full`.
 #[tactic(auto, unfolding(crate::specs::Files::records_refusal))]
-fn records_refusal(
-    size: usize,
-    unit: usize,
-    room: usize,
-    full: Refusal,
-) -> Result<(), Refusal>
+fn records_refusal(size: usize, unit: usize, room: usize, full: Refusal) -> Result<(), Refusal>
     requires { 0 < unit }
     ensures { result ≡ records_refusal size unit room full }
 {

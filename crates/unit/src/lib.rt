@@ -62,7 +62,8 @@ pub enum Stop {
     },
 }
 
-// What stands at a place of a text. `after` is the place after it.
+// What stands at a place of a text. `after` is the place after it. A table tells all five by name: a Result round three of
+// them would be taken apart at every place.
 #[derive(Clone, Copy)]
 pub enum TextUnit {
     // One byte of the value.

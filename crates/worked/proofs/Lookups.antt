@@ -13,7 +13,6 @@ use lib.Pow.{pow_pos}
 use borrow.Author.Tests.{lt-leb}
 use Rattle.byte.specs.Words.{every}
 use Rattle.std.specs.Prelude.{Ok, Some}
-use Rattle.lookup.specs.declared.Lookup.{Lookup}
 use Rattle.lookup.specs.Lookups.{record_before, look, search_in, searched, position_in, end_in, find_refusal, told}
 use Rattle.lookup.specs.Lookups.{looked_up}
 use Rattle.lookup.specs.FullWalks.{last_before}
@@ -96,11 +95,11 @@ long_holds = down 65537 (omega arith) ∙ ap (look 32768) (halving 15)
 -- so in every such list
 pub long_list : (list : List ℕ) → find_refusal (length list) 65537 ≡ Ok tt
     → every (λ i. eqb i (position_in list i)) long.trail ≡ true
-    → looked_up list 65537 0 ≡ Lookup.Told (Some 0) 17 (get_or list 7 0)
+    → looked_up list 65537 0 ≡ Ok (record { found = Some 0; looks = 17; end = get_or list 7 0 })
 unfolding long end_in
 long_list list passes agree =
     let same = searched_agrees own (position_in list) 0 0 65537 (rw long_holds agree) in
-    find_here list 65537 0 passes ∙ ap (told list) (sym same ∙ long_holds)
+    find_here list 65537 0 passes ∙ ap (λ (s : Search). Ok (told list s)) (sym same ∙ long_holds)
 
 pub falling : last_before (position_in (records_at (1 ∷ 9 ∷ 3 ∷ []))) 3 3 ≡ Some 2
 unfolding records_at last_before

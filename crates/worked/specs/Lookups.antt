@@ -9,7 +9,7 @@
 -- `lookups_hold` and `long_holds` (proofs/Lookups.antt) are the statements; `falling` says that the full walk finds
 -- another record than the last row.
 use Rattle.std.specs.Prelude.{ℕ, ◌+◌, List, [], ◌∷◌, ◌≡◌, length, Option, None, Some}
-use Rattle.lookup.specs.declared.Lookup.{Lookup}
+use Rattle.std.specs.Prelude.{Ok}
 use Rattle.lookup.specs.Lookups.{Search, position_in, searched, looked_up}
 
 pub record Case : Type 0 where
@@ -62,7 +62,7 @@ lookups =
 abbrev pub Looks : Case → Type 0
 Looks c =
     ((searched (position_in (records_at c.positions)) c.byte 0 c.count).trail ≡ c.trail)
-    × (looked_up (records_at c.positions) c.count c.byte ≡ Lookup.Told c.found (length c.trail) c.end)
+    × (looked_up (records_at c.positions) c.count c.byte ≡ Ok (record { found = c.found; looks = length c.trail; end = c.end }))
 
 abbrev pub AllLook : List Case → Type 0
 AllLook [] = Unit {0}

@@ -8,5 +8,5 @@ returns-then-found-ge4 c = search finds
 pub returns-else-found-ge4 : goal.returns-else-found-ge4
 returns-else-found-ge4 c = search finds
 
-pub returns-in-Refused : goal.returns-in-Refused
-returns-in-Refused c = search finds
+pub returns-in-Err : goal.returns-in-Err
+returns-in-Err c = search finds

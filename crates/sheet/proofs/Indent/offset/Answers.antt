@@ -1,16 +1,9 @@
--- Each goal is one law of `Counting`. Assumes nothing.
-use Rattle.std.proofs.Common.{rules}
-use Rattle.sheet.proofs.Steps.{counting}
+-- The blanks end where the first byte stands that is no such blank. Assumes nothing.
+use Rattle.std.proofs.Common.{rules, eqb}
+use Rattle.sheet.proofs.Steps.{offset_told}
 use Rattle.sheet.proofs.Indent.offset.Goals as goal
 
-pub returns-then-line-i : goal.returns-then-line-i
-returns-then-line-i c = search (counting, rules)
-
-pub returns-then-line-i-2 : goal.returns-then-line-i-2
-returns-then-line-i-2 c = search (counting, rules)
-
-pub loop-i-preserved : goal.loop-i-preserved
-loop-i-preserved c = search (counting, rules)
-
 pub returns : goal.returns
-returns c = search (counting, rules)
+returns c =
+    offset_told c.args.self c.args.line.now c.end_of.result
+    (rw c.min-most.ensures at (c.end_of.ensures (eqb c.args.self.blank) (λ b r e. search rules)))

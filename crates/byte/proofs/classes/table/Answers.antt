@@ -1,11 +1,10 @@
 -- `byte::classes::table` meets its contract: one test over all entries, which is computed. Assumes nothing.
-use mathlib.Core.Path.{refl}
+use Rattle.std.proofs.Common.{refl}
 use Rattle.byte.specs.Bytes.{is_digit, is_octal, is_hex, is_letter, is_start, is_blank, is_none_of}
 use Rattle.byte.specs.Classes.{is_sign, class_of}
 use Rattle.byte.proofs.Table.{table_ruled}
-use Rattle.byte.proofs.classes.table.Statement.{statement}
-use Rattle.byte.proofs.classes.table.Tie as tie
+use Rattle.byte.proofs.classes.table.Goals as goal
 
-pub table_spec : {M : Type 1} → statement M
+pub returns : goal.returns
 unfolding is_digit is_octal is_hex is_letter is_start is_blank is_none_of is_sign class_of
-table_spec = tie.close (tie.spec (λ c. table_ruled _ refl refl))
+returns c = table_ruled _ refl refl
