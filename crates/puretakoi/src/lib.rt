@@ -81,7 +81,7 @@ fn past(part: &[u8], span: &mut [u32]) -> Result<(), Refusal>
     Ok(())
 }
 
-// The cursor past all bytes of a part: line, column and position stand in three lent numbers. The answer is the refusal, or 0.
+// The same for a host: line, column and position stand in three lent numbers. The answer is the refusal, or 0.
 #[tactic(auto, using(crate::proofs::Places::past_told))]
 #[unsafe(no_mangle)]
 pub extern "C" fn puretakoi_past(part: &[u8], span: &mut [u32]) -> u32
