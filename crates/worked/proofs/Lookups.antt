@@ -13,8 +13,8 @@ use lib.Pow.{pow_pos}
 use borrow.Author.Tests.{lt-leb}
 use Rattle.byte.specs.Words.{every}
 use Rattle.std.specs.Prelude.{Ok, Some}
-use Rattle.lookup.specs.Lookups.{record_before, look, search_in, searched, position_in, end_in, find_refusal, told}
-use Rattle.lookup.specs.Lookups.{looked_up}
+use Rattle.lookup.specs.Lookups.{Search, record_before, look, search_in, searched, position_in, end_in, find_refusal, told}
+use Rattle.lookup.specs.Lookups.{Search, looked_up}
 use Rattle.lookup.specs.FullWalks.{last_before}
 use Rattle.lookup.proofs.Searches.{searched_on, searched_agrees}
 use Rattle.lookup.proofs.Promises.{find_here}
