@@ -163,6 +163,8 @@ fn line_start(part: &[u8]) -> usize
 }
 
 // The cursor past a part with LFs: they are counted, and only the last line's bytes make its column.
+// Never inlined, so that `past` is small and can be.
+#[inline(never)]
 #[tactic(auto, using(crate::proofs::Counts::passing_lines))]
 fn past_lines(part: &[u8], p: Span) -> Span
     requires reaches { Reaches p (length part.now) }
