@@ -1,4 +1,5 @@
 // The choices of a session as flags in one number, both ways.
+// Functions, no From and TryFrom: any number gives choices, and all these types are of crates below.
 ghost use Rattle.std.specs.Prelude.{◌≡◌};
 ghost use Rattle.layout.specs.Sessions.{choices_number, are_choices, choices_in};
 

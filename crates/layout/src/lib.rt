@@ -69,7 +69,7 @@ pub fn frame_at(numbers: &[u32], i: usize) -> Frame
     slot.frame
 }
 
-// The depth; 0, which no session has, where the choices are none.
+// The depth; 0, which no session has, where the choices are none: `session_in` is told of any numbers at all.
 #[tactic(auto, unfolding(crate::specs::Sessions::depth_in))]
 fn depth_in(depth: u32, choices: u32) -> u32
     ensures { result ≡ depth_in depth choices }

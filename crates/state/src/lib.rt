@@ -69,6 +69,7 @@ pub struct Session {
     // Records in the list, and bytes in the pool.
     pub tokens: u32,
     pub bytes: u32,
+    // An array with its depth beside it, no list: what stands above the depth stays, as a host's 64 slots do.
     pub frames: [Slot; 64],
     pub choices: Choices,
 }
@@ -170,6 +171,7 @@ fn are_frames<F: Fn(usize) -> Frame>(src: &[u8], depth: usize, frame: F) -> bool
     if !is_bottom(frame(0)) {
         return false;
     }
+    // No `all`: its closure over `frame` would want clauses of its own.
     for i in 0..depth {
         if !is_frame(src, frame(i)) {
             return false;
@@ -182,6 +184,7 @@ fn are_frames<F: Fn(usize) -> Frame>(src: &[u8], depth: usize, frame: F) -> bool
 pub fn is_within(size: usize, p: Span, depth: u32) -> bool
     ensures { result ≡ are_within size p depth }
 {
+    // `as`, since usize has no From of u32.
     let position = p.position as usize;
     let line = p.line as usize;
     let column = p.column as usize;
