@@ -1,7 +1,7 @@
 -- Laws of digits and of code points in UTF-8, on each way through the functions that read and write them. Assumes nothing.
 use Rattle.std.specs.Prelude.{Option, Some, None, SomeIff, MatchOption, min}
 use Rattle.std.specs.Char.{digit_value as char_digit}
-use Prim.Native.Nat.{ℕ, suc, ◌+◌, ◌-◌, ◌/◌, ◌%◌, ◌≤◌, ◌<◌}
+use Prim.Native.Nat.{ℕ, ◌+◌, ◌-◌, ◌/◌, ◌%◌, ◌≤◌, ◌<◌}
 use mathlib.Core.Path.{◌≡◌, refl}
 use mathlib.Core.Bool.{Bool, true, false}
 use lib.Dec.{ltb}

@@ -46,7 +46,7 @@ fn put(dst: &mut [u8], at: usize, bytes: &[u8])
     dst[at..at + bytes.len()].copy_from_slice(bytes);
 }
 
-// A code point in UTF-8, at a place of a part. No `char::encode_utf8`: its contract takes surrogates, which no char is.
+// A code point in UTF-8, at a place of a part. No `char::encode_utf8`: it would refuse surrogates.
 #[tactic(auto, using(crate::proofs::Digits::utf8_writes))]
 pub fn put_utf8(dst: &mut [u8], at: usize, code: u32)
     requires { (code < 1114112) × (at + length (utf8 code) ≤ length dst.old) }
@@ -73,6 +73,8 @@ pub fn put_utf8(dst: &mut [u8], at: usize, code: u32)
         &[(0xF0 + code / 262144) as u8, second, before, last],
     );
 }
+
+// `src`, `at`, `end` stay parameters: the public functions take them so, and three others alone would share a struct.
 
 // Nothing is left: this at the announced end, else undecided.
 fn last(end: bool, unit: TextUnit) -> TextUnit
@@ -133,11 +135,8 @@ fn overflowing(octals: Octal, value: u32, n: usize) -> TextUnit
 fn fitted(octals: Octal, value: u32, n: usize) -> TextUnit
     ensures { result ≡ fitted octals value n }
 {
-    if value < 256 {
-        return TextUnit::Byte {
-            value: value as u8,
-            after: n,
-        };
+    if let Ok(value) = u8::try_from(value) {
+        return TextUnit::Byte { value, after: n };
     }
     overflowing(octals, value, n)
 }

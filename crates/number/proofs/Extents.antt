@@ -19,7 +19,7 @@ use Rattle.number.specs.declared.Literal.{Literal}
 use Rattle.number.specs.Numbers.{Digits, Reading, base_of, is_exponent, is_sign, last}
 use Rattle.number.specs.Numbers.{digits, signed, closing, followed, power, exponent, fraction, digit_ahead}
 use Rattle.number.specs.Numbers.{power_ahead, decided, marked, tail, decimal, prefixed, number_in, number_at}
-use Rattle.number.specs.Code.{extent_at, place_of, extent_of, closing_extent}
+use Rattle.number.specs.Code.{place_of, extent_of, closing_extent}
 use Rattle.number.proofs.Values.{DigitsTaken, digits_taken, prefix}
 use Rattle.number.proofs.Runs.{place_same, place_clash, extent_of_closing, extent_of_onto}
 use Rattle.number.proofs.Runs.{followed_place, followed_undecided}

@@ -4,7 +4,7 @@
 --   leading_begins               a text begins with them
 --   leading_run, leading_whole   of digits that are there, and of those that nothing carries on
 --   digits_place                 the reader's digits end where they do
-use Rattle.std.specs.Prelude.{Option, Some, None}
+use Rattle.std.specs.Prelude.{Some}
 use Prim.Native.Nat.{ℕ, suc, ◌+◌, ◌≤◌}
 use mathlib.Core.Path.{◌≡◌, refl, sym, ap, ◌∙◌}
 use mathlib.Core.Bool.{Bool, true, false, ◌&&◌, ◌||◌, false≢true}

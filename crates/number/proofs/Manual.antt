@@ -6,7 +6,7 @@
 --   integer_read      decimal, hexadecimal, octal, binary
 --   float_read        DNUM, EXPONENT_DNUM
 --   differences       texts that the manual does not have as literals, and what is read of them
-use Rattle.std.specs.Prelude.{if◌then◌else◌, Option, Some, None}
+use Rattle.std.specs.Prelude.{if◌then◌else◌, Some}
 use Prim.Native.Nat.{ℕ, suc, ◌+◌, ◌-◌, ◌≤◌}
 use mathlib.Core.Path.{◌≡◌, refl, ap, ◌∙◌}
 use mathlib.Core.Bool.{Bool, true, false, not, ◌&&◌, ◌||◌, false≢true}
@@ -21,7 +21,6 @@ use Rattle.byte.specs.Bytes.{is_digit, is_octal, is_hex, is_letter, is_start, is
 use Rattle.byte.proofs.Tests.{&&-left, &&-right, &&-both, choice}
 use Rattle.number.specs.declared.Ahead.{Ahead}
 use Rattle.number.specs.declared.Base.{Base}
-use Rattle.number.specs.declared.Extent.{Extent}
 use Rattle.number.specs.declared.Literal.{Literal}
 use Rattle.number.specs.Numbers.{Digits, Reading, is_one, base_named, base_of, is_exponent, before, last, digits_more}
 use Rattle.number.specs.Numbers.{digits, closing, followed, exponent, tail, decimal, prefixed, number_in, number_at}

@@ -14,11 +14,10 @@ use lib.Seq.{drop-drop}
 use borrow.Author.Tests.{eq-eqb, ne_eqb, not-true, not-false}
 use Rattle.byte.proofs.Words.{drop-one}
 use Rattle.number.specs.declared.Base.{Base}
-use Rattle.number.specs.declared.Extent.{Extent}
 use Rattle.number.specs.declared.Literal.{Literal}
 use Rattle.number.specs.Numbers.{Digits, Reading, is_one, base_named, base_of, is_sign, before, last, digits_more}
 use Rattle.number.specs.Numbers.{digits, signed, onto, closing, followed}
-use Rattle.number.specs.Code.{extent_at, place_of, extent_of, closing_extent, digit_width, WidthAt, stopped}
+use Rattle.number.specs.Code.{place_of, extent_of, closing_extent, digit_width, WidthAt, stopped}
 use Rattle.number.proofs.Values.{either}
 
 -- a place and the next in the source

@@ -1,7 +1,7 @@
 -- With the end announced, what is read of every text, by its kind and its text: `number_text`. Assumes nothing.
 --   read_text     the text that is read: a prefix and its digits; or whole digits, and what is read after them
 --   number_text   it is what is read
-use Rattle.std.specs.Prelude.{if◌then◌else◌, Option, Some, None}
+use Rattle.std.specs.Prelude.{if◌then◌else◌, Some}
 use Prim.Native.Nat.{ℕ, suc, ◌+◌, ◌-◌, ◌≤◌}
 use mathlib.Core.Path.{◌≡◌, refl, ap, ◌∙◌}
 use mathlib.Core.Bool.{true, not, ◌&&◌, false≢true}
@@ -14,7 +14,6 @@ use Rattle.byte.specs.Bytes.{is_digit}
 use Rattle.byte.proofs.Tests.{choice}
 use Rattle.number.specs.declared.Ahead.{Ahead}
 use Rattle.number.specs.declared.Base.{Base}
-use Rattle.number.specs.declared.Extent.{Extent}
 use Rattle.number.specs.declared.Literal.{Literal}
 use Rattle.number.specs.Numbers.{Reading, is_one, base_of, is_exponent, is_sign, last, digits, signed, closing}
 use Rattle.number.specs.Numbers.{followed, power, exponent, fraction, digit_ahead, power_ahead, decided, marked}

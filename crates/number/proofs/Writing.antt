@@ -16,8 +16,6 @@ use Rattle.byte.specs.Laid.{laid}
 use Rattle.byte.proofs.Laid.{set_laid, Writing, writing_first, writing_on, writing_end}
 use Rattle.number.specs.declared.Base.{Base}
 use Rattle.number.specs.declared.Extent.{Extent}
-use Rattle.number.specs.declared.Literal.{Literal}
-use Rattle.number.specs.declared.Scanned.{Scanned}
 use Rattle.number.specs.Numbers.{Reading, base_of, number_at, scanned, lower_exponent, spelling, spelled, value_of}
 use Rattle.number.specs.Code.{extent_at, extent_of}
 use Rattle.number.proofs.Values.{either, spelled_append, length_spelled, number_at_inside, number_at_extent}

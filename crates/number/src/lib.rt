@@ -51,6 +51,15 @@ struct Extent {
     after: usize,
 }
 
+// A place of a part, and whether the part ends for good.
+#[derive(Clone, Copy)]
+struct Place<'a> {
+    src: &'a [u8],
+    at: usize,
+    end: bool,
+    ghost inside: { at ≤ length src.now },
+}
+
 // A digit of a base.
 #[tactic(auto, using(crate::proofs::Runs::is_one_arm), unfolding(crate::specs::Numbers::is_one))]
 fn is_one(base: Base, b: u8) -> bool
@@ -111,96 +120,6 @@ fn is_sign(b: u8) -> bool
     (b == b'+') | (b == b'-')
 }
 
-// Where digits end if the part ends here; None, as of each place and extent below: more must come.
-#[tactic(auto, using(crate::proofs::Runs::last_told))]
-fn last_place(at: usize, end: bool) -> Option<usize>
-    ensures { result ≡ place_of (last end at) }
-{
-    end.then_some(at)
-}
-
-// How many bytes the next digit takes, after another: 2 with a `_` before it.
-#[tactic(auto, using(crate::proofs::Runs::widths))]
-fn digit_width(src: &[u8], at: usize, base: Base) -> Option<usize>
-    requires { at ≤ length src.now }
-    ensures { WidthAt base src.now at result }
-{
-    if src.len() <= at {
-        return None;
-    }
-    if is_one(base, src[at]) {
-        return Some(1);
-    }
-    if src[at] != b'_' {
-        return None;
-    }
-    if src.len() - at < 2 {
-        return None;
-    }
-    is_one(base, src[at + 1]).then_some(2)
-}
-
-// Where digits end with no digit ahead: a `_` that the part ends with may still stand between two.
-#[tactic(auto, using(crate::proofs::Runs::stops))]
-fn digits_stop(src: &[u8], at: usize, end: bool) -> Option<usize>
-    requires { at ≤ length src.now }
-    ensures { result ≡ place_of (stopped end at (drop at src.now)) }
-{
-    if src.len() <= at {
-        return last_place(at, end);
-    }
-    if src[at] != b'_' {
-        return Some(at);
-    }
-    if src.len() - at < 2 {
-        return last_place(at, end);
-    }
-    Some(at)
-}
-
-// Where the digits after a digit end.
-#[tactic(auto, using(crate::proofs::Runs::passing))]
-fn digits_more_end(src: &[u8], at: usize, end: bool, base: Base) -> Option<usize>
-    requires { at ≤ length src.now }
-    ensures { result ≡ place_of (digits_more base end at (drop at src.now)) }
-{
-    let mut i = at;
-    while let Some(width) = digit_width(src, i, base) {
-        i += width;
-    }
-    digits_stop(src, i, end)
-}
-
-// Where digits end: at the place itself where there are none.
-#[tactic(auto, using(crate::proofs::Runs::digits_ends))]
-fn digits_end(src: &[u8], at: usize, end: bool, base: Base) -> Option<usize>
-    requires { at ≤ length src.now }
-    ensures { result ≡ place_of (digits base end at (drop at src.now)) }
-{
-    if src.len() <= at {
-        return last_place(at, end);
-    }
-    if !is_one(base, src[at]) {
-        return Some(at);
-    }
-    digits_more_end(src, at + 1, end, base)
-}
-
-// Where the exponent ends whose letter stands before the place.
-#[tactic(auto, using(crate::proofs::Runs::signed_ends))]
-fn signed_end(src: &[u8], at: usize, end: bool) -> Option<usize>
-    requires { at ≤ length src.now }
-    ensures { result ≡ place_of (signed end at (drop at src.now)) }
-{
-    if src.len() <= at {
-        return last_place(at, end);
-    }
-    if is_sign(src[at]) {
-        return digits_end(src, at + 1, end, Base::Decimal);
-    }
-    digits_end(src, at, end, Base::Decimal)
-}
-
 // Digits are all that is left of a number.
 #[tactic(auto, unfolding(crate::specs::Code::closing_extent))]
 fn closing_extent(literal: Literal, place: Option<usize>) -> Option<Extent>
@@ -210,132 +129,225 @@ fn closing_extent(literal: Literal, place: Option<usize>) -> Option<Extent>
     Some(Extent { literal, after })
 }
 
-// A float whose exponent's letter stands before the place.
-#[tactic(auto, using(crate::proofs::Extents::power_told))]
-fn power_extent(src: &[u8], at: usize, end: bool) -> Option<Extent>
-    requires { at ≤ length src.now }
-    ensures { result ≡ extent_of (power end at (drop at src.now)) }
-{
-    closing_extent(Literal::Float, signed_end(src, at, end))
-}
-
-// A float after its point's digits: an exponent is taken, bare or not.
-#[tactic(auto, using(crate::proofs::Extents::exponents))]
-fn exponent_extent(src: &[u8], at: usize, end: bool) -> Option<Extent>
-    requires { at ≤ length src.now }
-    ensures { result ≡ extent_of (exponent end at (drop at src.now)) }
-{
-    if src.len() <= at {
-        return closing_extent(Literal::Float, last_place(at, end));
-    }
-    if is_exponent(src[at]) {
-        return power_extent(src, at + 1, end);
-    }
-    closing_extent(Literal::Float, Some(at))
-}
-
-// A float after its point.
-#[tactic(auto, using(crate::proofs::Extents::fractions))]
-fn fraction_extent(src: &[u8], at: usize, end: bool) -> Option<Extent>
-    requires { at ≤ length src.now }
-    ensures { result ≡ extent_of (fraction end at (drop at src.now)) }
-{
-    let after = digits_end(src, at, end, Base::Decimal)?;
-    exponent_extent(src, after, end)
-}
-
-// Whether a digit follows.
-#[tactic(auto, using(crate::proofs::Extents::aheads), unfolding(crate::specs::Numbers::digit_ahead))]
-fn digit_ahead(src: &[u8], at: usize, end: bool) -> Ahead
-    requires { at ≤ length src.now }
-    ensures { result ≡ digit_ahead end (drop at src.now) }
-{
-    if src.len() <= at {
-        if end {
-            return Ahead::No;
+impl<'a> Place<'a> {
+    // Another place of the same part.
+    fn moved(&self, at: usize) -> Place<'a>
+        requires { at ≤ length self.now.src.now }
+        ensures { (result.src.now ≡ self.now.src.now) × (result.at ≡ at) × (result.end ≡ self.now.end) }
+    {
+        Place {
+            src: self.src,
+            at,
+            end: self.end,
         }
-        return Ahead::Undecided;
     }
-    if byte::is_digit(src[at]) {
-        return Ahead::Yes;
-    }
-    Ahead::No
-}
 
-// Whether a digit follows, or a sign and a digit.
-#[tactic(auto, using(crate::proofs::Extents::aheads))]
-fn power_ahead(src: &[u8], at: usize, end: bool) -> Ahead
-    requires { at ≤ length src.now }
-    ensures { result ≡ power_ahead end (drop at src.now) }
-{
-    if src.len() <= at {
-        return digit_ahead(src, at, end);
+    // Where digits end if the part ends here; None, as of each place and extent below: more must come.
+    #[tactic(auto, using(crate::proofs::Runs::last_told))]
+    fn last(&self) -> Option<usize>
+        ensures { result ≡ place_of (last self.now.end self.now.at) }
+    {
+        self.end.then_some(self.at)
     }
-    if is_sign(src[at]) {
-        return digit_ahead(src, at + 1, end);
-    }
-    digit_ahead(src, at, end)
-}
 
-// An `e` after whole digits: it makes a float only where digits follow.
-#[tactic(auto, using(crate::proofs::Extents::marks))]
-fn marked_extent(src: &[u8], at: usize, end: bool) -> Option<Extent>
-    requires { at < length src.now }
-    ensures { result ≡ extent_of (marked end at (drop (at + 1) src.now)) }
-{
-    match power_ahead(src, at + 1, end) {
-        Ahead::Yes => power_extent(src, at + 1, end),
-        Ahead::No => closing_extent(Literal::Integer, Some(at)),
-        Ahead::Undecided => None,
+    // How many bytes the next digit takes, after another: 2 with a `_` before it.
+    #[tactic(auto, using(crate::proofs::Runs::widths))]
+    fn digit_width(&self, base: Base) -> Option<usize>
+        ensures { WidthAt base self.now.src.now self.now.at result }
+    {
+        if self.src.len() <= self.at {
+            return None;
+        }
+        if is_one(base, self.src[self.at]) {
+            return Some(1);
+        }
+        if self.src[self.at] != b'_' {
+            return None;
+        }
+        if self.src.len() - self.at < 2 {
+            return None;
+        }
+        is_one(base, self.src[self.at + 1]).then_some(2)
     }
-}
 
-// A number after its whole digits.
-#[tactic(auto, using(crate::proofs::Extents::tails))]
-fn tail_extent(src: &[u8], at: usize, end: bool) -> Option<Extent>
-    requires { at ≤ length src.now }
-    ensures { result ≡ extent_of (tail end at (drop at src.now)) }
-{
-    if src.len() <= at {
-        return closing_extent(Literal::Integer, last_place(at, end));
+    // Where digits end with no digit ahead: a `_` that the part ends with may still stand between two.
+    #[tactic(auto, using(crate::proofs::Runs::stops))]
+    fn digits_stop(&self) -> Option<usize>
+        ensures { result ≡ place_of (stopped self.now.end self.now.at (drop self.now.at self.now.src.now)) }
+    {
+        if self.src.len() <= self.at {
+            return self.last();
+        }
+        if self.src[self.at] != b'_' {
+            return Some(self.at);
+        }
+        if self.src.len() - self.at < 2 {
+            return self.last();
+        }
+        Some(self.at)
     }
-    if src[at] == b'.' {
-        return fraction_extent(src, at + 1, end);
+
+    // Where the digits after a digit end.
+    #[tactic(auto, using(crate::proofs::Runs::passing))]
+    fn digits_more_end(&self, base: Base) -> Option<usize>
+        ensures { result ≡ place_of (digits_more base self.now.end self.now.at (drop self.now.at self.now.src.now)) }
+    {
+        let mut at = self.at;
+        // A digit is one byte or two: no range and no iterator goes by such steps.
+        while let Some(width) = self.moved(at).digit_width(base) {
+            at += width;
+        }
+        self.moved(at).digits_stop()
     }
-    if is_exponent(src[at]) {
-        return marked_extent(src, at, end);
+
+    // Where digits end: at the place itself where there are none. Inlined: a place then stays in registers.
+    #[inline(always)]
+    #[tactic(auto, using(crate::proofs::Runs::digits_ends))]
+    fn digits_end(&self, base: Base) -> Option<usize>
+        ensures { result ≡ place_of (digits base self.now.end self.now.at (drop self.now.at self.now.src.now)) }
+    {
+        if self.src.len() <= self.at {
+            return self.last();
+        }
+        if !is_one(base, self.src[self.at]) {
+            return Some(self.at);
+        }
+        self.moved(self.at + 1).digits_more_end(base)
     }
-    closing_extent(Literal::Integer, Some(at))
-}
 
-// A decimal number.
-#[tactic(auto, using(crate::proofs::Extents::decimals))]
-fn decimal_extent(src: &[u8], at: usize, end: bool) -> Option<Extent>
-    requires { at ≤ length src.now }
-    ensures { result ≡ extent_of (decimal end at (drop at src.now)) }
-{
-    let after = digits_end(src, at, end, Base::Decimal)?;
-    tail_extent(src, after, end)
-}
+    // Where the exponent ends whose letter stands before the place.
+    #[tactic(auto, using(crate::proofs::Runs::signed_ends))]
+    fn signed_end(&self) -> Option<usize>
+        ensures { result ≡ place_of (signed self.now.end self.now.at (drop self.now.at self.now.src.now)) }
+    {
+        if self.src.len() <= self.at {
+            return self.last();
+        }
+        if is_sign(self.src[self.at]) {
+            return self.moved(self.at + 1).digits_end(Base::Decimal);
+        }
+        self.digits_end(Base::Decimal)
+    }
 
-// A number whose base its first two bytes name.
-#[tactic(auto, using(crate::proofs::Extents::prefixed_told))]
-fn prefixed_extent(src: &[u8], at: usize, end: bool, base: Base) -> Option<Extent>
-    requires { at + 2 ≤ length src.now }
-    ensures { result ≡ extent_of (prefixed base end at (drop at src.now)) }
-{
-    closing_extent(Literal::Integer, digits_end(src, at + 2, end, base))
-}
+    // A float whose exponent's letter stands before the place.
+    #[tactic(auto, using(crate::proofs::Extents::power_told))]
+    fn power_extent(&self) -> Option<Extent>
+        ensures { result ≡ extent_of (power self.now.end self.now.at (drop self.now.at self.now.src.now)) }
+    {
+        closing_extent(Literal::Float, self.signed_end())
+    }
 
-// Where the number at a place ends, and its kind.
-#[tactic(auto, using(crate::proofs::Extents::numbers))]
-fn number_extent(src: &[u8], at: usize, end: bool) -> Option<Extent>
-    requires { at ≤ length src.now }
-    ensures { result ≡ extent_of (number_at end at (drop at src.now)) }
-{
-    match base_at(src, at) {
-        Base::Decimal => decimal_extent(src, at, end),
-        base => prefixed_extent(src, at, end, base),
+    // A float after its point's digits: an exponent is taken, bare or not.
+    #[tactic(auto, using(crate::proofs::Extents::exponents))]
+    fn exponent_extent(&self) -> Option<Extent>
+        ensures { result ≡ extent_of (exponent self.now.end self.now.at (drop self.now.at self.now.src.now)) }
+    {
+        if self.src.len() <= self.at {
+            return closing_extent(Literal::Float, self.last());
+        }
+        if is_exponent(self.src[self.at]) {
+            return self.moved(self.at + 1).power_extent();
+        }
+        closing_extent(Literal::Float, Some(self.at))
+    }
+
+    // A float after its point.
+    #[tactic(auto, using(crate::proofs::Extents::fractions))]
+    fn fraction_extent(&self) -> Option<Extent>
+        ensures { result ≡ extent_of (fraction self.now.end self.now.at (drop self.now.at self.now.src.now)) }
+    {
+        let after = self.digits_end(Base::Decimal)?;
+        self.moved(after).exponent_extent()
+    }
+
+    // Whether a digit follows.
+    #[tactic(auto, using(crate::proofs::Extents::aheads), unfolding(crate::specs::Numbers::digit_ahead))]
+    fn digit_ahead(&self) -> Ahead
+        ensures { result ≡ digit_ahead self.now.end (drop self.now.at self.now.src.now) }
+    {
+        if self.src.len() <= self.at {
+            if self.end {
+                return Ahead::No;
+            }
+            return Ahead::Undecided;
+        }
+        if byte::is_digit(self.src[self.at]) {
+            return Ahead::Yes;
+        }
+        Ahead::No
+    }
+
+    // Whether a digit follows, or a sign and a digit.
+    #[tactic(auto, using(crate::proofs::Extents::aheads))]
+    fn power_ahead(&self) -> Ahead
+        ensures { result ≡ power_ahead self.now.end (drop self.now.at self.now.src.now) }
+    {
+        if self.src.len() <= self.at {
+            return self.digit_ahead();
+        }
+        if is_sign(self.src[self.at]) {
+            return self.moved(self.at + 1).digit_ahead();
+        }
+        self.digit_ahead()
+    }
+
+    // An `e` after whole digits: it makes a float only where digits follow.
+    #[tactic(auto, using(crate::proofs::Extents::marks))]
+    fn marked_extent(&self) -> Option<Extent>
+        requires { self.now.at < length self.now.src.now }
+        ensures { result ≡ extent_of (marked self.now.end self.now.at (drop (self.now.at + 1) self.now.src.now)) }
+    {
+        match self.moved(self.at + 1).power_ahead() {
+            Ahead::Yes => self.moved(self.at + 1).power_extent(),
+            Ahead::No => closing_extent(Literal::Integer, Some(self.at)),
+            Ahead::Undecided => None,
+        }
+    }
+
+    // A number after its whole digits.
+    #[tactic(auto, using(crate::proofs::Extents::tails))]
+    fn tail_extent(&self) -> Option<Extent>
+        ensures { result ≡ extent_of (tail self.now.end self.now.at (drop self.now.at self.now.src.now)) }
+    {
+        if self.src.len() <= self.at {
+            return closing_extent(Literal::Integer, self.last());
+        }
+        if self.src[self.at] == b'.' {
+            return self.moved(self.at + 1).fraction_extent();
+        }
+        if is_exponent(self.src[self.at]) {
+            return self.marked_extent();
+        }
+        closing_extent(Literal::Integer, Some(self.at))
+    }
+
+    // A decimal number.
+    #[tactic(auto, using(crate::proofs::Extents::decimals))]
+    fn decimal_extent(&self) -> Option<Extent>
+        ensures { result ≡ extent_of (decimal self.now.end self.now.at (drop self.now.at self.now.src.now)) }
+    {
+        let after = self.digits_end(Base::Decimal)?;
+        self.moved(after).tail_extent()
+    }
+
+    // A number whose base its first two bytes name.
+    #[tactic(auto, using(crate::proofs::Extents::prefixed_told))]
+    fn prefixed_extent(&self, base: Base) -> Option<Extent>
+        requires { self.now.at + 2 ≤ length self.now.src.now }
+        ensures { result ≡ extent_of (prefixed base self.now.end self.now.at (drop self.now.at self.now.src.now)) }
+    {
+        closing_extent(Literal::Integer, self.moved(self.at + 2).digits_end(base))
+    }
+
+    // Where the number at a place ends, and its kind.
+    #[tactic(auto, using(crate::proofs::Extents::numbers))]
+    fn number_extent(&self) -> Option<Extent>
+        ensures { result ≡ extent_of (number_at self.now.end self.now.at (drop self.now.at self.now.src.now)) }
+    {
+        match base_at(self.src, self.at) {
+            Base::Decimal => self.decimal_extent(),
+            base => self.prefixed_extent(base),
+        }
     }
 }
 
@@ -355,7 +367,7 @@ pub fn scan_number(src: &[u8], at: usize, end: bool) -> Option<Scanned>
     requires { at ≤ length src.now }
     ensures { result ≡ scanned (number_at end at (drop at src.now)) }
 {
-    let Extent { literal, after } = number_extent(src, at, end)?;
+    let Extent { literal, after } = Place { src, at, end }.number_extent()?;
     let len = value_length(src, at, after);
     Some(Scanned {
         literal,

@@ -38,6 +38,7 @@ pub fn write_spelled(part: &[u8], base: Base, dst: &mut [u8])
     requires { length (spelled base part.now) ≤ length dst.old }
     ensures { dst.new ≡ laid dst.old 0 (spelled base part.now) }
 {
+    // The bytes that are kept so far: not the loop's index.
     let mut len = 0;
     for b in part {
         if *b != b'_' {
