@@ -16,7 +16,7 @@ use Rattle.text.specs.declared.Scanned.{Scanned}
 use Rattle.text.specs.Code as text
 use Rattle.text.proofs.Writes.{value_gathered}
 use Rattle.number.specs.Numbers as number
-use Rattle.sheet.specs.Bodies.{Indent}
+use Rattle.sheet.specs.declared.Indent.{Indent}
 use Rattle.sheet.specs.Code.{sheet_of, Left}
 use Rattle.sheet.proofs.Parts.{drop-take}
 use Rattle.plan.specs.declared.Making.{Making}

@@ -6,14 +6,15 @@ use mathlib.Core.Bool.{Bool, true, false, not}
 use mathlib.Core.List.{List, [], ◌∷◌}
 use native.Mathlib.Omega.{arith}
 use lib.Dec.{eqb}
-use lib.ListN.{length, get_or, take, drop, length-drop, drop_of_length-le}
+use lib.ListN.{length, get_or, take, drop, length-drop}
 use lib.Seq.{drop-drop}
-use borrow.Author.Tests.{eq-eqb, ne_eqb, le-leb, lt-leb}
-use Rattle.std.specs.List.{prefix_len, fold}
-use Rattle.byte.specs.Words.{◌is◌, run}
-use Rattle.byte.specs.Bytes.{is_blank, is_identifier, is_no_break}
-use Rattle.source.specs.Code.{RunEnd}
+use lib.ListN.{drop_of_length-le}
 use Rattle.byte.proofs.Words.{drop-one}
+use borrow.Author.Tests.{eq-eqb, ne_eqb, le-leb, lt-leb}
+use Rattle.std.specs.List.{fold}
+use Rattle.byte.specs.Words.{◌is◌, run}
+use Rattle.byte.specs.Bytes.{is_blank, is_no_break}
+use Rattle.source.specs.Code.{RunEnd}
 use Rattle.unit.specs.declared.Indentation.{Indentation}
 use Rattle.unit.specs.declared.Match.{Match}
 use Rattle.unit.specs.Closers.{matched, indented}
@@ -47,27 +48,6 @@ module _ (src : List ℕ) (at n : ℕ) (h : at < length src) (r : RunEnd is_no_b
   line_end_end k = record { place = omega (arith, r.place, r.inside, size); inside = r.inside; on = omega arith }
 
 pub ruleset line_ends = (line_end_break, line_end_end)
-
--- after the label: an identifier byte, another byte, or the end of the part
-module _ (line : List ℕ) (at : ℕ) (end : Bool) where
-  pub behind_end : length line ≤ at → end ≡ true → Match.Whole ≡ closing_label [] end (drop at line)
-  unfolding closing_label
-  behind_end h t = rw (drop_of_length-le line h, t)
-
-  pub behind_more : length line ≤ at → end ≡ false → Match.Undecided ≡ closing_label [] end (drop at line)
-  unfolding closing_label
-  behind_more h t = rw (drop_of_length-le line h, t)
-
-  module _ (h : at < length line) (flag : Bool) (f : flag ≡ is_identifier (get_or line at 0)) where
-    pub behind_identifier : flag ≡ true → Match.Other ≡ closing_label [] end (drop at line)
-    unfolding closing_label
-    behind_identifier t = rw (drop-one line at h, ← f, t)
-
-    pub behind_other : flag ≡ false → Match.Whole ≡ closing_label [] end (drop at line)
-    unfolding closing_label
-    behind_other t = rw (drop-one line at h, ← f, t)
-
-pub ruleset behinds = (behind_end, behind_more, behind_identifier, behind_other)
 
 -- the label, another byte, or the end of the part
 module _ (label line : List ℕ) (at : ℕ) (end : Bool) (m : Match) (e : m ≡ matched label (drop at line)) where
@@ -148,17 +128,42 @@ module _ (label line : List ℕ) (end : Bool) (n : ℕ) (r : RunEnd is_blank lin
 
 pub ruleset kinds = (kind_closes, kind_other, kind_end, kind_more)
 
--- what comes off a line, as the code counts it
-pub run_prefix : (test : ℕ → Bool) (width : ℕ) (xs : List ℕ) → prefix_len test (take width xs) ≡ min width (run test xs)
-unfolding run
-run_prefix test zero xs = omega arith
-run_prefix test (suc width) [] = omega arith
-run_prefix test (suc width) (b ∷ rest) = go (test b) (run_prefix test width rest)
-  where
-    go : (t : Bool) → prefix_len test (take width rest) ≡ min width (run test rest)
-        → (if t then 1 + prefix_len test (take width rest) else 0) ≡ min (suc width) (if t then suc (run test rest) else 0)
-    go true e = omega arith
-    go false e = omega arith
+-- i bytes of indentation come off
+pub record Counting (ind : Indent) (line : List ℕ) (i : ℕ) : Type 0 where
+  pub inside : i ≤ length line
+  pub within : i ≤ ind.width
+  pub same : run (eqb ind.blank) line ≡ i + run (eqb ind.blank) (drop i line)
+
+module _ (ind : Indent) (line : List ℕ) where
+  pub counting_first : Counting ind line 0
+  counting_first = record { inside = omega arith; within = omega arith; same = omega arith }
+
+  module _ (i : ℕ) (p : Counting ind line i) where
+    pub counting_full : ind.width ≤ i → i ≡ offset_of ind line
+    unfolding offset_of
+    counting_full h = omega (arith, p.within, p.same)
+
+    pub counting_end : i < ind.width → length line ≤ i → i ≡ offset_of ind line
+    unfolding offset_of run
+    counting_end w h =
+        let e : run (eqb ind.blank) line ≡ i = p.same ∙ rw (drop_of_length-le line h) (omega arith) in
+        omega arith
+
+    module _ (w : i < ind.width) (h : i < length line) where
+      pub counting_stop : (get_or line i 0 ≡ ind.blank → ⊥) → i ≡ offset_of ind line
+      unfolding offset_of run
+      counting_stop n =
+          let t : eqb ind.blank (get_or line i 0) ≡ false = ne_eqb ind.blank (get_or line i 0) (λ (z : ind.blank ≡ get_or line i 0). n (sym z)) in
+          let e : run (eqb ind.blank) line ≡ i = p.same ∙ rw (drop-one line i h, t) (omega arith) in
+          omega arith
+
+      pub counting_on : get_or line i 0 ≡ ind.blank → Counting ind line (i + 1)
+      unfolding run
+      counting_on e =
+          let t : eqb ind.blank (get_or line i 0) ≡ true = eq-eqb ind.blank (get_or line i 0) (sym e) in
+          record { inside = omega arith; within = omega arith; same = p.same ∙ rw (drop-one line i h, t) (omega arith) }
+
+pub ruleset counting = (counting_first, counting_full, counting_end, counting_stop, counting_on)
 
 -- whether the byte after what comes off a line is stray
 pub offset-length : (ind : Indent) (line : List ℕ) → offset_of ind line ≤ length line

@@ -66,7 +66,7 @@ pub fn find_closer(src: &[u8], label: &[u8], at: usize, end: bool) -> Found
     ensures { result ≡ found (block label.now end at (lines (drop at src.now))) }
 {
     let mut i = at;
-    // A turn passes a line, whose end is looked for by blocks of bytes, so no iterator counts the places.
+    // A turn passes a line: `line_end` finds its end by blocks of bytes, where `split_inclusive` tests each.
     while i < src.len() {
         let next = line_end(src, i);
         match line_kind(&src[i..next], label, end) {

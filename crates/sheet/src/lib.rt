@@ -3,8 +3,7 @@
 // In order: the closing line (closing); what is left of a line and of the body; the scan, which writes nothing; the writer.
 #![tactic(auto)]
 
-ghost use Rattle.std.specs.Prelude.{◌≡◌, ◌==◌, false, ◌+◌, ◌≤◌, length, take, drop};
-ghost use Rattle.std.specs.List.{take_while};
+ghost use Rattle.std.specs.Prelude.{◌≡◌, false, ◌+◌, ◌≤◌, length, drop};
 ghost use Rattle.byte.specs.Laid.{laid};
 ghost use Rattle.text.specs.Code.{measured};
 ghost use Rattle.sheet.specs.Bodies.{lines, is_over, body_text};
@@ -54,27 +53,28 @@ fn is_over(rest: &[u8]) -> bool
 
 // What comes off each line: so many of one blank.
 #[derive(Clone, Copy)]
-struct Indent {
-    blank: u8,
-    width: usize,
+pub struct Indent {
+    pub blank: u8,
+    pub width: usize,
 }
 
 impl Indent {
-    // How many of its blanks a line begins with, as many as come off at most.
-    fn blanks(self, line: &[u8]) -> usize
-        ensures { result ≡ length (take_while (λ b. self.blank == b) (take self.width line.now)) }
-    {
-        line.iter()
-            .take(self.width)
-            .take_while(|b| self.blank == **b)
-            .count()
-    }
-
-    // How many bytes of indentation come off a line.
+    // How many bytes of indentation come off a line. By `take`, `take_while` and `count` a sheet took 17.9 instructions
+    // a byte, and the bar is 16.8.
     fn offset(self, line: &[u8]) -> usize
         ensures { result ≡ offset_of self line.now }
     {
-        self.blanks(line)
+        let mut i = 0;
+        while i < self.width {
+            if line.len() <= i {
+                return i;
+            }
+            if line[i] != self.blank {
+                return i;
+            }
+            i += 1;
+        }
+        i
     }
 
     // The byte after a line's indentation, of which `off` bytes come off, is stray.
@@ -96,7 +96,7 @@ impl Indent {
         }
         let mut i = at;
         let mut len = 0;
-        // A turn passes a line, whose end is looked for by blocks of bytes, so no iterator counts the places.
+        // A turn passes a line: `line_end` finds its end by blocks of bytes, where `split_inclusive` tests each.
         while i < body.len() {
             let next = closing::line_end(body, i);
             let off = self.offset(&body[i..next]);

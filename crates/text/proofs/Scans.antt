@@ -7,7 +7,7 @@ use mathlib.Core.List.{List, [], ◌∷◌, ◌++◌}
 use native.Mathlib.Omega.{arith}
 use lib.Dec.{ltb, eqb}
 use lib.ListN.{length, get_or, take, drop, length-append, length-drop, drop_of_length-le}
-use lib.Seq.{take-suc, length-take-le, get_or-drop, drop-drop}
+use lib.Seq.{length-take-le, drop-drop}
 use borrow.Author.Tests.{ne_eqb, ltb-false}
 use Rattle.byte.specs.Words.{◌is◌}
 use Rattle.source.specs.Code.{RunEnd}
@@ -45,24 +45,19 @@ unfolding last_break
 last_break_append broken [] ys = refl
 last_break_append broken (b ∷ xs) ys = last_break_append (b is "\n") xs ys
 
--- of a part of a source: `broken` where there is none of it, else by the byte before its end
-module _ (src : List ℕ) (i n : ℕ) (broken : Bool) where
-  pub last_break_none : n ≡ i → broken ≡ last_break broken (take (n - i) (drop i src))
-  unfolding last_break
-  last_break_none e =
-      let z : n - i ≡ 0 = omega arith in
-      rw z
+-- by the last byte, where there is one
+pub last_break_none : (broken : Bool) (xs : List ℕ) → length xs < 1 → broken ≡ last_break broken xs
+unfolding last_break
+last_break_none broken [] h = refl
+last_break_none broken (b ∷ rest) h = absurd (omega arith)
 
-  pub last_break_some : (i ≤ n) × (n ≤ length src) → (n ≡ i → ⊥) → eqb (get_or src (n - 1) 0) 10 ≡ last_break broken (take (n - i) (drop i src))
-  unfolding last_break
-  last_break_some h some =
-      let k = n - i - 1 in
-      let on : n - i ≡ suc k = omega (arith, h.0, positive (n - i) (λ z. some (omega (arith, h.0)))) in
-      let p : i + k ≡ n - 1 = omega arith in
-      let q : k < length (drop i src) = omega (arith, length-drop i src, h.1) in
-      sym (rw (on, take-suc (drop i src) k 0 q, get_or-drop i src k 0, p) (last_break_append broken (take k (drop i src)) (get_or src (n - 1) 0 ∷ [])))
-
-pub ruleset last_breaks = (last_break_none, last_break_some)
+pub last_break_end : (broken : Bool) (xs : List ℕ) → 1 ≤ length xs → eqb (get_or xs (length xs - 1) 0) 10 ≡ last_break broken xs
+unfolding last_break
+last_break_end broken [] h = absurd (omega arith)
+last_break_end broken (b ∷ []) h = refl
+last_break_end broken (b ∷ c ∷ rest) h =
+    let k : suc (suc (length rest)) - 1 ≡ suc (suc (length rest) - 1) = omega arith in
+    rw k (last_break_end (b is "\n") (c ∷ rest) (omega arith))
 
 trimmed_length : (text : List ℕ) → length (trimmed text) ≡ (if last_break false text then length text - 1 else length text)
 unfolding trimmed last_break

@@ -113,16 +113,14 @@ fn unclosed(end: bool, place: usize) -> Scanned
     Scanned::Wait
 }
 
-// Whether the byte before n is a break; where no bytes were passed from i on, `broken` tells it.
-#[tactic(auto, using(crate::proofs::Scans::last_breaks))]
-fn last_break(src: &[u8], i: usize, n: usize, broken: bool) -> bool
-    requires { (i ≤ n) × (n ≤ length src.now) }
-    ensures { result ≡ last_break broken (take (n - i) (drop i src.now)) }
+// Whether the last byte of a run is a break; of an empty run `broken` tells it.
+fn last_break(run: &[u8], broken: bool) -> bool
+    ensures { result ≡ last_break broken run.now }
 {
-    if n == i {
-        return broken;
+    match run {
+        [] => broken,
+        [.., last] => *last == b'\n',
     }
-    src[n - 1] == b'\n'
 }
 
 // Some bytes at a place of a part, as far as it goes.
@@ -186,7 +184,7 @@ pub fn read_text(m: Mode, src: &[u8], label: &[u8], at: usize, end: bool, dst: &
         let u = units::unit_at(m, src, label, n, end);
         len += n - i;
         let Some(piece) = piece_of(u) else {
-            return ended_as(m, len, last_break(src, i, n, broken), u);
+            return ended_as(m, len, last_break(&src[i..n], broken), u);
         };
         put_unit(dst, len, u);
         len += piece.width;

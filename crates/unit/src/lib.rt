@@ -34,6 +34,7 @@ pub enum Indentation {
 }
 
 // A label against the text: it stands there, it does not, or the part ends before that is told.
+// Three answers by name, of which an Option<bool> would say less.
 #[derive(Clone, Copy)]
 pub enum Match {
     Whole,

@@ -1,14 +1,16 @@
--- The blanks are the run's first bytes. Assumes nothing.
-use Rattle.std.proofs.Common.{◌∙◌, eqb, take}
-use Rattle.std.proofs.lemmas.List.Folds.{length-prefix_len}
-use Rattle.sheet.specs.Code.{offset_of}
-use Rattle.sheet.proofs.Steps.{run_prefix}
+-- Each goal is one law of `Counting`. Assumes nothing.
+use Rattle.std.proofs.Common.{rules}
+use Rattle.sheet.proofs.Steps.{counting}
 use Rattle.sheet.proofs.Indent.offset.Goals as goal
 
+pub returns-then-line-i : goal.returns-then-line-i
+returns-then-line-i c = search (counting, rules)
+
+pub returns-then-line-i-2 : goal.returns-then-line-i-2
+returns-then-line-i-2 c = search (counting, rules)
+
+pub loop-i-preserved : goal.loop-i-preserved
+loop-i-preserved c = search (counting, rules)
+
 pub returns : goal.returns
-unfolding offset_of
-returns c =
-    let line = c.args.line.now in
-    c.blanks.ensures
-    ∙ length-prefix_len (eqb c.args.self.blank) (take c.args.self.width line)
-    ∙ run_prefix (eqb c.args.self.blank) c.args.self.width line
+returns c = search (counting, rules)
