@@ -5,7 +5,7 @@ use mathlib.Core.Path.{◌≡◌, refl, sym, ap, ◌∙◌}
 use mathlib.Core.Bool.{Bool, true, false, not, ◌&&◌, ◌||◌}
 use mathlib.Core.List.{List, [], ◌∷◌}
 use native.Mathlib.Omega.{arith}
-use native.Mathlib.Nat.{add-zero}
+use native.Mathlib.Nat.{add-zero, le_refl}
 use lib.Dec.{eqb}
 use lib.ListN.{length, get_or, drop, drop_of_length-le}
 use lib.Seq.{drop-drop}
@@ -124,37 +124,51 @@ module _ (kind : CommentKind) (end : Bool) (src : List ℕ) (at k : ℕ) where
         same = s.same ∙ comment_end_run kind end (i - at) (drop i src) ∙ rw (size, drop-drop (n - i) i src, place, count);
       }
 
-  pub searching_first : at + k ≤ length src → (n : ℕ) → RunEnd (is_inner kind) src (at + k) n → Searching kind end src at k n
+  pub searching_first : at + k ≤ length src → Searching kind end src at k (at + k)
   searching_first h =
       let z : at + k - at ≡ k = omega arith in
-      ran (at + k) (record { order = omega arith; inside = h; same = rw z })
+      record { order = omega arith; inside = h; same = rw z }
 
-  module _ (n : ℕ) (s : Searching kind end src at k n) where
-    pub searching_over : length src ≤ n → end ≡ true → CommentEnd.Over ≡ comment_end kind end k (drop (at + k) src)
-    unfolding comment_end
-    searching_over h e = sym (s.same ∙ rw (drop_of_length-le src h, e))
+  module _ (i : ℕ) (s : Searching kind end src at k i) where
+    module _ (p : RunEnd (is_inner kind) src i (length src)) where
+      past : drop (length src) src ≡ []
+      past = drop_of_length-le src (le_refl (length src))
 
-    pub searching_cut : length src ≤ n → end ≡ false → CommentEnd.Undecided ≡ comment_end kind end k (drop (at + k) src)
-    unfolding comment_end
-    searching_cut h e = sym (s.same ∙ rw (drop_of_length-le src h, e))
-
-    pub searching_order : at ≤ n
-    searching_order = omega (arith, s.order)
-
-    module _ (h : n < length src) (flag : Bool) (f : flag ≡ ends kind (get_or src n 0) (drop (n + 1) src)) where
-      pub searching_found : flag ≡ true → CommentEnd.At (n - at) ≡ comment_end kind end k (drop (at + k) src)
+      pub searching_over : end ≡ true → CommentEnd.Over ≡ comment_end kind end k (drop (at + k) src)
       unfolding comment_end
-      searching_found t = sym (s.same ∙ rw (drop-one src n h, ← f, t))
+      searching_over e = sym ((ran i s (length src) p).same ∙ rw (past, e))
 
-      pub searching_on : flag ≡ false → (m : ℕ) → RunEnd (is_inner kind) src (n + 1) m → Searching kind end src at k m
+      pub searching_cut : end ≡ false → CommentEnd.Undecided ≡ comment_end kind end k (drop (at + k) src)
       unfolding comment_end
-      searching_on t =
-          let count : suc (n - at) ≡ n + 1 - at = omega (arith, s.order) in
-          ran (n + 1)
-          (record {
-            order = omega (arith, s.order);
-            inside = omega arith;
-            same = s.same ∙ rw (drop-one src n h, ← f, t, count);
-          })
+      searching_cut e = sym ((ran i s (length src) p).same ∙ rw (past, e))
 
-pub ruleset searching = (searching_first, searching_over, searching_cut, searching_order, searching_found, searching_on)
+    module _ (n : ℕ) (p : RunEnd (is_inner kind) src i n) where
+      there : Searching kind end src at k n
+      there = ran i s n p
+
+      pub searching_order : at ≤ n
+      searching_order = omega (arith, there.order)
+
+      pub searching_less : i ≤ n
+      searching_less = omega (arith, p.place)
+
+      module _ (h : n < length src) (flag : Bool) (f : flag ≡ ends kind (get_or src n 0) (drop (n + 1) src)) where
+        pub searching_found : flag ≡ true → CommentEnd.At (n - at) ≡ comment_end kind end k (drop (at + k) src)
+        unfolding comment_end
+        searching_found t = sym (there.same ∙ rw (drop-one src n h, ← f, t))
+
+        pub searching_on : flag ≡ false → Searching kind end src at k (n + 1)
+        unfolding comment_end
+        searching_on t =
+            let count : suc (n - at) ≡ n + 1 - at = omega (arith, there.order) in
+            record {
+              order = omega (arith, there.order);
+              inside = omega arith;
+              same = there.same ∙ rw (drop-one src n h, ← f, t, count);
+            }
+
+pub ruleset searching = (searching_first, searching_over, searching_cut, searching_order, searching_less, searching_found, searching_on)
+
+-- where no byte may begin an end, the run goes up to the text's end
+pub mark_none : (test : ℕ → Bool) (src : List ℕ) (at n : ℕ) → RunEnd test src at n → length src ≤ n → RunEnd test src at (length src)
+mark_none test src at n p h = let e : length src ≡ n = omega (arith, p.inside) in rw e p

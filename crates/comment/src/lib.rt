@@ -2,7 +2,7 @@
 // Of the Rust: the rows of `scripting` that read comments. Here the LF is not taken, `/*/` is open, and an open `/*` is refused.
 #![tactic(auto)]
 
-ghost use Rattle.std.specs.Prelude.{◌≡◌, ◌+◌, ◌≤◌, ◌<◌, length, get_or, drop};
+ghost use Rattle.std.specs.Prelude.{◌≡◌, ◌+◌, ◌≤◌, ◌<◌, length, get_or, drop, MatchOption};
 ghost use Rattle.source.specs.Code.{RunEnd};
 ghost use Rattle.outcome.specs.Comments.{is_next, ends, end_taken, comment_end, endless, comment_at, slash, hash};
 ghost use Rattle.plan.specs.Code.{Plans};
@@ -53,19 +53,32 @@ fn inner_end(kind: CommentKind, src: &[u8], at: usize) -> usize
     }
 }
 
+// The first byte from `at` on that may begin an end.
+#[tactic(auto, using(crate::proofs::Ends::mark_none))]
+fn next_mark(kind: CommentKind, src: &[u8], at: usize) -> Option<usize>
+    requires { at ≤ length src.now }
+    ensures { MatchOption result (RunEnd (is_inner kind) src.now at (length src.now)) (λ n. RunEnd (is_inner kind) src.now at n × (n < length src.now)) }
+{
+    let n = inner_end(kind, src, at);
+    if n < src.len() {
+        return Some(n);
+    }
+    None
+}
+
 // How many bytes of the comment at a place come before its end, `k` of them passed.
 #[tactic(auto, using(crate::proofs::Ends::searching))]
 fn comment_end(kind: CommentKind, src: &[u8], at: usize, k: usize, end: bool) -> CommentEnd
     requires { (at + k ≤ length src.now) × (length src.now ≤ 65536) }
     ensures { result ≡ comment_end kind end k (drop (at + k) src.now) }
 {
-    let mut n = inner_end(kind, src, at + k);
+    let mut from = at + k;
     // A loop by hand: an iterator over the bytes would ask each of them, and the search for an end passes blocks.
-    while n < src.len() {
+    while let Some(n) = next_mark(kind, src, from) {
         if ends_at(kind, src, n) {
             return CommentEnd::At(n - at);
         }
-        n = inner_end(kind, src, n + 1);
+        from = n + 1;
     }
     if end {
         return CommentEnd::Over;
