@@ -35,7 +35,7 @@ pub struct Next {
     pub change: Change,
 }
 
-// What a step is written from: the source and whether its end is announced, the scratch part, and the place where the step ends.
+// What a step is written from: the source, whether its end is announced, the scratch part, and where the step ends.
 #[derive(Clone, Copy)]
 struct Step<'a> {
     src: &'a [u8],

@@ -13,7 +13,7 @@ use source::Span;
 // What a look-up comes to.
 #[derive(Clone, Copy)]
 pub enum Lookup {
-    // The number of the record that was found, if any, how many were looked at, and where the step ended that wrote it: 0 for none.
+    // The record found, how many were looked at, and where the step ended that wrote it: 0 for none.
     Told {
         found: Option<u32>,
         looks: u32,

@@ -16,9 +16,6 @@ use Rattle.probe.specs.declared.Probed.{Probed}
 use Rattle.probe.specs.Probes.{refusal}
 use Rattle.probe.specs.Literals.{literal_number, counted, asked_number, read_refusal, read_written, number_refusal, number_written, NumberValued}
 
-pub literal_arm : (literal arm : Literal) (r : ℕ) → literal ≡ arm → r ≡ literal_number arm → r ≡ literal_number literal
-literal_arm literal arm r e h = rw e h
-
 module _ (s : Option Scanned) where
   pub counted_number : (n : Scanned) (kind : ℕ) → s ≡ Some n → kind ≡ literal_number n.literal
       → record { number = 0; stop = kind; place = 0; detail = 0; from = n.after; after = n.after; len = n.len } ≡ counted s

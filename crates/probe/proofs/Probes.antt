@@ -7,12 +7,10 @@ use native.Mathlib.Omega.{arith}
 use lib.Dec.{leb}
 use lib.ListN.{length, take, drop, drop_of_length-le}
 use lib.Seq.{length-take-le}
-use borrow.Author.Tests.{le-leb, lt-leb, leb-true, ne_eqb}
+use borrow.Author.Tests.{le-leb, lt-leb, leb-true}
 use Rattle.byte.specs.Words.{announced}
 use Rattle.byte.specs.Laid.{laid}
 use Rattle.byte.proofs.Tests.{choice}
-use Rattle.unit.specs.declared.Follow.{Follow}
-use Rattle.unit.specs.declared.Indentation.{Indentation}
 use Rattle.unit.specs.declared.Mode.{Mode}
 use Rattle.unit.specs.declared.Stop.{Stop}
 use Rattle.unit.specs.Readings.{Reading, Text, Refused, Wait, text_at}
@@ -20,45 +18,10 @@ use Rattle.text.specs.declared.Scanned.{Scanned}
 use Rattle.text.specs.Code.{measured, value_of, gathered, Reads, Scans}
 use Rattle.text.proofs.Writes.{value_gathered}
 use Rattle.probe.specs.declared.Probed.{Probed}
-use Rattle.probe.specs.Probes.{mode_of, asked, stop_number, amount_of, numbered, value_refusal, written, Valued}
-
--- an arm of a match on a number, a follow, an indentation, a stop or a scan
-pub mode_arm : (n key : ℕ) (r : Mode) → n ≡ key → r ≡ mode_of key → r ≡ mode_of n
-mode_arm n key r e h = rw e h
-
-pub mode_rest : (n : ℕ) → (n ≡ 0 → ⊥) → (n ≡ 1 → ⊥) → (n ≡ 2 → ⊥) → (n ≡ 3 → ⊥) → (n ≡ 4 → ⊥) → (n ≡ 6 → ⊥)
-    → (n ≡ 7 → ⊥)
-    → (n ≡ 8 → ⊥) → Mode.Nowdoc ≡ mode_of n
-unfolding mode_of
-mode_rest n a b c d e f g h =
-    rw (ne_eqb n 0 a, ne_eqb n 1 b, ne_eqb n 2 c, ne_eqb n 3 d, ne_eqb n 4 e, ne_eqb n 6 f, ne_eqb n 7 g, ne_eqb n 8 h)
-
-pub ruleset modes = (mode_arm, mode_rest)
-
-pub follow_arm : (f arm : Follow) (r : ℕ) → f ≡ arm → r ≡ stop_number (Stop.Variable arm) → r ≡ stop_number (Stop.Variable f)
-follow_arm f arm r e h = rw e h
-
-pub label_arm : (ind arm : Indentation) (amount r : ℕ) → ind ≡ arm → r ≡ stop_number (Stop.Label arm amount) → r ≡ stop_number (Stop.Label ind amount)
-label_arm ind arm amount r e h = rw e h
-
-pub stop_arm : (stop arm : Stop) (r : ℕ) → stop ≡ arm → r ≡ stop_number arm → r ≡ stop_number stop
-stop_arm stop arm r e h = rw e h
-
-pub amount_arm : (stop arm : Stop) (r : ℕ) → stop ≡ arm → r ≡ amount_of arm → r ≡ amount_of stop
-amount_arm stop arm r e h = rw e h
-
-module _ (s : Scanned) where
-  pub numbered_arm : (arm : Scanned) (r : Probed) → s ≡ arm → r ≡ numbered arm → r ≡ numbered s
-  numbered_arm arm r e h = rw e h
-
-  pub numbered_text : (len : ℕ) (stop : Stop) (from after kind amount : ℕ) → s ≡ Scanned.Text len stop from after → kind ≡ stop_number stop → amount ≡ amount_of stop → record { number = 0; stop = kind; place = 0; detail = amount; from = from; after = after; len = len } ≡ numbered s
-  unfolding numbered
-  numbered_text len stop from after kind amount e f g = rw (e, f, g)
+use Rattle.probe.specs.Probes.{mode_of, asked, numbered, value_refusal, written, Valued}
 
 pub numbered_same : (s t : Scanned) (r : Probed) → s ≡ t → r ≡ numbered s → r ≡ numbered t
 numbered_same s t r e h = h ∙ rw e
-
-pub ruleset numbers = (numbered_text, numbered_arm)
 
 -- what can't be taken, and what can
 module _ (mode : ℕ) (src label : List ℕ) (at end : ℕ) (r : Scanned) where

@@ -7,44 +7,27 @@ ghost use Rattle.std.specs.Prelude.{length, ◌≤◌, IfOk};
 
 use byte::Octal;
 use outcome::Call;
+use shown::Refusal;
 use source::Span;
 use state::{Answer, Choices, Reading};
 use std::io;
 use std::io::{Read, Write};
 
-// The row of the token at a place of the list.
-fn print_row<W: Write>(out: &mut W, list: &[u32], place: u32) -> io::Result<()> {
-    let at = place as usize * 8;
-    if list.len() < at + 8 {
-        return Ok(());
-    }
-    let kind = list[at];
-    let detail = list[at + 1];
-    let line = list[at + 2];
-    let column = list[at + 3];
-    let position = list[at + 4];
-    let len = list[at + 6];
-    let end = list[at + 7];
-    writeln!(
-        out,
-        "{kind} {line} {column} {position} {detail} {len} {end}"
-    )
-}
-
 // The rows of the first `count` tokens.
 fn print_rows<W: Write>(out: &mut W, list: &[u32], count: u32) -> io::Result<()> {
-    for place in 0..count {
-        print_row(out, list, place)?;
+    for record in list.chunks_exact(8).take(count as usize) {
+        if let Some(row) = shown::row_of(record) {
+            let end = row.end;
+            writeln!(out, "{row} {end}")?;
+        }
     }
     Ok(())
 }
 
 // A refusal's number and its span.
 fn print_refusal<W: Write>(out: &mut W, number: u32, span: Span) -> io::Result<()> {
-    let line = span.line;
-    let column = span.column;
-    let position = span.position;
-    writeln!(out, "refused {number} {line} {column} {position}")
+    let refusal = Refusal { number, span };
+    writeln!(out, "{refusal}")
 }
 
 // Whether a refusal says that a table is full.
@@ -89,6 +72,7 @@ fn read_full<R: Read>(input: &mut R, buffer: &mut [u8]) -> io::Result<usize>
     ensures { IfOk result (λ n. n ≤ length buffer.new) }
 {
     let mut done = 0;
+    // Nothing is counted by ones here: each read gives as many bytes as it likes.
     while done < buffer.len() {
         let n = input.read(&mut buffer[done..])?;
         if n == 0 {

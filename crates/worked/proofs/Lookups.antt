@@ -12,7 +12,7 @@ use lib.ListN.{length, get_or}
 use lib.Pow.{pow_pos}
 use borrow.Author.Tests.{lt-leb}
 use Rattle.byte.specs.Words.{every}
-use Rattle.lookup.specs.declared.Found.{Found}
+use Rattle.std.specs.Prelude.{Option, None, Some}
 use Rattle.lookup.specs.declared.Lookup.{Lookup}
 use Rattle.lookup.specs.Lookups.{record_before, look, search_in, searched, position_in, end_in, find_refusal, told}
 use Rattle.lookup.specs.Lookups.{looked_up}
@@ -82,7 +82,7 @@ halves (suc k) = 2 ^ k ∷ halves k
 down : (high : ℕ) → 1 < high → searched own 0 0 high ≡ look ((0 + high) / 2) (searched own 0 0 ((0 + high) / 2))
 down high h = searched_on own 0 0 high (omega arith) ∙ rw (lt-leb ((0 + high) / 2) 0 (omega arith))
 
-halving : (k : ℕ) → searched own 0 0 (2 ^ k) ≡ record { trail = halves k; found = Found.Record 0 }
+halving : (k : ℕ) → searched own 0 0 (2 ^ k) ≡ record { trail = halves k; found = Some 0 }
 unfolding halves search_in record_before
 halving zero = refl
 halving (suc k) =
@@ -96,12 +96,12 @@ long_holds = down 65537 (omega arith) ∙ ap (look 32768) (halving 15)
 -- so in every such list
 pub long_list : (list : List ℕ) → find_refusal (length list) 65537 ≡ 0
     → every (λ i. eqb i (position_in list i)) long.trail ≡ true
-    → looked_up list 65537 0 ≡ Lookup.Told (Found.Record 0) 17 (get_or list 7 0)
+    → looked_up list 65537 0 ≡ Lookup.Told (Some 0) 17 (get_or list 7 0)
 unfolding long end_in
 long_list list passes agree =
     let same = searched_agrees own (position_in list) 0 0 65537 (rw long_holds agree) in
     find_here list 65537 0 passes ∙ ap (told list) (sym same ∙ long_holds)
 
-pub falling : last_before (position_in (records_at (1 ∷ 9 ∷ 3 ∷ []))) 3 3 ≡ Found.Record 2
+pub falling : last_before (position_in (records_at (1 ∷ 9 ∷ 3 ∷ []))) 3 3 ≡ Some 2
 unfolding records_at last_before
 falling = refl

@@ -8,8 +8,7 @@
 --   Looks        what a row says
 -- `lookups_hold` and `long_holds` (proofs/Lookups.antt) are the statements; `falling` says that the full walk finds
 -- another record than the last row.
-use Rattle.std.specs.Prelude.{ℕ, ◌+◌, List, [], ◌∷◌, ◌≡◌, length}
-use Rattle.lookup.specs.declared.Found.{Found}
+use Rattle.std.specs.Prelude.{ℕ, ◌+◌, List, [], ◌∷◌, ◌≡◌, length, Option, None, Some}
 use Rattle.lookup.specs.declared.Lookup.{Lookup}
 use Rattle.lookup.specs.Lookups.{Search, position_in, searched, looked_up}
 
@@ -18,22 +17,16 @@ pub record Case : Type 0 where
   pub count : ℕ
   pub byte : ℕ
   pub trail : List ℕ
-  pub found : Found
+  pub found : Option ℕ
   pub end : ℕ
 
 unfoldable pub records_at : List ℕ → List ℕ
 records_at [] = []
 records_at (p ∷ more) = 7 ∷ 7 ∷ 7 ∷ 7 ∷ p ∷ 7 ∷ 7 ∷ (p + 2) ∷ records_at more
 
-abbrev case : List ℕ → ℕ → ℕ → List ℕ → Found → ℕ → Case
+abbrev case : List ℕ → ℕ → ℕ → List ℕ → Option ℕ → ℕ → Case
 case positions count byte trail found end =
     record { positions = positions; count = count; byte = byte; trail = trail; found = found; end = end }
-
-abbrev none : Found
-none = Found.Nothing
-
-abbrev some : ℕ → Found
-some number = Found.Record number
 
 abbrev three : List ℕ
 three = 4 ∷ 9 ∷ 12 ∷ []
@@ -45,25 +38,25 @@ alike = 0 ∷ 6 ∷ 6 ∷ 6 ∷ 20 ∷ []
 unfoldable pub lookups : List Case
 lookups =
     -- no records, or none that count: no look
-    case [] 0 5 [] none 0
-    ∷ case three 0 5 [] none 0
+    case [] 0 5 [] None 0
+    ∷ case three 0 5 [] None 0
     -- before the first, at it, between, at the last, past all
-    ∷ case three 3 3 (1 ∷ 0 ∷ []) none 0
-    ∷ case three 3 4 (1 ∷ 0 ∷ []) (some 0) 6
-    ∷ case three 3 8 (1 ∷ 0 ∷ []) (some 0) 6
-    ∷ case three 3 9 (1 ∷ 2 ∷ []) (some 1) 11
-    ∷ case three 3 11 (1 ∷ 2 ∷ []) (some 1) 11
-    ∷ case three 3 12 (1 ∷ 2 ∷ []) (some 2) 14
-    ∷ case three 3 4294967295 (1 ∷ 2 ∷ []) (some 2) 14
+    ∷ case three 3 3 (1 ∷ 0 ∷ []) None 0
+    ∷ case three 3 4 (1 ∷ 0 ∷ []) (Some 0) 6
+    ∷ case three 3 8 (1 ∷ 0 ∷ []) (Some 0) 6
+    ∷ case three 3 9 (1 ∷ 2 ∷ []) (Some 1) 11
+    ∷ case three 3 11 (1 ∷ 2 ∷ []) (Some 1) 11
+    ∷ case three 3 12 (1 ∷ 2 ∷ []) (Some 2) 14
+    ∷ case three 3 4294967295 (1 ∷ 2 ∷ []) (Some 2) 14
     -- of the first two alone
-    ∷ case three 2 12 (1 ∷ []) (some 1) 11
+    ∷ case three 2 12 (1 ∷ []) (Some 1) 11
     -- equal positions, as a text and the end of its block have: the last
-    ∷ case (0 ∷ 0 ∷ []) 2 0 (1 ∷ []) (some 1) 2
-    ∷ case alike 5 6 (2 ∷ 4 ∷ 3 ∷ []) (some 3) 8
-    ∷ case alike 5 5 (2 ∷ 1 ∷ 0 ∷ []) (some 0) 2
+    ∷ case (0 ∷ 0 ∷ []) 2 0 (1 ∷ []) (Some 1) 2
+    ∷ case alike 5 6 (2 ∷ 4 ∷ 3 ∷ []) (Some 3) 8
+    ∷ case alike 5 5 (2 ∷ 1 ∷ 0 ∷ []) (Some 0) 2
     -- lists that fall: what the search comes to
-    ∷ case (5 ∷ 1 ∷ 9 ∷ []) 3 3 (1 ∷ 2 ∷ []) (some 1) 3
-    ∷ case (1 ∷ 9 ∷ 3 ∷ []) 3 3 (1 ∷ 0 ∷ []) (some 0) 3
+    ∷ case (5 ∷ 1 ∷ 9 ∷ []) 3 3 (1 ∷ 2 ∷ []) (Some 1) 3
+    ∷ case (1 ∷ 9 ∷ 3 ∷ []) 3 3 (1 ∷ 0 ∷ []) (Some 0) 3
     ∷ []
 
 abbrev pub Looks : Case → Type 0
@@ -79,5 +72,5 @@ unfoldable pub long : Search
 long = record {
   trail =
       32768 ∷ 16384 ∷ 8192 ∷ 4096 ∷ 2048 ∷ 1024 ∷ 512 ∷ 256 ∷ 128 ∷ 64 ∷ 32 ∷ 16 ∷ 8 ∷ 4 ∷ 2 ∷ 1 ∷ 0 ∷ [];
-  found = Found.Record 0;
+  found = Some 0;
 }

@@ -8,7 +8,7 @@
 
 use byte::Octal;
 use outcome::Call;
-use source::Span;
+use shown::Refusal;
 use state::{Answer, Choices, Frame, Label, Reading, Session, Slot, Turn};
 use std::io;
 use std::io::Write;
@@ -24,50 +24,23 @@ fn print_bytes<W: Write>(out: &mut W, value: &[u8]) -> io::Result<()> {
 // A value in brackets: `len` bytes of the pool from `start` on.
 fn print_value<W: Write>(out: &mut W, pool: &[u8], start: u32, len: u32) -> io::Result<()> {
     let start = start as usize;
-    let len = len as usize;
-    if pool.len() < start {
+    let Some(value) = pool.get(start..start + len as usize) else {
         return Ok(());
-    }
-    if pool.len() - start < len {
-        return Ok(());
-    }
-    let to = start + len;
+    };
     write!(out, " (")?;
-    print_bytes(out, &pool[start..to])?;
+    print_bytes(out, value)?;
     write!(out, ");")
 }
 
-// The token at a place of the list.
-fn print_token<W: Write>(out: &mut W, list: &[u32], place: u32, pool: &[u8]) -> io::Result<()> {
-    let at = place as usize * 8;
-    if list.len() < at + 8 {
-        return Ok(());
-    }
-    let kind = list[at];
-    let detail = list[at + 1];
-    let line = list[at + 2];
-    let column = list[at + 3];
-    let position = list[at + 4];
-    let start = list[at + 5];
-    let len = list[at + 6];
-    write!(out, " {kind} {line} {column} {position} {detail} {len}")?;
-    print_value(out, pool, start, len)
-}
-
-// The first `count` tokens of the list.
+// The first `count` tokens of the list, each with its value.
 fn print_tokens<W: Write>(out: &mut W, list: &[u32], count: u32, pool: &[u8]) -> io::Result<()> {
-    for place in 0..count {
-        print_token(out, list, place, pool)?;
+    for record in list.chunks_exact(8).take(count as usize) {
+        if let Some(row) = shown::row_of(record) {
+            write!(out, " {row}")?;
+            print_value(out, pool, row.start, row.len)?;
+        }
     }
     Ok(())
-}
-
-// A refusal's number and its span.
-fn print_refusal<W: Write>(out: &mut W, number: u32, span: Span) -> io::Result<()> {
-    let line = span.line;
-    let column = span.column;
-    let position = span.position;
-    write!(out, " refused {number} {line} {column} {position}")
 }
 
 // The answer, and the position after it where the call was done.
@@ -75,7 +48,10 @@ fn print_answer<W: Write>(out: &mut W, answer: Answer, position: u32) -> io::Res
     match answer {
         Answer::Done => write!(out, " end {position}"),
         Answer::Finished => write!(out, " finished {position}"),
-        Answer::Refused { number, span } => print_refusal(out, number, span),
+        Answer::Refused { number, span } => {
+            let refusal = Refusal { number, span };
+            write!(out, " {refusal}")
+        }
     }
 }
 
@@ -248,7 +224,7 @@ fn mark_of(answer: Answer) -> u8 {
     match answer {
         Answer::Done => b'c',
         Answer::Finished => b'?',
-        Answer::Refused { number, span } => {
+        Answer::Refused { number, .. } => {
             if number == byte::WAIT {
                 return b'w';
             }
