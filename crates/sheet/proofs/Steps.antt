@@ -1,7 +1,7 @@
 -- The code of a line on each way through: where it ends, what it is to the block, what comes off it, its break. Assumes nothing.
 use Rattle.std.specs.Prelude.{if◌then◌else◌}
 use Prim.Native.Nat.{ℕ, zero, suc, ◌+◌, ◌-◌, ◌<◌, ◌≤◌, min}
-use mathlib.Core.Path.{◌≡◌, refl, sym, ◌∙◌}
+use mathlib.Core.Path.{◌≡◌, refl, sym, ap, ◌∙◌}
 use mathlib.Core.Bool.{Bool, true, false, not}
 use mathlib.Core.List.{List, [], ◌∷◌}
 use native.Mathlib.Omega.{arith}
@@ -9,10 +9,18 @@ use lib.Dec.{eqb}
 use lib.ListN.{length, get_or, take, drop, length-drop}
 use lib.Seq.{drop-drop}
 use borrow.Author.Tests.{eq-eqb, ne_eqb, le-leb, lt-leb}
-use Rattle.std.specs.List.{fold}
+use Rattle.std.specs.List.{fold, position, position_or_len}
+use Rattle.std.specs.Simd.{first_chunks}
+use Rattle.std.specs.Cmp.Lexicographic.{pointwise, same_text}
+use Rattle.std.proofs.Common.{cond, nat_eq, ◌*◌, ◌/◌, Option, unwrap_or}
+use Rattle.std.specs.Bool.{◌==◌}
 use Rattle.byte.specs.Words.{◌is◌, run}
+use Rattle.byte.proofs.Words.{drop-one}
 use Rattle.byte.specs.Bytes.{is_blank, is_no_break}
-use Rattle.source.specs.Code.{RunEnd}
+use Rattle.source.specs.Code.{RunEnd, Passing}
+use Rattle.source.proofs.Runs.{passing_first, passing_run}
+use Rattle.source.proofs.Blocks.{passing_part}
+use Rattle.source.proofs.Places.{place_or_end}
 use Rattle.unit.specs.declared.Indentation.{Indentation}
 use Rattle.unit.specs.declared.Match.{Match}
 use Rattle.unit.specs.Closers.{matched, indented}
@@ -64,6 +72,14 @@ module _ (label line : List ℕ) (at : ℕ) (end : Bool) (m : Match) (e : m ≡ 
   pub label_undecided : m ≡ Match.Undecided → Match.Undecided ≡ closing_label label end (drop at line)
   unfolding bounded
   label_undecided w = rw (closing_label_bounded label end (drop at line), ← e, w)
+
+-- the first byte is another than the label's
+pub label_first : (label line : List ℕ) (at : ℕ) (end : Bool) → at < length line → false ≡ (length label == 0)
+    → (get_or line at 0 ≡ get_or label 0 0 → ⊥) → Match.Other ≡ closing_label label end (drop at line)
+unfolding closing_label
+label_first [] line at end h k n = cc
+label_first (a ∷ label) line at end h k n =
+    rw (drop-one line at h, ne_eqb a (get_or line at 0) (λ e. n (sym e)))
 
 pub ruleset labels = (label_inside, label_whole, label_other, label_undecided)
 
@@ -138,12 +154,56 @@ run_first test (suc n) (b ∷ rest) = go (test b) (run_first test n rest)
     go true e = omega (arith, e)
     go false e = omega arith
 
+-- four blanks are a run, before what follows
+four_run : (c : ℕ) (xs : List ℕ) → take 4 xs ≡ c ∷ c ∷ c ∷ c ∷ [] → run (eqb c) xs ≡ 4 + run (eqb c) (drop 4 xs)
+unfolding run
+four_run c [] e = cc
+four_run c (x ∷ []) e = cc
+four_run c (x ∷ y ∷ []) e = cc
+four_run c (x ∷ y ∷ z ∷ []) e = cc
+four_run c (x ∷ y ∷ z ∷ w ∷ xs) e =
+    let at₀ : eqb c x ≡ true = eq-eqb c x (sym (ap (λ (l : List ℕ). get_or l 0 0) e)) in
+    let at₁ : eqb c y ≡ true = eq-eqb c y (sym (ap (λ (l : List ℕ). get_or l 1 0) e)) in
+    let at₂ : eqb c z ≡ true = eq-eqb c z (sym (ap (λ (l : List ℕ). get_or l 2 0) e)) in
+    let at₃ : eqb c w ≡ true = eq-eqb c w (sym (ap (λ (l : List ℕ). get_or l 3 0) e)) in
+    rw (at₀, at₁, at₂, at₃) (omega arith)
+
+-- another group than four blanks
+abbrev pub is_other : ℕ → List ℕ → Bool
+is_other c group = not (pointwise nat_eq group (c ∷ c ∷ c ∷ c ∷ []))
+
+-- groups of four blanks each are as many blanks
+groups_run : (c k : ℕ) (xs : List ℕ) → position_or_len (is_other c) (first_chunks 4 k xs) * 4 ≤ run (eqb c) xs
+groups_run c zero xs = omega arith
+groups_run c (suc k) xs = go (pointwise nat_eq (take 4 xs) (c ∷ c ∷ c ∷ c ∷ [])) refl (groups_run c k (drop 4 xs))
+  where
+    go : (t : Bool) → t ≡ pointwise nat_eq (take 4 xs) (c ∷ c ∷ c ∷ c ∷ [])
+        → position_or_len (is_other c) (first_chunks 4 k (drop 4 xs)) * 4 ≤ run (eqb c) (drop 4 xs)
+        → cond (not (not t)) (1 + position_or_len (is_other c) (first_chunks 4 k (drop 4 xs))) 0 * 4 ≤ run (eqb c) xs
+    go true e h = omega (arith, h, four_run c xs (same_text (take 4 xs) (c ∷ c ∷ c ∷ c ∷ []) e))
+    go false e h = omega arith
+
 -- where the blanks end of as much of a line as may come off
 pub offset_told : (ind : Indent) (line : List ℕ) (r : ℕ)
     → RunEnd (eqb ind.blank) (take (min ind.width (length line)) line) 0 r → r ≡ offset_of ind line
 unfolding offset_of
 offset_told ind line r e =
     omega (arith, e.place, run_first (eqb ind.blank) (min ind.width (length line)) line, run_length (eqb ind.blank) line)
+
+-- so they do where groups of four are passed first
+pub offset_grouped : (ind : Indent) (line part : List ℕ) (groups : List (List ℕ)) (found : Option ℕ) (whole r : ℕ)
+    → part ≡ take (min ind.width (length line)) line → groups ≡ first_chunks 4 (length part / 4) part
+    → found ≡ position (is_other ind.blank) groups → whole ≡ unwrap_or found (length groups)
+    → RunEnd (eqb ind.blank) part (whole * 4) r → r ≡ offset_of ind line
+offset_grouped ind line part groups found whole r w g f u e =
+    let many : whole ≡ position_or_len (is_other ind.blank) (first_chunks 4 (length part / 4) part) =
+    u ∙ place_or_end (is_other ind.blank) groups found f ∙ ap (λ (gs : List (List ℕ)). position_or_len (is_other ind.blank) gs) g in
+    let few : whole * 4 ≤ run (eqb ind.blank) part = omega (arith, many, groups_run ind.blank (length part / 4) part) in
+    let start : 0 + whole * 4 ≡ whole * 4 = omega arith in
+    let on : Passing (eqb ind.blank) part 0 (whole * 4) =
+    rw start at (passing_part (eqb ind.blank) part 0 0 (passing_first (eqb ind.blank) part 0 (omega arith)) (whole * 4)
+    (omega (arith, few, run_length (eqb ind.blank) part)) few) in
+    offset_told ind line r (rw w at (passing_run (eqb ind.blank) part 0 (whole * 4) r on e))
 
 -- whether the byte after what comes off a line is stray
 pub offset-length : (ind : Indent) (line : List ℕ) → offset_of ind line ≤ length line

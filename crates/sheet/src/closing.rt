@@ -36,6 +36,10 @@ fn closing_label(line: &[u8], at: usize, label: &[u8], end: bool) -> Match
     requires { (at ≤ length line.now) × (length line.now ≤ 65536) × (length label.now ≤ 64) }
     ensures { result ≡ closing_label label.now end (drop at line.now) }
 {
+    // The first byte tells most lines, and spares them the call.
+    if at < line.len() && !label.is_empty() && line[at] != label[0] {
+        return Match::Other;
+    }
     match closer::match_at(line, at, label) {
         Match::Whole => behind_label(&line[at + label.len()..], end),
         Match::Other => Match::Other,

@@ -64,8 +64,12 @@ impl Indent {
     fn offset(self, line: &[u8]) -> usize
         ensures { result ≡ offset_of self line.now }
     {
+        let four = [self.blank; 4];
         let most = self.width.min(line.len());
-        source::end_of(&line[..most], 0, |b| self.blank == b)
+        let (groups, _) = line[..most].as_chunks::<4>();
+        let passed = groups.iter().position(|group| *group != four);
+        let whole = passed.unwrap_or(groups.len()) * 4;
+        source::end_of(&line[..most], whole, |b| self.blank == b)
     }
 
     // The byte after a line's indentation, of which `off` bytes come off, is stray.
