@@ -104,7 +104,6 @@ module _ (list : List ℕ) (count byte : ℕ) (passes : find_refusal (length lis
 
 -- ---- the refusals
 
-
 pub find_which : (list count : ℕ) (refusal : Refusal) → find_refusal list count ≡ Err refusal
     → is_among refusal (too_large ∷ bad_session ∷ []) ≡ true
 unfolding find_refusal
