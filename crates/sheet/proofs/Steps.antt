@@ -154,19 +154,28 @@ run_first test (suc n) (b ∷ rest) = go (test b) (run_first test n rest)
     go true e = omega (arith, e)
     go false e = omega arith
 
--- four blanks are a run, before what follows
-four_run : (c : ℕ) (xs : List ℕ) → take 4 xs ≡ c ∷ c ∷ c ∷ c ∷ [] → run (eqb c) xs ≡ 4 + run (eqb c) (drop 4 xs)
+-- four bytes that pass are a run, before what follows
+four_run : (test : ℕ → Bool) (c : ℕ) (xs : List ℕ) → test c ≡ true → take 4 xs ≡ c ∷ c ∷ c ∷ c ∷ [] → run test xs ≡ 4 + run test (drop 4 xs)
 unfolding run
-four_run c [] e = cc
-four_run c (x ∷ []) e = cc
-four_run c (x ∷ y ∷ []) e = cc
-four_run c (x ∷ y ∷ z ∷ []) e = cc
-four_run c (x ∷ y ∷ z ∷ w ∷ xs) e =
-    let at₀ : eqb c x ≡ true = eq-eqb c x (sym (ap (λ (l : List ℕ). get_or l 0 0) e)) in
-    let at₁ : eqb c y ≡ true = eq-eqb c y (sym (ap (λ (l : List ℕ). get_or l 1 0) e)) in
-    let at₂ : eqb c z ≡ true = eq-eqb c z (sym (ap (λ (l : List ℕ). get_or l 2 0) e)) in
-    let at₃ : eqb c w ≡ true = eq-eqb c w (sym (ap (λ (l : List ℕ). get_or l 3 0) e)) in
+four_run test c [] h e = cc
+four_run test c (x ∷ []) h e = cc
+four_run test c (x ∷ y ∷ []) h e = cc
+four_run test c (x ∷ y ∷ z ∷ []) h e = cc
+four_run test c (x ∷ y ∷ z ∷ w ∷ xs) h e =
+    let at₀ : test x ≡ true = ap (λ (l : List ℕ). test (get_or l 0 0)) e ∙ h in
+    let at₁ : test y ≡ true = ap (λ (l : List ℕ). test (get_or l 1 0)) e ∙ h in
+    let at₂ : test z ≡ true = ap (λ (l : List ℕ). test (get_or l 2 0)) e ∙ h in
+    let at₃ : test w ≡ true = ap (λ (l : List ℕ). test (get_or l 3 0)) e ∙ h in
     rw (at₀, at₁, at₂, at₃) (omega arith)
+
+-- blanks go on past four spaces
+pub blanks_past : (line : List ℕ) (r : ℕ) → 4 ≤ length line → take 4 line ≡ 32 ∷ 32 ∷ 32 ∷ 32 ∷ [] → RunEnd is_blank line 4 r
+    → RunEnd is_blank line 0 r
+unfolding is_blank
+blanks_past line r h e f =
+    passing_run is_blank line 0 4 r
+    (passing_part is_blank line 0 0 (passing_first is_blank line 0 (omega arith)) 4 (omega (arith, h))
+    (omega (arith, four_run is_blank 32 line refl e))) f
 
 -- another group than four blanks
 abbrev pub is_other : ℕ → List ℕ → Bool
@@ -180,7 +189,7 @@ groups_run c (suc k) xs = go (pointwise nat_eq (take 4 xs) (c ∷ c ∷ c ∷ c 
     go : (t : Bool) → t ≡ pointwise nat_eq (take 4 xs) (c ∷ c ∷ c ∷ c ∷ [])
         → position_or_len (is_other c) (first_chunks 4 k (drop 4 xs)) * 4 ≤ run (eqb c) (drop 4 xs)
         → cond (not (not t)) (1 + position_or_len (is_other c) (first_chunks 4 k (drop 4 xs))) 0 * 4 ≤ run (eqb c) xs
-    go true e h = omega (arith, h, four_run c xs (same_text (take 4 xs) (c ∷ c ∷ c ∷ c ∷ []) e))
+    go true e h = omega (arith, h, four_run (eqb c) c xs (eq-eqb c c refl) (same_text (take 4 xs) (c ∷ c ∷ c ∷ c ∷ []) e))
     go false e h = omega arith
 
 -- where the blanks end of as much of a line as may come off
