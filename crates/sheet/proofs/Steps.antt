@@ -2,13 +2,13 @@
 use Rattle.std.specs.Prelude.{if◌then◌else◌}
 use Prim.Native.Nat.{ℕ, zero, suc, ◌+◌, ◌-◌, ◌<◌, ◌≤◌, min}
 use mathlib.Core.Path.{◌≡◌, refl, sym, ap, ◌∙◌}
-use mathlib.Core.Bool.{Bool, true, false, not}
+use mathlib.Core.Bool.{Bool, true, false, not, ◌||◌, ◌&&◌}
 use mathlib.Core.List.{List, [], ◌∷◌}
 use native.Mathlib.Omega.{arith}
-use lib.Dec.{eqb}
+use lib.Dec.{eqb, leb}
 use lib.ListN.{length, get_or, take, drop, length-drop}
 use lib.Seq.{drop-drop}
-use borrow.Author.Tests.{eq-eqb, ne_eqb, le-leb, lt-leb}
+use borrow.Author.Tests.{eq-eqb, ne_eqb, le-leb, lt-leb, leb-true, leb-false, not-false}
 use Rattle.std.specs.List.{fold, position, position_or_len}
 use Rattle.std.specs.Simd.{first_chunks}
 use Rattle.std.specs.Cmp.Lexicographic.{pointwise, same_text}
@@ -26,7 +26,7 @@ use Rattle.unit.specs.declared.Match.{Match}
 use Rattle.unit.specs.Closers.{matched, indented}
 use Rattle.unit.proofs.Inside.{matched_length}
 use Rattle.sheet.specs.declared.Line.{Line}
-use Rattle.sheet.specs.Bodies.{Indent, is_over}
+use Rattle.sheet.specs.Bodies.{Indent, is_over, is_break}
 use Rattle.sheet.specs.Sheets.{closing_label, judged_line, line_kind}
 use Rattle.sheet.specs.Code.{line_length, LineEnd, indentation, offset_of, is_stray, break_of}
 use Rattle.sheet.proofs.Closings.{bounded, closing_label_bounded}
@@ -231,6 +231,57 @@ module _ (ind : Indent) (off : ℕ) (line : List ℕ) (e : off ≡ offset_of ind
 
   pub stray_place : off ≤ length line
   stray_place = rw e (offset-length ind line)
+
+-- a line is over two bytes after a place from which on only its break is left
+over_break : (off n : ℕ) (xs : List ℕ) → off + 2 < n → is_over (drop off (take n xs)) ≡ true → line_length xs ≤ off + 2
+unfolding line_length is_over is_break
+over_break off n [] h e = omega arith
+over_break off zero (b ∷ xs) h e = absurd (omega (arith, h))
+over_break (suc off) (suc n) (b ∷ xs) h e = go (b is "\n") (over_break off n xs (omega (arith, h)) e)
+  where
+    go : (t : Bool) → line_length xs ≤ off + 2 → (if t then 1 else suc (line_length xs)) ≤ suc off + 2
+    go true k = omega arith
+    go false k = omega (arith, k)
+over_break zero (suc n) (b ∷ []) h e = go (b is "\n")
+  where
+    go : (t : Bool) → (if t then 1 else 1) ≤ 0 + 2
+    go true = omega arith
+    go false = omega arith
+over_break zero (suc zero) (b ∷ c ∷ xs) h e = absurd (omega (arith, h))
+over_break zero (suc (suc n)) (b ∷ c ∷ xs) h e = go (b is "\n") (b is "\r") (c is "\n") e
+  where
+    go : (t u v : Bool) → (t || (u && v)) ≡ true → (if t then 1 else suc (if v then 1 else suc (line_length xs))) ≤ 0 + 2
+    go true u v k = omega arith
+    go false u true k = omega arith
+    go false true false k = cc
+    go false false false k = cc
+
+-- a row that is not stray, of two bytes more than the indentation, has all of it
+offset-width : (ind : Indent) (line : List ℕ) → offset_of ind line ≤ ind.width
+unfolding offset_of
+offset-width ind line = omega arith
+
+pub offset_full : (ind : Indent) (body : List ℕ) (at next : ℕ) → LineEnd body at next
+    → is_stray ind (take (next - at) (drop at body)) ≡ false → ind.width + 1 < next - at
+    → ind.width ≡ offset_of ind (take (next - at) (drop at body))
+unfolding is_stray
+offset_full ind body at next e k h = go (leb ind.width off) refl k
+  where
+    row : List ℕ
+    row = take (next - at) (drop at body)
+
+    off : ℕ
+    off = offset_of ind row
+
+    go : (t : Bool) → leb ind.width off ≡ t → (if t then false else not (is_over (drop off row))) ≡ false → ind.width ≡ off
+    go true q z = omega (arith, leb-true ind.width off q, offset-width ind row)
+    go false q z =
+        absurd (omega (
+          arith,
+          leb-false ind.width off q,
+          e.place,
+          over_break off (next - at) (drop at body) (omega (arith, leb-false ind.width off q)) (not-false (is_over (drop off row)) z),
+        ))
 
 pub ruleset strays = (stray_none, stray_over, stray_place)
 
