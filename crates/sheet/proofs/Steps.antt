@@ -2,13 +2,13 @@
 use Rattle.std.specs.Prelude.{if◌then◌else◌}
 use Prim.Native.Nat.{ℕ, zero, suc, ◌+◌, ◌-◌, ◌<◌, ◌≤◌, min}
 use mathlib.Core.Path.{◌≡◌, refl, sym, ap, ◌∙◌}
-use mathlib.Core.Bool.{Bool, true, false, not}
+use mathlib.Core.Bool.{Bool, true, false, not, ◌||◌, ◌&&◌}
 use mathlib.Core.List.{List, [], ◌∷◌}
 use native.Mathlib.Omega.{arith}
-use lib.Dec.{eqb}
+use lib.Dec.{eqb, leb}
 use lib.ListN.{length, get_or, take, drop, length-drop}
 use lib.Seq.{drop-drop}
-use borrow.Author.Tests.{eq-eqb, ne_eqb, le-leb, lt-leb}
+use borrow.Author.Tests.{eq-eqb, ne_eqb, le-leb, lt-leb, leb-true, leb-false, not-false}
 use Rattle.std.specs.List.{fold, position, position_or_len}
 use Rattle.std.specs.Simd.{first_chunks}
 use Rattle.std.specs.Cmp.Lexicographic.{pointwise, same_text}
@@ -26,7 +26,7 @@ use Rattle.unit.specs.declared.Match.{Match}
 use Rattle.unit.specs.Closers.{matched, indented}
 use Rattle.unit.proofs.Inside.{matched_length}
 use Rattle.sheet.specs.declared.Line.{Line}
-use Rattle.sheet.specs.Bodies.{Indent, is_over}
+use Rattle.sheet.specs.Bodies.{Indent, is_over, is_break}
 use Rattle.sheet.specs.Sheets.{closing_label, judged_line, line_kind}
 use Rattle.sheet.specs.Code.{line_length, LineEnd, indentation, offset_of, is_stray, break_of}
 use Rattle.sheet.proofs.Closings.{bounded, closing_label_bounded}
@@ -154,19 +154,28 @@ run_first test (suc n) (b ∷ rest) = go (test b) (run_first test n rest)
     go true e = omega (arith, e)
     go false e = omega arith
 
--- four blanks are a run, before what follows
-four_run : (c : ℕ) (xs : List ℕ) → take 4 xs ≡ c ∷ c ∷ c ∷ c ∷ [] → run (eqb c) xs ≡ 4 + run (eqb c) (drop 4 xs)
+-- four bytes that pass are a run, before what follows
+four_run : (test : ℕ → Bool) (c : ℕ) (xs : List ℕ) → test c ≡ true → take 4 xs ≡ c ∷ c ∷ c ∷ c ∷ [] → run test xs ≡ 4 + run test (drop 4 xs)
 unfolding run
-four_run c [] e = cc
-four_run c (x ∷ []) e = cc
-four_run c (x ∷ y ∷ []) e = cc
-four_run c (x ∷ y ∷ z ∷ []) e = cc
-four_run c (x ∷ y ∷ z ∷ w ∷ xs) e =
-    let at₀ : eqb c x ≡ true = eq-eqb c x (sym (ap (λ (l : List ℕ). get_or l 0 0) e)) in
-    let at₁ : eqb c y ≡ true = eq-eqb c y (sym (ap (λ (l : List ℕ). get_or l 1 0) e)) in
-    let at₂ : eqb c z ≡ true = eq-eqb c z (sym (ap (λ (l : List ℕ). get_or l 2 0) e)) in
-    let at₃ : eqb c w ≡ true = eq-eqb c w (sym (ap (λ (l : List ℕ). get_or l 3 0) e)) in
+four_run test c [] h e = cc
+four_run test c (x ∷ []) h e = cc
+four_run test c (x ∷ y ∷ []) h e = cc
+four_run test c (x ∷ y ∷ z ∷ []) h e = cc
+four_run test c (x ∷ y ∷ z ∷ w ∷ xs) h e =
+    let at₀ : test x ≡ true = ap (λ (l : List ℕ). test (get_or l 0 0)) e ∙ h in
+    let at₁ : test y ≡ true = ap (λ (l : List ℕ). test (get_or l 1 0)) e ∙ h in
+    let at₂ : test z ≡ true = ap (λ (l : List ℕ). test (get_or l 2 0)) e ∙ h in
+    let at₃ : test w ≡ true = ap (λ (l : List ℕ). test (get_or l 3 0)) e ∙ h in
     rw (at₀, at₁, at₂, at₃) (omega arith)
+
+-- blanks go on past four spaces
+pub blanks_past : (line : List ℕ) (r : ℕ) → 4 ≤ length line → take 4 line ≡ 32 ∷ 32 ∷ 32 ∷ 32 ∷ [] → RunEnd is_blank line 4 r
+    → RunEnd is_blank line 0 r
+unfolding is_blank
+blanks_past line r h e f =
+    passing_run is_blank line 0 4 r
+    (passing_part is_blank line 0 0 (passing_first is_blank line 0 (omega arith)) 4 (omega (arith, h))
+    (omega (arith, four_run is_blank 32 line refl e))) f
 
 -- another group than four blanks
 abbrev pub is_other : ℕ → List ℕ → Bool
@@ -180,7 +189,7 @@ groups_run c (suc k) xs = go (pointwise nat_eq (take 4 xs) (c ∷ c ∷ c ∷ c 
     go : (t : Bool) → t ≡ pointwise nat_eq (take 4 xs) (c ∷ c ∷ c ∷ c ∷ [])
         → position_or_len (is_other c) (first_chunks 4 k (drop 4 xs)) * 4 ≤ run (eqb c) (drop 4 xs)
         → cond (not (not t)) (1 + position_or_len (is_other c) (first_chunks 4 k (drop 4 xs))) 0 * 4 ≤ run (eqb c) xs
-    go true e h = omega (arith, h, four_run c xs (same_text (take 4 xs) (c ∷ c ∷ c ∷ c ∷ []) e))
+    go true e h = omega (arith, h, four_run (eqb c) c xs (eq-eqb c c refl) (same_text (take 4 xs) (c ∷ c ∷ c ∷ c ∷ []) e))
     go false e h = omega arith
 
 -- where the blanks end of as much of a line as may come off
@@ -222,6 +231,57 @@ module _ (ind : Indent) (off : ℕ) (line : List ℕ) (e : off ≡ offset_of ind
 
   pub stray_place : off ≤ length line
   stray_place = rw e (offset-length ind line)
+
+-- a line is over two bytes after a place from which on only its break is left
+over_break : (off n : ℕ) (xs : List ℕ) → off + 2 < n → is_over (drop off (take n xs)) ≡ true → line_length xs ≤ off + 2
+unfolding line_length is_over is_break
+over_break off n [] h e = omega arith
+over_break off zero (b ∷ xs) h e = absurd (omega (arith, h))
+over_break (suc off) (suc n) (b ∷ xs) h e = go (b is "\n") (over_break off n xs (omega (arith, h)) e)
+  where
+    go : (t : Bool) → line_length xs ≤ off + 2 → (if t then 1 else suc (line_length xs)) ≤ suc off + 2
+    go true k = omega arith
+    go false k = omega (arith, k)
+over_break zero (suc n) (b ∷ []) h e = go (b is "\n")
+  where
+    go : (t : Bool) → (if t then 1 else 1) ≤ 0 + 2
+    go true = omega arith
+    go false = omega arith
+over_break zero (suc zero) (b ∷ c ∷ xs) h e = absurd (omega (arith, h))
+over_break zero (suc (suc n)) (b ∷ c ∷ xs) h e = go (b is "\n") (b is "\r") (c is "\n") e
+  where
+    go : (t u v : Bool) → (t || (u && v)) ≡ true → (if t then 1 else suc (if v then 1 else suc (line_length xs))) ≤ 0 + 2
+    go true u v k = omega arith
+    go false u true k = omega arith
+    go false true false k = cc
+    go false false false k = cc
+
+-- a row that is not stray, of two bytes more than the indentation, has all of it
+offset-width : (ind : Indent) (line : List ℕ) → offset_of ind line ≤ ind.width
+unfolding offset_of
+offset-width ind line = omega arith
+
+pub offset_full : (ind : Indent) (body : List ℕ) (at next : ℕ) → LineEnd body at next
+    → is_stray ind (take (next - at) (drop at body)) ≡ false → ind.width + 1 < next - at
+    → ind.width ≡ offset_of ind (take (next - at) (drop at body))
+unfolding is_stray
+offset_full ind body at next e k h = go (leb ind.width off) refl k
+  where
+    row : List ℕ
+    row = take (next - at) (drop at body)
+
+    off : ℕ
+    off = offset_of ind row
+
+    go : (t : Bool) → leb ind.width off ≡ t → (if t then false else not (is_over (drop off row))) ≡ false → ind.width ≡ off
+    go true q z = omega (arith, leb-true ind.width off q, offset-width ind row)
+    go false q z =
+        absurd (omega (
+          arith,
+          leb-false ind.width off q,
+          e.place,
+          over_break off (next - at) (drop at body) (omega (arith, leb-false ind.width off q)) (not-false (is_over (drop off row)) z),
+        ))
 
 pub ruleset strays = (stray_none, stray_over, stray_place)
 

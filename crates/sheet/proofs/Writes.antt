@@ -37,6 +37,11 @@ followed_left true p x u h = absurd (omega arith)
 followed_left false p x (Kept y) h = refl
 followed_left false p x (Stray q) h = absurd (omega arith)
 
+followed_kept : (t : Bool) (p : ℕ) (x : List ℕ) (u : Text) → 0 < length (left_of (followed (if t then Stray p else Kept x) u)) → t ≡ false
+unfolding followed left_of
+followed_kept true p x u h = absurd (omega arith)
+followed_kept false p x u h = refl
+
 module _ (ind : Indent) (body : List ℕ) (i : ℕ) (some : 0 < length (left_from ind body i)) where
   left_inside : i < length body
   left_inside = go (ltb i (length body)) refl
@@ -44,6 +49,16 @@ module _ (ind : Indent) (body : List ℕ) (i : ℕ) (some : 0 < length (left_fro
       go : (t : Bool) → ltb i (length body) ≡ t → i < length body
       go true e = ltb-true i (length body) e
       go false e = absurd (omega (arith, left_past ind body i (ltb-false i (length body) e)))
+
+  left_kept : (next : ℕ) → LineEnd body i next → is_stray ind (take (next - i) (drop i body)) ≡ false
+  unfolding left_from
+  left_kept next e =
+      let row = take (next - i) (drop i body) in
+      let turn : body_text ind i (lines (drop i body))
+      ≡ followed (if is_stray ind row then Stray (i + offset_of ind row) else Kept (drop (offset_of ind row) row))
+      (body_text ind next (lines (drop next body))) =
+      body_turn body i next left_inside e ind ∙ rw (unindented_parts ind i row) in
+      followed_kept (is_stray ind row) (i + offset_of ind row) (drop (offset_of ind row) row) _ (rw turn at some)
 
   module _ (next : ℕ) (e : LineEnd body i next) (off : ℕ) (o : off ≡ offset_of ind (take (next - i) (drop i body))) where
     left_off : i + off ≤ next
@@ -171,6 +186,10 @@ module _ (blank width : ℕ) (body : List ℕ) (at len : ℕ) (old : List ℕ)
       pub putting_here : i < length body
       putting_here = left_inside ind body i some
 
+      pub putting_kept : (next : ℕ) → LineEnd body i next
+          → is_stray (record { blank = blank; width = width }) (take (next - i) (drop i body)) ≡ false
+      putting_kept next e = left_kept ind body i some next e
+
       module _ (next : ℕ) (e : LineEnd body i next) (off : ℕ)
           (o : off ≡ offset_of (record { blank = blank; width = width }) (take (next - i) (drop i body))) where
         pub putting_off : i + off ≤ next
@@ -234,4 +253,4 @@ module _ (blank width : ℕ) (body : List ℕ) (at len : ℕ) (old : List ℕ)
                 written = w;
               }
 
-pub ruleset putting = (putting_first, putting_end, putting_size, putting_here, putting_off, putting_place, putting_less, putting_stop, putting_sum, putting_count, putting_room, putting_on)
+pub ruleset putting = (putting_first, putting_end, putting_size, putting_here, putting_kept, putting_off, putting_place, putting_less, putting_stop, putting_sum, putting_count, putting_room, putting_on)

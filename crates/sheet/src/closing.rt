@@ -1,6 +1,8 @@
 // The closing line of a sheet block: where lines end, what a line is to the block, and the first one that closes it.
 // As request P1 has it, and the PHP manual: no identifier byte follows a closing label. The ported modes' closer is crate closer's.
 ghost use Rattle.std.specs.Prelude.{◌≡◌, [], ◌≤◌, ◌<◌, length, drop};
+ghost use Rattle.byte.specs.Bytes.{is_blank};
+ghost use Rattle.source.specs.Code.{RunEnd};
 ghost use Rattle.unit.specs.declared.Indentation.{Indentation};
 ghost use Rattle.sheet.specs.Bodies.{lines};
 ghost use Rattle.sheet.specs.Sheets.{closing_label, line_kind, block};
@@ -47,12 +49,22 @@ fn closing_label(line: &[u8], at: usize, label: &[u8], end: bool) -> Match
     }
 }
 
+// Where a line's blanks end. Four spaces are told at once: most rows begin with them.
+fn blank_end(line: &[u8]) -> usize
+    ensures { RunEnd is_blank line.now 0 result }
+{
+    match line.first_chunk::<4>() {
+        Some(group) if *group == [b' '; 4] => closer::blank_end(line, 4),
+        _ => closer::blank_end(line, 0),
+    }
+}
+
 // What one line is to the block. Only where the label closes is the kind of its blanks asked.
 fn line_kind(line: &[u8], label: &[u8], end: bool) -> Line
     requires { (length line.now ≤ 65536) × (length label.now ≤ 64) }
     ensures { result ≡ line_kind label.now end Indentation.None 0 line.now }
 {
-    let n = closer::blank_end(line, 0);
+    let n = blank_end(line);
     match closing_label(line, n, label, end) {
         Match::Whole => Line::Closes {
             indentation: closer::indentation_of(&line[..n]),

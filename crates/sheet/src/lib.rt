@@ -3,12 +3,12 @@
 // In order: the closing line (closing); what is left of a line and of the body; the scan, which writes nothing; the writer.
 #![tactic(auto)]
 
-ghost use Rattle.std.specs.Prelude.{◌≡◌, false, ◌+◌, ◌≤◌, length, drop};
+ghost use Rattle.std.specs.Prelude.{◌≡◌, false, ◌+◌, ◌-◌, ◌≤◌, length, take, drop};
 ghost use Rattle.byte.specs.Laid.{laid};
 ghost use Rattle.text.specs.Code.{measured};
 ghost use Rattle.sheet.specs.Bodies.{lines, is_over, body_text};
 ghost use Rattle.sheet.specs.Sheets.{stripped, sheet_at};
-ghost use Rattle.sheet.specs.Code.{offset_of, is_stray, size_of, break_of, Body, one_blank, blank_of, Closing, sheet_of, Left};
+ghost use Rattle.sheet.specs.Code.{LineEnd, offset_of, is_stray, size_of, break_of, Body, one_blank, blank_of, Closing, sheet_of, Left};
 
 use byte::Refusal;
 use text::Scanned;
@@ -70,6 +70,19 @@ impl Indent {
         let passed = groups.iter().position(|group| *group != four);
         let whole = passed.unwrap_or(groups.len()) * 4;
         source::end_of(&line[..most], whole, |b| self.blank == b)
+    }
+
+    // The same of a row that was measured: one of two bytes more than the indentation has all of it.
+    fn measured_offset(self, body: &[u8], at: usize, next: usize) -> usize
+        requires line { LineEnd body.now at next }
+        requires kept { is_stray self (take (next - at) (drop at body.now)) ≡ false }
+        ensures { result ≡ offset_of self (take (next - at) (drop at body.now)) }
+    {
+        if self.width < (next - at).saturating_sub(1) {
+            self.width
+        } else {
+            self.offset(&body[at..next])
+        }
     }
 
     // The byte after a line's indentation, of which `off` bytes come off, is stray.
@@ -210,7 +223,7 @@ pub fn write_sheet(body: &[u8], at: usize, blank: u8, width: usize, len: usize, 
     // `split_inclusive` looks at each byte alone, and the bytes put would be counted all the same.
     while j < len {
         let next = closing::line_end(body, i);
-        let k = i + ind.offset(&body[i..next]);
+        let k = i + ind.measured_offset(body, i, next);
         let count = (next - k).min(len - j);
         token::put_value(&body[k..k + count], dst, j);
         j += count;

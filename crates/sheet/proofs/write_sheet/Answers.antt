@@ -9,6 +9,9 @@ loop-j-init c = search (putting, rules)
 pub line_end-next-requires : goal.line_end-next-requires
 line_end-next-requires c = search (putting, rules)
 
+pub measured_offset-requires-clause-kept : goal.measured_offset-requires-clause-kept
+measured_offset-requires-clause-kept c = search (putting, rules)
+
 pub overflow_add-k : goal.overflow_add-k
 overflow_add-k c = search (putting, rules)
 
