@@ -1,6 +1,6 @@
-// The class of each of the 256 bytes, in one table, and the look there. The order of the classes makes each test a look
-// for those from one to another: octal digits O; digits O E; hex digits O E H; letters H L; what an identifier starts
-// with H L U; identifier bytes O E H L U; what is passed alone N B; blanks B; signs S.
+// The class of each of the 256 bytes, in one table, and the look there. The order of the classes makes each test a
+// look for those from one to another: octal digits O; digits O E; hex digits O E H; letters H L; what an identifier
+// starts with H L U; identifier bytes O E H L U; what is passed alone N B; blanks B; signs S.
 ghost use Rattle.std.specs.Prelude.{◌≡◌, ◌≤◌};
 ghost use Rattle.byte.specs.Classes.{class_of};
 ghost use Rattle.byte.specs.Code.{is_from, class_number, Table, Bits, Holds};

@@ -1,4 +1,4 @@
-// Bytes: their classes; the refusal numbers by name; and the choice that decides one of them.
+// Bytes: their classes; the refusals, by name and by number; and the choice that decides one byte.
 // Of the Rust: the byte tests of its macros, and error.rs.
 #![tactic(auto, using(crate::proofs::Table::tests))]
 
@@ -26,7 +26,8 @@ pub enum Refusal {
     PoolFull,
     // A frame would be the 65th.
     StackFull,
-    // The call does not fit: a skip past the end, a pop of the last frame, a pushed label that is none, a reading without Scripting on top.
+    // The call does not fit: a skip past the end, a pop of the last frame, a pushed label that is none, a reading
+    // without Scripting on top.
     OutOfPlace,
     TooLarge,
     BadSession,

@@ -1,4 +1,5 @@
-// The closer of a text block in the ported modes: after an LF, blanks, then the label's bytes, followed by anything at all.
+// The closer of a text block in the ported modes: after an LF, blanks, then the label's bytes, followed by anything
+// at all.
 // Of the Rust: the arm of heredoc and nowdoc that meets an LF. A label has at most 64 bytes, a source at most 65,536.
 #![tactic(auto)]
 
@@ -15,6 +16,7 @@ use byte::Refusal;
 use unit::{Indentation, Match, Stop, TextUnit};
 
 // The label against the text from `at` on.
+// Bounds in each contract, no type: a type for them would ask more of whoever calls.
 pub fn match_at(src: &[u8], at: usize, label: &[u8]) -> Match
     requires { (at ≤ length src.now) × (length src.now ≤ 65536) × (length label.now ≤ 64) }
     ensures { result ≡ matched label.now (drop at src.now) }
@@ -50,7 +52,8 @@ pub fn indentation_of(blanks: &[u8]) -> Indentation
         .fold(Indentation::None, |ind, b| indented_by(ind, *b))
 }
 
-// Where the blanks from `at` on end. Two comparisons take six instructions a blank, where `byte::is_blank` takes ten.
+// Where the blanks from `at` on end. Two comparisons take six instructions a blank, where `byte::is_blank` takes ten:
+// the bench holds sheets to twice a nowdoc, and they are within a tenth of it.
 pub fn blank_end(src: &[u8], at: usize) -> usize
     requires { at ≤ length src.now }
     ensures { RunEnd is_blank src.now at result }

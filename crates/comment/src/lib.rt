@@ -1,5 +1,6 @@
 // Comments at Scripting: `//` and `#` up to LF, `?>` or the end, `/*` through the first `*/` after it.
-// Of the Rust: the rows of `scripting` that read comments. Here the LF is not taken, `/*/` is open, and an open `/*` is refused.
+// Of the Rust: the rows of `scripting` that read comments. Here the LF is not taken, `/*/` is open, and an open `/*`
+// is refused.
 #![tactic(auto)]
 
 ghost use Rattle.std.specs.Prelude.{◌≡◌, ◌+◌, ◌≤◌, ◌<◌, length, get_or, drop, MatchOption};
@@ -12,6 +13,8 @@ use byte::Refusal;
 use outcome::{Change, CommentEnd, CommentKind};
 use plan::Plan;
 use token::Kind;
+
+// `src`, `at`, `end` stay parameters: each is told by `drop at src`, and no two functions have the same bounds.
 
 // Whether this byte stands at a place.
 #[tactic(auto, using(crate::proofs::Ends::nexts))]
@@ -62,10 +65,7 @@ fn next_mark(kind: CommentKind, src: &[u8], at: usize) -> Option<usize>
     ensures { MatchOption result (RunEnd (is_inner kind) src.now at (length src.now)) (λ n. RunEnd (is_inner kind) src.now at n × (n < length src.now)) }
 {
     let n = inner_end(kind, src, at);
-    if n < src.len() {
-        return Some(n);
-    }
-    None
+    (n < src.len()).then_some(n)
 }
 
 // How many bytes of the comment at a place come before its end, `k` of them passed.

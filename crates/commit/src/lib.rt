@@ -1,5 +1,6 @@
 // From a plan to records, value bytes and numbers, or to a refusal that leaves all as it was. It knows no session.
-// Of the Rust: what `tokenize`'s loop does with a routine's answer. In order: spans; values; records; room and the whole.
+// Of the Rust: what `tokenize`'s loop does with a routine's answer. In order: spans; values; records; room and the
+// whole.
 #![tactic(auto)]
 
 ghost use Rattle.std.specs.Prelude.{◌≡◌, ◌+◌, ◌*◌, ◌≤◌, length};
@@ -21,6 +22,7 @@ use token::Token;
 use unit::Mode;
 
 // The cursor and the two fill marks.
+// Marks beside the list and the pool: a host lends both, and reads from its session how far they are filled.
 #[derive(Clone, Copy)]
 pub struct Mark {
     pub span: Span,
@@ -97,6 +99,7 @@ fn write_value(step: Step, d: Draft, pool: &mut [u8], mark: usize)
 }
 
 // The token of a draft whose value stands in the pool from the mark on. The step ends at `after`.
+// `as`, here and below: it fits by the contract, and `try_from` would bring an arm that never comes.
 fn token_of(src: &[u8], after: usize, m: Mark, d: Draft) -> Token
     requires { Drawn src.now after m.span d }
     ensures { result ≡ draft_token src.now after m d }
@@ -134,7 +137,8 @@ fn past_draft(m: Mark, d: Draft) -> Mark
 }
 
 // A draft's value and record, from the marks on, and the marks after it.
-// Always inlined: as a call for each of three callers it makes numbers take 83.7 instructions a byte, and the limit is 77.
+// Always inlined: as a call for each of three callers it makes numbers take 83.7 instructions a byte, and the limit
+// is 77.
 #[inline(always)]
 #[tactic(auto, using(crate::proofs::Records::draft_put))]
 fn put_draft(step: Step, m: Mark, d: Draft, list: &mut [u32], pool: &mut [u8]) -> Mark

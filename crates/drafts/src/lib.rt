@@ -1,4 +1,5 @@
-// The text modes, quoted literals and numbers: a scan measures the text, and its plan says which tokens are written of it.
+// The text modes, quoted literals and numbers: a scan measures the text, and its plan says which tokens are written
+// of it.
 // Of the Rust: what double_quote, shell_exec, docstring and nowdoc push after their loops, and `tokenize_number`.
 #![tactic(auto)]
 
@@ -23,7 +24,10 @@ use text::Scanned;
 use token::Kind;
 use unit::{Follow, Indentation, Mode, Stop};
 
+// `src`, `at`, `end` stay parameters, as in modes; a scan's fields come singly, each function takes other ones.
+
 // The kind of an EndDocString by its indentation, which is never mixed.
+// A function, as those below, no From: a Kind is token's, and what it is made of is unit's and number's.
 #[tactic(auto, unfolding(crate::specs::Code::doc_kind))]
 fn doc_kind(ind: Indentation) -> Kind
     ensures { result ≡ doc_kind ind }
@@ -62,6 +66,7 @@ fn stop_kind(mode: Mode, stop: Stop) -> Kind
 }
 
 // The indentation amount for EndDocString, else 0.
+// 0 and no Option: it is a record's second number, which is 0 for the other kinds.
 #[tactic(auto, unfolding(outcome::specs::Texts::stop_detail))]
 fn stop_detail(stop: Stop) -> usize
     ensures { result ≡ stop_detail stop }
@@ -125,8 +130,8 @@ fn text_end(stop: Stop, from: usize) -> usize
     }
 }
 
-// Whether a text's value of `len` bytes stands in a scratch part of `room` bytes. A nowdoc's does not: its label is looked
-// for, and nothing is written.
+// Whether a text's value of `len` bytes stands in a scratch part of `room` bytes. A nowdoc's does not: its label is
+// looked for, and nothing is written.
 #[tactic(auto, unfolding(crate::specs::Code::is_held))]
 fn is_held(mode: Mode, len: usize, room: usize) -> bool
     ensures { result ≡ is_held mode len room }
@@ -166,7 +171,8 @@ fn text_draft(
     made_draft(kind, place, making, at, from, len)
 }
 
-// A sheet's value of `len` bytes: its rows up to the closing line. Without an indentation it is the source's own bytes.
+// A sheet's value of `len` bytes: its rows up to the closing line. Without an indentation it is the source's own
+// bytes.
 #[tactic(auto, unfolding(crate::specs::Code::sheet_draft))]
 fn sheet_draft(at: usize, len: usize, stop: Stop, from: usize) -> Draft
     requires { at + len + stop_detail stop ≤ from }
@@ -287,8 +293,8 @@ fn read_plan(mode: Mode, place: usize, label: Label, at: usize, room: usize, sca
     }
 }
 
-// The text from `at` on, up to what ends it. A value that is not the source's own bytes stays in the scratch part, if it
-// fits there.
+// The text from `at` on, up to what ends it. A value that is not the source's own bytes stays in the scratch part,
+// if it fits there.
 #[tactic(auto, using(crate::proofs::Texts::texts))]
 pub fn text(
     mode: Mode,

@@ -1,5 +1,6 @@
 // Escapes: what a backslash and the bytes after it stand for, and code points in UTF-8.
-// Of the Rust: the escapes of its string routines, read by one reader. In the order of unit's definitions, Digits and then Escapes.
+// Of the Rust: the escapes of its string routines, read by one reader. In the order of unit's definitions, Digits
+// and then Escapes.
 #![tactic(auto)]
 
 ghost use Rattle.std.specs.Prelude.{◌≡◌, false, ltb, ◌+◌, ◌*◌, ◌≤◌, ◌<◌, length, drop, if◌then◌else◌, MatchOption};
@@ -38,6 +39,7 @@ pub fn utf8_len(code: u32) -> usize
 }
 
 // Bytes at a place of a part.
+// As token's `put_value`: this crate does not stand on that one.
 #[tactic(auto, unfolding(byte::specs::Laid::laid))]
 fn put(dst: &mut [u8], at: usize, bytes: &[u8])
     requires { at + length bytes.now ≤ length dst.old }
@@ -47,6 +49,7 @@ fn put(dst: &mut [u8], at: usize, bytes: &[u8])
 }
 
 // A code point in UTF-8, at a place of a part. No `char::encode_utf8`: it would refuse surrogates.
+// `as`, here and below: it fits by the contract, and `try_from` would bring an arm that never comes.
 #[tactic(auto, using(crate::proofs::Digits::utf8_writes))]
 pub fn put_utf8(dst: &mut [u8], at: usize, code: u32)
     requires { (code < 1114112) × (at + length (utf8 code) ≤ length dst.old) }
@@ -74,9 +77,10 @@ pub fn put_utf8(dst: &mut [u8], at: usize, code: u32)
     );
 }
 
-// `src`, `at`, `end` stay parameters: the public functions take them so, and three others alone would share a struct.
+// `src`, `at`, `end` stay parameters: four private functions alone take all three, under two kinds of bounds.
 
 // Nothing is left: this at the announced end, else undecided.
+// As `last_tag` and its kin: one function for all would take both answers, and say no more than this `if`.
 fn last(end: bool, unit: TextUnit) -> TextUnit
     ensures { result ≡ last end unit }
 {

@@ -18,7 +18,10 @@ use plan::{Plan, Work};
 use state::Frame;
 use token::Kind;
 
+// `src`, `at`, `end` stay parameters, as in comment.
+
 // The text ends after `<?` or letters of the full tag.
+// As `last` of escape: one function for all types would take both answers, and say no more than this `if`.
 #[tactic(auto, using(crate::proofs::Tags::last_tags))]
 fn last_tag(end: bool) -> Tag
     ensures { result ≡ if end then Tag.Open OpenTagKind.Short else Tag.Undecided }
@@ -86,10 +89,7 @@ fn next_less(src: &[u8], at: usize) -> Option<usize>
     ensures { MatchOption result (RunEnd is_no_less src.now at (length src.now)) (λ n. LessAt src.now at n) }
 {
     let n = source::stop_end(src, at, b'<', b'<', b'<', b'<');
-    if n < src.len() {
-        return Some(n);
-    }
-    None
+    (n < src.len()).then_some(n)
 }
 
 // The first tag from `at` on.
@@ -99,7 +99,8 @@ fn find_tag(src: &[u8], at: usize, end: bool) -> Tagged
     ensures { result ≡ tagged end at (drop at src.now) }
 {
     let mut from = at;
-    // A loop by hand: an iterator over the bytes would ask each of them, and the search for `<` passes eight at a time.
+    // A loop by hand: an iterator over the bytes would ask each of them, and the search for `<` passes eight at a
+    // time.
     while let Some(i) = next_less(src, from) {
         match tag_at(src, i + 1, end) {
             Tag::Open(kind) => return Tagged::At { kind, place: i },
@@ -113,7 +114,7 @@ fn find_tag(src: &[u8], at: usize, end: bool) -> Tagged
     Tagged::Undecided
 }
 
-// A tag's kind as a token. This and the length are no methods: the type stands in the crate outcome, which holds no code.
+// A tag's kind as a token. No From: neither type is of this crate.
 #[tactic(auto, using(crate::proofs::Tags::tag_kind_arm), unfolding(crate::specs::Code::tag_kind))]
 fn tag_kind(kind: OpenTagKind) -> Kind
     ensures { result ≡ tag_kind kind }

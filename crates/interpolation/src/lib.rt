@@ -1,5 +1,6 @@
 // Interpolations in a text: `${`, `{` before a `$`, and variables with what follows their name.
-// Of the Rust: the arms of double_quote, shell_exec and heredoc that begin with `$` or `{`, and of the double-quoted literal.
+// Of the Rust: the arms of double_quote, shell_exec and heredoc that begin with `$` or `{`, and of the double-quoted
+// literal.
 // A look never goes further than the one byte that decides; where that byte lies past the part, it is undecided: None.
 #![tactic(auto)]
 

@@ -1,4 +1,5 @@
-// A session as numbers, both ways, and a turn as numbers: what crosses to a host. include/puretakoi.h tells the layout.
+// A session as numbers, both ways, and a turn as numbers: what crosses to a host. include/puretakoi.h tells the
+// layout.
 #![tactic(auto)]
 
 ghost use Rattle.std.specs.Prelude.{◌≡◌, ◌+◌, ◌*◌, ◌≤◌, ◌<◌, length, get_or, drop};
@@ -19,9 +20,11 @@ mod choices;
 pub use choices::{are_choices, choices_in};
 
 // The label of what has none: it names no bytes.
+// The crate plan, whose `no_label` is the same, stands above this one.
 const NO_LABEL: Label = Label { start: 0, len: 0 };
 
 // The label in two numbers; that of none where a number has more than 16 bits.
+// (Numbers are a slice, no `[u32; 199]`: a host may lend more than a session has.)
 #[tactic(auto, unfolding(crate::specs::Sessions::label_in))]
 fn label_in(start: u32, len: u32) -> Label
     ensures { result ≡ label_in start len }
@@ -32,7 +35,8 @@ fn label_in(start: u32, len: u32) -> Label
     }
 }
 
-// The frame in three numbers; what is none becomes a text block without a label, which every call refuses.
+// The frame in three numbers; what is none becomes a text block without a label: every call refuses it (`no_session`).
+// Functions, no From: Frame is the crate state's, u32 is Rust's.
 #[tactic(auto, unfolding(crate::specs::Sessions::frame_in))]
 pub fn frame_in(number: u32, start: u32, len: u32) -> Frame
     ensures { result ≡ frame_in number start len }
@@ -70,7 +74,7 @@ pub fn frame_at(numbers: &[u32], i: usize) -> Frame
     slot.frame
 }
 
-// The depth; 0, which no session has, where the choices are none: `session_in` is told of any numbers at all.
+// The depth; 0 where the choices are none: no session has that depth, and `no_session` refuses it.
 #[tactic(auto, unfolding(crate::specs::Sessions::depth_in))]
 fn depth_in(depth: u32, choices: u32) -> u32
     ensures { result ≡ depth_in depth choices }
@@ -93,8 +97,8 @@ pub fn span_in(numbers: &[u32]) -> Span
     }
 }
 
-// Refusals 11 and 12 where a list of `list` numbers and a pool of `pool` bytes are lent. Slots from the depth on are not
-// looked at.
+// Refusals 11 and 12 where a list of `list` numbers and a pool of `pool` bytes are lent. Slots from the depth on are
+// not looked at.
 pub fn gate_in(src: &[u8], list: usize, pool: usize, numbers: &[u32]) -> Result<(), Refusal>
     requires { 199 ≤ length numbers.now }
     ensures { result ≡ lent_refusal src.now list pool (session_in numbers.now) }
@@ -113,6 +117,7 @@ pub fn gate_in(src: &[u8], list: usize, pool: usize, numbers: &[u32]) -> Result<
 }
 
 // The session in 199 numbers.
+// By index: std says nothing of a list that `array::from_fn` makes of slots.
 pub fn session_in(numbers: &[u32]) -> Session
     requires { 199 ≤ length numbers.now }
     ensures { result ≡ session_in numbers.now }
@@ -187,6 +192,7 @@ pub fn put_frame(numbers: &mut [u32], i: usize, f: Frame)
 }
 
 // A session's place, depth and marks; the choices after them stay.
+// Its parameters are no Place: that and Mark are of crates above.
 pub fn put_place(numbers: &mut [u32], span: Span, depth: u32, tokens: u32, bytes: u32)
     requires { 199 ≤ length numbers.old }
     ensures { numbers.new ≡ laid numbers.old 0 (place_numbers span depth tokens bytes) }
@@ -239,6 +245,7 @@ pub fn is_unrefused(a: Answer) -> bool
 }
 
 // An answer's refusal, or 0.
+// A number, no Option: it goes to a host as it is, 0 where nothing is refused.
 #[tactic(auto, unfolding(crate::specs::Answers::refusal_in))]
 pub fn refusal_in(a: Answer) -> u32
     ensures { result ≡ refusal_in a }

@@ -19,8 +19,8 @@ pub struct Place {
     pub depth: u32,
 }
 
-// One call, over numbers and the top frame: its plan is made and committed. A text's value that is short stays in the scratch part until
-// it is written.
+// One call, over numbers and the top frame: its plan is made and committed. A text's value that is short stays in
+// the scratch part until it is written.
 #[tactic(auto, using(crate::proofs::Calls::steps))]
 pub fn step_at(
     call: Call,

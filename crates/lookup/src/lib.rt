@@ -17,7 +17,7 @@ pub struct Looked {
     pub found: Option<u32>,
     // How many records were looked at.
     pub looks: u32,
-    // Where the step ended that wrote it: 0 for none.
+    // Where the step ended that wrote it; 0 for none, as the definition `end_in` has it and a host is told.
     pub end: u32,
 }
 
@@ -101,6 +101,7 @@ fn search(list: &[u32], count: u32, at: usize) -> Looked
 
 // The last record of the first `count` whose position is at or before the byte `at`, and how many were looked at.
 // Refused: a list over 65,537 places (11), a count above its places (12).
+// `as`, here and below: it fits by the contract, and `try_from` would bring an arm that never comes.
 #[tactic(auto, using(crate::proofs::Lookups::finding))]
 pub fn find(list: &[u32], count: usize, at: usize) -> Result<Looked, Refused>
     ensures { result ≡ looked_up list.now count at }

@@ -1,8 +1,8 @@
 // The modes: what a call does, by the top frame. A routine answers with a plan and writes nothing.
 // Of the Rust: the routines that `tokenize` calls, one a frame.
-// In order: LookingForVarname, LookingForProperty and VarOffset (lookings); Scripting's table (scripting); a step of it
-// that only passes bytes (passing); what a call reads (rows); and here the plan of any call. Numbers, texts and sheets
-// are the crate drafts, the mode Initial is the crate initial.
+// In order: LookingForVarname, LookingForProperty and VarOffset (lookings); Scripting's table (scripting); a step of
+// it that only passes bytes (passing); what a call reads (rows); and here the plan of any call. Numbers, texts and
+// sheets are the crate drafts, the mode Initial is the crate initial.
 #![tactic(auto)]
 
 ghost use Rattle.std.specs.Prelude.{◌≡◌, true, drop};
@@ -23,8 +23,8 @@ mod scripting;
 
 pub use passing::{is_scripting, pass_on};
 
-// The plan of a call with this frame on top, from a place on. Each routine is called here alone; a text fills the scratch
-// part.
+// The plan of a call with this frame on top, from a place on. Each routine is called here alone; a text fills the
+// scratch part.
 #[tactic(auto, using(crate::proofs::Calls::planned), unfolding(crate::specs::Code::way_outcome))]
 pub fn plan_of(
     call: Call,

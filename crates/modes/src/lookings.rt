@@ -12,6 +12,8 @@ use plan::Plan;
 use state::Frame;
 use token::Kind;
 
+// `src`, `at`, `end` stay parameters: each is told by `drop at src`, and no two functions have the same bounds.
+
 // How many identifier bytes come, with the one before `at`; none where the part may end within them.
 #[tactic(auto, using(crate::proofs::Looks::naming))]
 pub fn named_at(src: &[u8], at: usize, end: bool) -> Option<usize>

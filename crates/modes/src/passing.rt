@@ -36,7 +36,8 @@ fn is_other(b: u8) -> bool
     }
 }
 
-// How many bytes such a step passes from a place on; 0 where the step is another, or would wait. No Option, for `PassesAt` says 0.
+// How many bytes such a step passes from a place on; 0 where the step is another, or would wait.
+// No Option: `passed` adds the number to the place, and 0 is as plain there as None.
 #[tactic(auto, using(crate::proofs::Passes::passes_ats))]
 fn passed_at(src: &[u8], at: usize) -> usize
     requires { Here src.now at }
@@ -60,6 +61,8 @@ fn passed_at(src: &[u8], at: usize) -> usize
 }
 
 // The place after such a step; the place itself where the call is another.
+// The place and no Option, as the definition `quick` has it, on which `quick_on` rests.
+// `as`, here and below: it fits by the contract, and `try_from` would bring an arm that never comes.
 #[tactic(auto, using(crate::proofs::Passes::quicks))]
 fn passed(call: Call, src: &[u8], f: Frame, p: Span) -> Span
     requires { Here src.now p.position × Reaches p (length src.now) }

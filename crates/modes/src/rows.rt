@@ -10,7 +10,7 @@ use outcome::Call;
 use state::{Choices, Frame, Label, Reading};
 use unit::Mode;
 
-// The routine that is asked: a number for it and no closure, so that each stands at one place of `plan_of` and goes into it.
+// The routine that is asked. No closure: each is called at one place of `plan_of`, and is inlined there.
 #[derive(Clone, Copy)]
 pub enum Way {
     Number,
@@ -28,6 +28,7 @@ pub enum Way {
 }
 
 // What is read: the mode and the place where the text starts are a text's alone, the label a text's or a sheet's.
+// One struct, no fields of `Way`'s: the clause `Reads` tells label and start of every row.
 #[derive(Clone, Copy)]
 pub struct Row {
     pub way: Way,

@@ -15,6 +15,8 @@ use outcome::Change;
 use plan::{Plan, Work};
 use state::Frame;
 
+// `src`, `at`, `end` stay parameters, as in lookings.
+
 // The `.` at a place, after which no digit stands: it is passed.
 #[tactic(auto, using(crate::proofs::Frames::points))]
 fn point(src: &[u8], at: usize, end: bool) -> Plan

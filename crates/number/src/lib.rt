@@ -1,5 +1,6 @@
 // Number literals: how long the one at a place is, of which kind, and its value.
-// Of the Rust: `tokenize_number`, `read_digits`, `read_digits_fn`, `parse_int` of mod.rs. Where no number stands it answers as the Rust does.
+// Of the Rust: `tokenize_number`, `read_digits`, `read_digits_fn`, `parse_int` of mod.rs. Where no number stands it
+// answers as the Rust does.
 #![tactic(auto)]
 
 ghost use Rattle.std.specs.Prelude.{◌≡◌, ◌+◌, ◌<◌, ◌≤◌, length, drop};
@@ -142,7 +143,7 @@ impl<'a> Place<'a> {
         }
     }
 
-    // Where digits end if the part ends here; None, as of each place and extent below: more must come.
+    // Where digits end if the part ends here. None, here and of the extents below: more must come.
     #[tactic(auto, using(crate::proofs::Runs::last_told))]
     fn last(&self) -> Option<usize>
         ensures { result ≡ place_of (last self.now.end self.now.at) }

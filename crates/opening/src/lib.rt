@@ -1,6 +1,7 @@
 // The opening of a text block: `<<<`, a label of 1 to 64 bytes that may stand in single quotes, and a break.
-// Of the Rust: the arms of `scripting` that begin with `<<<`. A look never goes further than the one byte that decides; where that
-// byte lies past the part, it is undecided. In order: from the break back to the first `<`, then the plan.
+// Of the Rust: the arms of `scripting` that begin with `<<<`. A look never goes further than the one byte that
+// decides; where that byte lies past the part, it is undecided. In order: from the break back to the first `<`, then
+// the plan.
 #![tactic(auto)]
 
 ghost use Rattle.std.specs.Prelude.{◌≡◌, ◌+◌, ◌≤◌, ◌<◌, not, length, take, drop, position, IfSome};
@@ -15,7 +16,10 @@ use outcome::{Change, DocStringKind, Opening};
 use plan::Plan;
 use state::{Frame, Label};
 
+// `src`, `n`, `end` stay parameters: what is left is told by `drop n src`, and the plan has bounds of its own.
+
 // What the text's end tells of an opening that it cuts off: none, or undecided while more may come.
+// As `last` of escape: one function for all types would take both answers, and say no more than this `if`.
 #[tactic(auto, using(crate::proofs::Looks::last_openings))]
 fn last_opening(end: bool) -> Opening
     ensures { result ≡ last_opening end }
@@ -89,7 +93,8 @@ impl Labelled {
     }
 }
 
-// The first byte of a text that ends a label, of the 64 that are looked at: a label has at most 64, one of which came before.
+// The first byte of a text that ends a label, of the 64 that are looked at: a label has at most 64, one of which
+// came before.
 fn label_end(rest: &[u8]) -> Option<usize>
     ensures first { result ≡ position (λ b. not (is_identifier b)) (take 64 rest.now) }
     ensures within { IfSome result (λ k. k < length rest.now) }
@@ -163,6 +168,7 @@ fn opening_at(src: &[u8], n: usize, end: bool) -> Opening
 }
 
 // The frame in which a block is read.
+// No From: both types are of crates below.
 #[tactic(auto, using(crate::proofs::Openings::doc_frame_arm), unfolding(outcome::specs::Openings::doc_frame))]
 fn doc_frame(kind: DocStringKind, label: Label) -> Frame
     ensures { result ≡ doc_frame kind label }
@@ -174,6 +180,7 @@ fn doc_frame(kind: DocStringKind, label: Label) -> Frame
 }
 
 // A block opens: nothing is written.
+// `as`: it fits by the contract, and `try_from` would bring an arm that never comes.
 #[tactic(auto, using(crate::proofs::Openings::block_plan_made))]
 fn block_plan(kind: DocStringKind, start: usize, len: usize, after: usize) -> Plan
     requires { (start < 65536) × (len ≤ 64) }

@@ -1,5 +1,6 @@
 // What a step comes to: the words in which the modes, the step and the three readings are told.
-// The definitions and theorems over them stand in specs/ and proofs/; the code that follows them in the crates modes and lexer.
+// The definitions and theorems over them stand in specs/ and proofs/; the code that follows them in the crates modes
+// and lexer.
 #![tactic(auto)]
 
 use state::Frame;
@@ -36,7 +37,8 @@ pub enum OpenTagKind {
     Short,
 }
 
-// What stands at a `<` of inline text. Three answers with names: an Option of an Option would be no plainer.
+// What stands at a `<` of inline text. Three answers with names: an Option of an Option would be no plainer, and
+// no generic type would: the definitions `tag`, `tagged`, `opening` and `comment_end` answer with these arms.
 #[derive(Clone, Copy)]
 pub enum Tag {
     Open(OpenTagKind),
@@ -61,8 +63,8 @@ pub enum DocStringKind {
     Nowdoc,
 }
 
-// What stands at a `<` of a script: a block opens, with its label's range and the place after its break; or it is another byte.
-// Three answers with names.
+// What stands at a `<` of a script: a block opens, with its label's range and the place after its break; or another
+// byte. Three answers with names, as of a tag.
 #[derive(Clone, Copy)]
 pub enum Opening {
     Block {
@@ -76,13 +78,14 @@ pub enum Opening {
 }
 
 // The comments: `//` and `#` begin one of a single line, `/*` one that may have many.
+// A match where it is asked, no trait: these are the clauses of `ends`, `end_taken` and `endless`.
 #[derive(Clone, Copy)]
 pub enum CommentKind {
     SingleLine,
     MultiLine,
 }
 
-// How many bytes of a comment come before its end. Three answers with names.
+// How many bytes of a comment come before its end. Three answers with names, as of a tag.
 #[derive(Clone, Copy)]
 pub enum CommentEnd {
     At(usize),

@@ -1,5 +1,6 @@
 // Plans: what a routine answers before anything is written. A plan holds no session and no table.
-// In order: how a value comes about, tokens to be written, the plan; then the plans that the modes make again and again.
+// In order: how a value comes about, tokens to be written, the plan; then the plans that the modes make again and
+// again.
 #![tactic(auto)]
 
 ghost use Rattle.std.specs.Prelude.{◌≡◌, ◌+◌, ◌-◌, ◌≤◌};
@@ -56,7 +57,7 @@ pub struct Work {
     pub finished: bool,
 }
 
-// What a routine answers. Three answers, as of a scan: a wait is no error.
+// What a routine answers. Three answers, as of a scan: `call_waits` tells a wait from a refusal.
 #[derive(Clone, Copy)]
 pub enum Plan {
     Told(Work),
@@ -65,6 +66,7 @@ pub enum Plan {
 }
 
 // The range of a mode that has no label.
+// No Option: `Named` is told of a label of no bytes too.
 pub fn no_label() -> Label
     ensures { result ≡ no_label }
 {
@@ -147,6 +149,7 @@ pub fn one_token(kind: Kind, at: usize, k: usize, change: Change) -> Plan
 }
 
 // Nothing is left of the text: the plan at the announced end, else wait.
+// As `last` of escape: one function for all types would take both answers, and say no more than this `if`.
 pub fn ending(end: bool, p: Plan) -> Plan
     ensures { result ≡ ending_plan end p }
 {

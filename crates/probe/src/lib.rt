@@ -1,4 +1,5 @@
-// The readings one at a time, as numbers, for the comparison with the Rust. A `&[u8]` crosses as a pointer and a length.
+// The readings one at a time, as numbers, for the comparison with the Rust. A `&[u8]` crosses as a pointer and a
+// length.
 // Any numbers at all may come in: what can't be taken is refused by its number, and nothing is written then.
 // In order: a mode and a stop as numbers; the scan asked for; the two functions for texts; the two for numbers.
 #![tactic(auto)]
@@ -14,8 +15,8 @@ use number::Literal;
 use text::Scanned;
 use unit::{Follow, Indentation, Mode, Stop};
 
-// What a scan found. Refused: `number` is not 0, and `place` says where. A text: what ended it as `stop`, the amount of a label's
-// indentation as `detail`, from where to where that stands, and how many bytes the value has.
+// What a scan found. Refused: `number` is not 0, and `place` says where. A text: what ended it as `stop`, the amount
+// of a label's indentation as `detail`, from where to where that stands, and how many bytes the value has.
 #[repr(C)]
 #[derive(Clone, Copy)]
 pub struct Probed {
@@ -29,6 +30,7 @@ pub struct Probed {
 }
 
 // The mode of a number, 0 to 8; from 6 on, octal escapes are read as the manual has them.
+// Functions, no From: the types are of crates below, and any number gives a mode.
 #[tactic(auto, unfolding(crate::specs::Probes::mode_of))]
 fn mode_of(n: u32) -> Mode
     ensures { result ≡ mode_of n }
@@ -88,6 +90,7 @@ fn stop_number(stop: Stop) -> u32
 }
 
 // The amount of a label's indentation; 0 for another stop.
+// As the `stop_detail` of drafts, on which this crate does not stand.
 #[tactic(auto, unfolding(crate::specs::Probes::amount_of))]
 fn amount_of(stop: Stop) -> usize
     ensures { result ≡ amount_of stop }
@@ -176,7 +179,8 @@ pub extern "C" fn puretakoi_probe_text(
     numbered(scanned(mode, src, label, at, end))
 }
 
-// The value of the same text, at the start of a part. The answer is 0, or a refusal and nothing is written: 8 where it does not fit.
+// The value of the same text, at the start of a part. The answer is 0, or a refusal and nothing is written: 8 where
+// it does not fit.
 #[unsafe(no_mangle)]
 pub extern "C" fn puretakoi_probe_value(
     mode: u32,
@@ -231,6 +235,7 @@ fn counted(scan: Option<number::Scanned>) -> Probed
 }
 
 // A number from `at` on: its kind, the place after it and how long its value is.
+// The tests stand in each: `NumberValued` and `asked_number` are clauses of their own.
 #[tactic(auto, using(crate::proofs::Literals::numbers_asked))]
 #[unsafe(no_mangle)]
 pub extern "C" fn puretakoi_probe_number(src: &[u8], at: usize, end: u32) -> Probed

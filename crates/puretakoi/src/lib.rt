@@ -1,5 +1,6 @@
-// Functions that a host in C or Rust calls; include/puretakoi.h tells each. A `&[u8]` crosses as a pointer and a length, a session and an
-// answer as lent numbers. Any numbers at all may come in: what can't be taken is refused by its number.
+// Functions that a host in C or Rust calls; include/puretakoi.h tells each. A `&[u8]` crosses as a pointer and a
+// length, a session and an answer as lent numbers. Any numbers at all may come in: what can't be taken is refused by
+// its number.
 // In order: the calls without a session; a fresh session; the step, the walk and the three readings; skip, push and
 // pop; the record file; the record under the finger.
 #![tactic(auto)]
@@ -134,7 +135,8 @@ pub extern "C" fn puretakoi_fresh(choices: u32, session: &mut [u32]) -> u32
     told_number(fresh(choices, session))
 }
 
-// A call and the steps after it, at most `most` in all. Where none is wanted, or the first is refused, the session stays as it was.
+// A call and the steps after it, at most `most` in all. Where none is wanted, or the first is refused, the session
+// stays as it was.
 // A sixth number of the answer, where there is one, tells how many were done.
 #[tactic(auto, using(crate::proofs::Calls::session_long, crate::proofs::Calls::answer_long, crate::proofs::Walks::turning))]
 fn turns(
@@ -163,6 +165,7 @@ fn turns(
 }
 
 // One step: the routine of the top frame reads on from the cursor.
+// One function a call, here and below: these are the names that a host in C knows.
 #[unsafe(no_mangle)]
 pub extern "C" fn puretakoi_step(
     src: &[u8],
@@ -177,7 +180,8 @@ pub extern "C" fn puretakoi_step(
     turns(Call::Step, src, end, 1, session, list, pool, answer)
 }
 
-// At most `most` steps, up to one that is not done. Where there is none, or the first is refused, the session stays as it was.
+// At most `most` steps, up to one that is not done. Where there is none, or the first is refused, the session stays
+// as it was.
 #[unsafe(no_mangle)]
 pub extern "C" fn puretakoi_walk(
     src: &[u8],

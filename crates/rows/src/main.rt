@@ -28,8 +28,9 @@ fn is_full(refusal: Refusal) -> bool {
     matches!(refusal, Refusal::ListFull | Refusal::PoolFull)
 }
 
-// Walks to the script's end; where a table is full the rows are printed and both are emptied, and they have room for any step. A step that
-// is done moves the cursor on or is the one after a `${`, so there are no more than two to a byte.
+// Walks to the script's end; where a table is full the rows are printed and both are emptied, and they have room for
+// any step. A step that is done moves the cursor on or is the one after a `${`, so there are no more than two to a
+// byte.
 fn print_script<W: Write>(out: &mut W, src: &[u8]) -> io::Result<()> {
     let mut list = [0u32; 2048];
     let mut pool = [0u8; 16384];

@@ -1,5 +1,6 @@
 // The closing line of a sheet block: where lines end, what a line is to the block, and the first one that closes it.
-// As request P1 has it, and the PHP manual: no identifier byte follows a closing label. The ported modes' closer is crate closer's.
+// As request P1 has it, and the PHP manual: no identifier byte follows a closing label. The ported modes' closer is
+// crate closer's.
 ghost use Rattle.std.specs.Prelude.{◌≡◌, [], ◌≤◌, ◌<◌, length, drop};
 ghost use Rattle.byte.specs.Bytes.{is_blank};
 ghost use Rattle.source.specs.Code.{RunEnd};
@@ -77,6 +78,7 @@ fn line_kind(line: &[u8], label: &[u8], end: bool) -> Line
 }
 
 // The first line from `at` on that closes the block.
+// Bounds in each contract, no type, as in closer.
 pub fn find_closer(src: &[u8], label: &[u8], at: usize, end: bool) -> Found
     requires { (at ≤ length src.now) × (length src.now ≤ 65536) × (length label.now ≤ 64) }
     ensures { result ≡ found (block label.now end at (lines (drop at src.now))) }

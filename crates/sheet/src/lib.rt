@@ -1,6 +1,7 @@
 // The sheet reading of a nowdoc block: the closing line's indentation comes off each row, and the last break goes.
 // Of document 01, with request P1, not of the Rust. A label has at most 64 bytes, a source at most 65,536.
-// In order: the closing line (closing); what is left of a line and of the body; the scan, which writes nothing; the writer.
+// In order: the closing line (closing); what is left of a line and of the body; the scan, which writes nothing; the
+// writer.
 #![tactic(auto)]
 
 ghost use Rattle.std.specs.Prelude.{◌≡◌, false, ◌+◌, ◌-◌, ◌≤◌, length, take, drop};
@@ -143,7 +144,9 @@ fn one_blank(indentation: Indentation) -> Option<u8>
     }
 }
 
-// The blank that a stop is indented with, a space before a label without an indentation; 0 where there is no one blank.
+// The blank that a stop is indented with, a space before a label without an indentation; 0 where there is no one
+// blank.
+// 0 and no Option, as the definition `blank_of` has it.
 #[tactic(auto, unfolding(crate::specs::Code::blank_of, crate::specs::Code::one_blank))]
 pub fn blank_of(stop: Stop) -> u8
     ensures { result ≡ blank_of stop }
@@ -212,7 +215,9 @@ pub fn scan_sheet(src: &[u8], label: &[u8], at: usize, end: bool) -> Scanned
     }
 }
 
-// The value of a body from `at` on, which was measured: its first `len` bytes without their indentation, at the start of a part.
+// The value of a body from `at` on, which was measured: its first `len` bytes without their indentation, at the
+// start of a part.
+// `blank` and `width` as Making::Sheet holds them; its clause `Left` makes the Indent.
 pub fn write_sheet(body: &[u8], at: usize, blank: u8, width: usize, len: usize, dst: &mut [u8])
     requires { Left (record { blank = blank; width = width }) body.now at len (length dst.old) }
     ensures { dst.new ≡ laid dst.old 0 (sheet_of (record { blank = blank; width = width }) at (drop at body.now)) }

@@ -1,4 +1,4 @@
--- The row in a numberss eight numbers (document 01, "Token list").
+-- The row in a record's eight numbers (document 01, "Token list").
 use Rattle.std.specs.Prelude.{ℕ, List, get_or}
 use Rattle.shown.specs.declared.Row.{Row}
 

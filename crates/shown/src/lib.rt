@@ -15,6 +15,7 @@ struct Place {
 }
 
 // A token's record: it prints as kind, place, detail and the value's length.
+// The fields of a Token, in a type of this crate: Display can be given to no other.
 #[derive(Clone, Copy)]
 pub struct Row {
     pub kind: u32,
@@ -28,13 +29,14 @@ pub struct Row {
 }
 
 // What a call is refused with: it prints as the refusal's number and the place.
+// As lookup's: Display can be given to a type of this crate alone.
 #[derive(Clone, Copy)]
 pub struct Refused {
     pub refusal: Refusal,
     pub span: Span,
 }
 
-// The row in the eight numbers of a record.
+// The row in the eight numbers of a record. No TryFrom: its error would have nothing to say.
 pub fn row_of(numbers: &[u32]) -> Option<Row>
     ensures { SomeIff result (length numbers.now ≡ 8) (row_of numbers.now) }
 {

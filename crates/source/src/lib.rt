@@ -21,6 +21,7 @@ pub struct Span {
 }
 
 // The first place from `at` on whose byte fails a test; the end where there is none.
+// The end and no Option: `RunEnd` tells where a run ends, and most callers go on from there.
 pub fn end_of<F: Fn(u8) -> bool>(src: &[u8], at: usize, test: F) -> usize
     requires inside { at ≤ length src.now }
     requires callable { F.IsAlwaysCallable test }
@@ -95,6 +96,7 @@ fn stop_blocks(src: &[u8], at: usize, w: u8, x: u8, y: u8, z: u8) -> usize
 }
 
 // The first place from `at` on where one of four bytes stands; the end where there is none.
+// Four bytes and no array: the definition `is_none_of` takes them one by one.
 pub fn stop_end(src: &[u8], at: usize, w: u8, x: u8, y: u8, z: u8) -> usize
     requires { at ≤ length src.now }
     ensures { RunEnd (is_none_of w x y z) src.now at result }
@@ -168,6 +170,7 @@ fn line_start(part: &[u8]) -> usize
 
 // The cursor past a part with LFs: they are counted, and only the last line's bytes make its column.
 // Never inlined, so that `past` is small and can be.
+// `as`, here and below: it fits by the contract, and `try_from` would bring an arm that never comes.
 #[inline(never)]
 #[tactic(auto, using(crate::proofs::Counts::passing_lines))]
 fn past_lines(part: &[u8], p: Span) -> Span

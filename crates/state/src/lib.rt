@@ -47,7 +47,8 @@ pub struct Slot {
 pub enum Reading {
     // As the Rust reads them.
     Ported,
-    // As a sheet: the closing line's indentation comes off each row, and no identifier byte stands after a closing label.
+    // As a sheet: the closing line's indentation comes off each row, and no identifier byte stands after a closing
+    // label.
     Sheet,
 }
 
@@ -60,6 +61,7 @@ pub struct Choices {
 }
 
 // Where a host is in its script, and how full its tables are. Frames from the depth on mean nothing.
+// The place as three numbers, no Span: a host's session has them in this order, and `moved` tells them so.
 #[derive(Clone, Copy)]
 pub struct Session {
     pub position: u32,
@@ -74,7 +76,8 @@ pub struct Session {
     pub choices: Choices,
 }
 
-// What came of a call. Three answers, as a host is told them, and beside each a session: no `?` would pass a refusal on.
+// What came of a call. Three answers, as a host is told them, and beside each a session: no `?` would pass a refusal
+// on.
 #[derive(Clone, Copy)]
 pub enum Answer {
     Done,
@@ -83,7 +86,7 @@ pub enum Answer {
     Refused { refusal: Refusal, span: Span },
 }
 
-// An answer, and the session after it. (A session holds an array, so the answer stands beside it.)
+// An answer, and the session after it: each of the three answers has one.
 #[derive(Clone, Copy)]
 pub struct Turn {
     pub answer: Answer,
@@ -134,6 +137,7 @@ pub fn refuse_at_gate(refusal: Refusal, s: Session) -> Turn
 fn is_label(src: &[u8], l: Label) -> bool
     ensures { result ≡ is_label src.now l }
 {
+    // `as`: with `usize::from` (tried) the proof wants the facts of two calls besides.
     let start = l.start as usize;
     let len = l.len as usize;
     let end = start + len;

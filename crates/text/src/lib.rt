@@ -1,6 +1,9 @@
-// The six text readings: single, double, double_quote, shell_exec, heredoc, nowdoc. One loop reads all; another finds a nowdoc's end.
-// Of the Rust: the two string routines and the four text modes of mod.rs. A label has at most 64 bytes, a source at most 65,536.
-// In order: what stands at a place in each mode (units); what a unit is to a text; its bytes into a part; the reader; the scan.
+// The six text readings: single, double, double_quote, shell_exec, heredoc, nowdoc. One loop reads all; another
+// finds a nowdoc's end.
+// Of the Rust: the two string routines and the four text modes of mod.rs. A label has at most 64 bytes, a source at
+// most 65,536.
+// In order: what stands at a place in each mode (units); what a unit is to a text; its bytes into a part; the
+// reader; the scan.
 #![tactic(auto)]
 
 ghost use Rattle.std.specs.Prelude.{◌≡◌, [], ◌∷◌, ◌-◌, ◌≤◌, ◌<◌, MatchOption, length, take, drop};
@@ -16,8 +19,8 @@ use unit::{Mode, Stop, TextUnit};
 
 mod units;
 
-// What a scan found: how many bytes the value has, what ended it, and from where to where that stands. A wait is no error
-// (the theorems on waiting tell it from refusals), so it has a name of its own, and no Result is made of the three.
+// What a scan found: how many bytes the value has, what ended it, and from where to where that stands.
+// A wait stands apart from the refusals, as `text_waits` and `text_never_waits` tell it: so no Result of the three.
 #[derive(Clone, Copy)]
 pub enum Scanned {
     Text {
@@ -33,7 +36,8 @@ pub enum Scanned {
     Wait,
 }
 
-// A unit that is text: how many bytes of the value it is, whether it is a break, also one from an escape, and the place after it.
+// A unit that is text: how many bytes of the value it is, whether it is a break, also one from an escape, and the
+// place after it.
 #[derive(Clone, Copy)]
 struct Piece {
     width: usize,
@@ -102,6 +106,7 @@ fn ended_as(m: Mode, len: usize, broken: bool, u: TextUnit) -> Scanned
 }
 
 // A text that is not closed.
+// As `last` of escape: one function for all types would take both answers, and say no more than this `if`.
 #[tactic(auto, unfolding(crate::specs::Code::unclosed))]
 fn unclosed(end: bool, place: usize) -> Scanned
     ensures { result ≡ unclosed end place }
@@ -169,6 +174,7 @@ fn put_unit(dst: &mut [u8], at: usize, u: TextUnit)
 
 // The text from `at` on, measured; a part gets the bytes read so far, as many as it has places.
 // Each turn passes a run of bytes that stand for themselves, and the unit after it.
+// Bounds in each contract, no type: a type for them would ask more of whoever calls.
 pub fn read_text(m: Mode, src: &[u8], label: &[u8], at: usize, end: bool, dst: &mut [u8]) -> Scanned
     requires { (at ≤ length src.now) × (length src.now ≤ 65536) × (length label.now ≤ 64) }
     ensures { Reads m src.now label.now at end dst.old result dst.new }
@@ -207,7 +213,8 @@ fn before_blanks(src: &[u8], from: usize, n: usize) -> usize
     }
 }
 
-// A nowdoc's text: from an LF on the label's first byte is looked for, and the label where blanks alone stand before it.
+// A nowdoc's text: from an LF on the label's first byte is looked for, and the label where blanks alone stand before
+// it.
 fn scan_label(src: &[u8], label: &[u8], at: usize, end: bool) -> Scanned
     requires { (at ≤ length src.now) × (length src.now ≤ 65536) × Searchable label.now }
     ensures { result ≡ measured (text_at Mode.Nowdoc label.now end at (drop at src.now)) }
@@ -252,7 +259,8 @@ fn scan_nowdoc(src: &[u8], label: &[u8], at: usize, end: bool, dst: &mut [u8]) -
     read_text(Mode::Nowdoc, src, label, at, end, dst)
 }
 
-// The same, but a nowdoc is found by its label, and then the part stays as it was: its text is the source's own bytes.
+// As `read_text`, but a nowdoc is found by its label, and then the part stays as it was: its text is the source's
+// own bytes.
 pub fn scan_text(m: Mode, src: &[u8], label: &[u8], at: usize, end: bool, dst: &mut [u8]) -> Scanned
     requires { (at ≤ length src.now) × (length src.now ≤ 65536) × (length label.now ≤ 64) }
     ensures { Scans m src.now label.now at end dst.old result dst.new }

@@ -84,7 +84,9 @@ pub struct Token {
     pub end: u32,
 }
 
-// Whether `count` records and `len` value bytes fit from the marks on: 7 or 8 where they don't. To be asked before any write.
+// Whether `count` records and `len` value bytes fit from the marks on: 7 or 8 where they don't. To be asked before
+// any write.
+// Numbers, no struct: Mark is the crate commit's, above this one.
 #[tactic(auto, unfolding(crate::specs::Records::room_refusal))]
 pub fn room(
     list: usize,
@@ -149,7 +151,8 @@ fn number_at(file: &[u8], at: usize) -> u32
     u32::from_le_bytes([file[at], file[at + 1], file[at + 2], file[at + 3]])
 }
 
-// Of so many places, `unit` to a record, and room for so many records: 11 for too many, 10 for a broken one, or `full`.
+// Of so many places, `unit` to a record, and room for so many records: 11 for too many, 10 for a broken one, or
+// `full`.
 #[tactic(auto, unfolding(crate::specs::Files::records_refusal))]
 fn records_refusal(size: usize, unit: usize, room: usize, full: Refusal) -> Result<(), Refusal>
     requires { 0 < unit }
@@ -207,6 +210,7 @@ fn put_numbers(list: &[u32], file: &mut [u8])
 }
 
 // The first `count` numbers of the file from the list's start on.
+// By index: std says nothing of a slice after an adapter of `iter_mut`.
 fn put_list(file: &[u8], count: usize, list: &mut [u32])
     requires { (count * 4 ≤ length file.now) × (count ≤ length list.old) }
     ensures { list.new ≡ laid list.old 0 (list_of count file.now) }
@@ -218,6 +222,7 @@ fn put_list(file: &[u8], count: usize, list: &mut [u32])
 
 // All records of a list as a file: 32 bytes a record, little-endian, no header.
 // Refused: a list over 65,537 tokens (11) or of no whole number of records (10), a file with less room (8).
+// An Answer, no Result: the clauses `ToFile` and `ToList` speak of one.
 #[tactic(auto, unfolding(crate::specs::Files::to_file_refusal, crate::specs::Files::file_answer, crate::specs::Files::file_after))]
 pub fn list_to_file(list: &[u32], file: &mut [u8]) -> Answer
     ensures { ToFile list.now file.old result file.new }
@@ -230,7 +235,8 @@ pub fn list_to_file(list: &[u32], file: &mut [u8]) -> Answer
 }
 
 // All records of a file as a list.
-// Refused: a file or a list over 65,537 tokens (11), a file of no whole number of records (10), a list with fewer places (7).
+// Refused: a file or a list over 65,537 tokens (11), a file of no whole number of records (10), a list with fewer
+// places (7).
 #[tactic(auto, unfolding(crate::specs::Files::to_list_refusal, crate::specs::Files::file_answer, crate::specs::Files::file_after))]
 pub fn file_to_list(file: &[u8], list: &mut [u32]) -> Answer
     ensures { ToList file.now list.old result list.new }

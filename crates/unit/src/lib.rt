@@ -1,5 +1,6 @@
 // What a text is made of: the words in which the six text readings, their units and what ends them are told.
-// The definitions and theorems over them stand in specs/ and proofs/; the code that follows them in the crates escape, interpolation, closer and text.
+// The definitions and theorems over them stand in specs/ and proofs/; the code that follows them in the crates
+// escape, interpolation, closer and text.
 #![tactic(auto)]
 
 use byte::{Octal, Refusal};
@@ -62,8 +63,8 @@ pub enum Stop {
     },
 }
 
-// What stands at a place of a text. `after` is the place after it. A table tells all five by name: a Result round three of
-// them would be taken apart at every place.
+// What stands at a place of a text. `after` is the place after it. A table tells all five by name: a Result round
+// three of them would be taken apart at every place.
 #[derive(Clone, Copy)]
 pub enum TextUnit {
     // One byte of the value.

@@ -1,5 +1,6 @@
-// The walk: a call and, where it is done, as many steps after it as are wanted, over the numbers of a host's session. The gate is asked
-// once; a slot is read where its frame is on top, and written where a step changes it; the place is read once and written once.
+// The walk: a call and, where it is done, as many steps after it as are wanted, over the numbers of a host's
+// session. The gate is asked once; a slot is read where its frame is on top, and written where a step changes it;
+// the place is read once and written once.
 // A step and each reading is a walk of one call.
 #![tactic(auto)]
 
@@ -117,6 +118,7 @@ fn frame_after(session: &[u32], depth: u32, f: Frame, change: Change) -> Frame
 }
 
 // Where steps end that only pass bytes, and how many are left there.
+// As `PassedOn` of modes, with the marks beside the place.
 #[derive(Clone, Copy)]
 struct Along {
     mark: Mark,
@@ -195,8 +197,10 @@ fn walk_on(
     }
 }
 
-// A call, and at most `most` in all with the steps after it, up to one that is not done: over the host's own numbers. The
-// gate is asked also where none is wanted. Where none is, or the first is refused, they stay as they were.
+// A call, and at most `most` in all with the steps after it, up to one that is not done: over the host's own
+// numbers. The gate is asked also where none is wanted. Where none is, or the first is refused, they stay as they
+// were.
+// Its parameters are what a host lends, one by one.
 #[tactic(auto, using(crate::proofs::Walks::walks))]
 pub fn turns(
     call: Call,
@@ -226,9 +230,9 @@ pub fn turns(
     walk_on(call, src, end, most, session, list, pool)
 }
 
-// The same with the session by value. With `most` 1 it is a step, in which the routine of the top frame reads on from the cursor; or a
-// reading: the number at the cursor, or the quoted string whose text starts there. 11 and 12 come first, then 10 for a reading without
-// Scripting on top, then what the routine refuses, 9, 7, 8.
+// The same with the session by value. With `most` 1 it is a step, in which the routine of the top frame reads on
+// from the cursor; or a reading: the number at the cursor, or the quoted string whose text starts there. 11 and 12
+// come first, then 10 for a reading without Scripting on top, then what the routine refuses, 9, 7, 8.
 pub fn calls(
     call: Call,
     src: &[u8],

@@ -1,9 +1,9 @@
 // Runs every worked sheet of document 01, starred or not, and of requests P1, P2 and P5 through step or a reading, and
 // prints what came of it: a line a text. A line is the letter, then each token (kind, line, column, position, detail,
-// length, and the value's bytes in hexadecimal), then `end` or `finished` and the position, or `refused`, the number and
-// its line, column and position.
-// A line of sheets x and y has marks in place of that, for 32 bytes from the one named on, as each follows a label: c where the block
-// closes, r where the label begins a row, w where the step waits.
+// length, and the value's bytes in hexadecimal), then `end` or `finished` and the position, or `refused`, the number
+// and its line, column and position.
+// A line of sheets x and y has marks in place of that, for 32 bytes from the one named on, as each follows a label:
+// c where the block closes, r where the label begins a row, w where the step waits.
 #![tactic(auto)]
 
 use byte::{Octal, Refusal};
@@ -191,7 +191,8 @@ fn block_sheets<W: Write>(out: &mut W) -> io::Result<()> {
     step(out, b'p', nowdoc(5), as_sheets(), b" a\n  EOT", true)
 }
 
-// Sheets q to w: a street whose name begins with the label, and the label at the end of a script and of a part. The last is ported.
+// Sheets q to w: a street whose name begins with the label, and the label at the end of a script and of a part. The
+// last is ported.
 fn caption_sheets<W: Write>(out: &mut W) -> io::Result<()> {
     let street = b"ab\nEOTstrasse\nc\nEOT;";
     step(out, b'q', nowdoc(16), as_sheets(), street, true)?;
