@@ -14,7 +14,7 @@ use outcome::{Change, CommentEnd, CommentKind};
 use plan::Plan;
 use token::Kind;
 
-// `src`, `at`, `end` stay parameters: each is told by `drop at src`, and no two functions have the same bounds.
+// `src`, `at`, `end` stay parameters: `slash` and `hash` are asked with them, and each place would be a new struct.
 
 // Whether this byte stands at a place.
 #[tactic(auto, using(crate::proofs::Ends::nexts))]

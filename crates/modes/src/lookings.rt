@@ -12,7 +12,7 @@ use plan::Plan;
 use state::Frame;
 use token::Kind;
 
-// `src`, `at`, `end` stay parameters: each is told by `drop at src`, and no two functions have the same bounds.
+// `src`, `at`, `end` stay parameters: the mode's routine is asked with them, and each place would be a new struct.
 
 // How many identifier bytes come, with the one before `at`; none where the part may end within them.
 #[tactic(auto, using(crate::proofs::Looks::naming))]
