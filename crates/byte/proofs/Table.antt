@@ -20,7 +20,7 @@ use lib.Seq.{get_or-append-add}
 use lib.Pow.{shr-shr}
 use Rattle.byte.specs.Bytes.{is_digit, is_octal, is_hex, is_letter, is_start, is_identifier, is_blank, is_none_of}
 use Rattle.byte.specs.Classes.{is_sign, is_alone, class_of}
-use Rattle.byte.specs.Code.{class_number, is_from, is_within, Table, one, binary, Bits, Holds}
+use Rattle.byte.specs.Code.{class_number, is_from, is_within, TableOf, Table, one, binary, Bits, Holds}
 use Rattle.byte.specs.declared.classes.Class.{Class}
 use Rattle.byte.proofs.Tests.{&&-left, &&-right}
 
@@ -184,15 +184,16 @@ module _ (first last : Class) (row : List Class) (i set bit : ℕ) (long : lengt
 
 -- ---- the table
 
-abbrev entry_at : List (List Class) → ℕ → Class
-entry_at rows b = get_or (get_or rows (b / 16) []) (b % 16) Class.S
+abbrev entry_of : {A : Type 0} → A → List (List A) → ℕ → A
+entry_of past rows b = get_or (get_or rows (b / 16) []) (b % 16) past
 
 -- The one test over the table, computed: it carries its rule to each entry.
-pub table_ruled : (rows : List (List Class)) → below 16 (λ (row : ℕ). eqb (length (get_or rows row [])) 16) ≡ true
-    → below 256 (λ (b : ℕ). eqb (class_number (entry_at rows b)) (class_of b)) ≡ true → Table rows
-table_ruled rows long right = record {
+pub table_ruled : {A : Type 0} (past : A) (number : A → ℕ) (rows : List (List A))
+    → below 16 (λ (row : ℕ). eqb (length (get_or rows row [])) 16) ≡ true
+    → below 256 (λ (b : ℕ). eqb (number (entry_of past rows b)) (class_of b)) ≡ true → TableOf past number rows
+table_ruled past number rows long right = record {
   wide = equal_each 16 (λ (row : ℕ). length (get_or rows row [])) (λ row. 16) long;
-  class = equal_each 256 (λ (b : ℕ). class_number (entry_at rows b)) class_of right;
+  class = equal_each 256 (λ (b : ℕ). number (entry_of past rows b)) class_of right;
 }
 
 -- what holds of an entry of a row, or of those after it

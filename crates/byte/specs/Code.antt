@@ -2,7 +2,8 @@
 --   class_number   the number of a class, as `class_of` tells it
 --   is_from        a class is one of those from the first to the last, told by their numbers
 --   is_within      the same, told by the classes
---   Table          sixteen entries in each of sixteen rows, each the class of its byte
+--   TableOf, Table   sixteen entries in each of sixteen rows, each the class of its byte: of any entries that have
+--                    numbers, and of classes
 --   one            1 if a test passes, else 0
 --   binary         the number whose bits say which entries of a list pass a test, the first entry's the lowest
 --   Bits           a number of sixteen bits is that of the entries which have one of these classes
@@ -27,9 +28,12 @@ is_from first last class = leb first class && leb class last
 abbrev pub is_within : Class → Class → Class → Bool
 is_within first last class = is_from (class_number first) (class_number last) (class_number class)
 
-pub record Table (rows : List (List Class)) : Type 0 where
+pub record TableOf {A : Type 0} (past : A) (number : A → ℕ) (rows : List (List A)) : Type 0 where
   pub wide : (row : ℕ) → row < 16 → length (get_or rows row []) ≡ 16
-  pub class : (b : ℕ) → b < 256 → class_number (get_or (get_or rows (b / 16) []) (b % 16) Class.S) ≡ class_of b
+  pub class : (b : ℕ) → b < 256 → number (get_or (get_or rows (b / 16) []) (b % 16) past) ≡ class_of b
+
+abbrev pub Table : List (List Class) → Type 0
+Table rows = TableOf Class.S class_number rows
 
 unfoldable pub one : Bool → ℕ
 one test = if test then 1 else 0

@@ -2,8 +2,9 @@
 // Of the Rust: the byte tests of its macros, and error.rs.
 #![tactic(auto, using(crate::proofs::Table::tests))]
 
-ghost use Rattle.std.specs.Prelude.{◌≡◌, ◌≤◌, if◌then◌else◌};
+ghost use Rattle.std.specs.Prelude.{ℕ, ◌≡◌, ◌≤◌, if◌then◌else◌};
 ghost use Rattle.byte.specs.Bytes.{is_digit, is_octal, is_hex, is_letter, is_start, is_identifier, is_blank, is_no_break, is_none_of};
+ghost use Rattle.byte.specs.declared.Refusal.{Refusal};
 ghost use Rattle.byte.specs.Refusals.{number_of};
 ghost use Rattle.byte.specs.Classes.{is_sign, is_alone, classes_of};
 
@@ -55,6 +56,49 @@ impl From<Refusal> for u32 {
             Refusal::BadSession => 12,
             Refusal::StrayIndentation => 13,
         }
+    }
+}
+
+// What names a refusal, and has a number: a Refusal, or any number itself.
+pub trait RefusalName: Copy {
+    ghost named: { Refusal → Self };
+
+    ghost number: { Self → ℕ };
+
+    // The name of a refusal.
+    fn named(refusal: Refusal) -> Self
+        ensures { result ≡ named refusal };
+
+    // The number by which a host knows what is named.
+    fn number(self) -> u32
+        ensures { result ≡ number self };
+}
+
+impl RefusalName for Refusal {
+    ghost named = { λ refusal. refusal };
+
+    ghost number = { number_of };
+
+    fn named(refusal: Refusal) -> Refusal {
+        refusal
+    }
+
+    fn number(self) -> u32 {
+        u32::from(self)
+    }
+}
+
+impl RefusalName for u32 {
+    ghost named = { number_of };
+
+    ghost number = { λ number. number };
+
+    fn named(refusal: Refusal) -> u32 {
+        u32::from(refusal)
+    }
+
+    fn number(self) -> u32 {
+        self
     }
 }
 

@@ -9,11 +9,13 @@ use borrow.Author.Tests.{ne_eqb}
 use Rattle.byte.specs.Refusals.{unexpected_end_of_file}
 use Rattle.byte.proofs.Words.{drop-one}
 use Rattle.token.specs.declared.Kind.{Kind}
+use Rattle.token.specs.Kinds.{kind_number}
 use Rattle.outcome.specs.declared.Change.{Change}
 use Rattle.outcome.specs.declared.CommentEnd.{CommentEnd}
 use Rattle.outcome.specs.declared.CommentKind.{CommentKind}
 use Rattle.outcome.specs.Comments.{is_next, end_taken, comment_end, endless, commented, comment_at, slash, hash}
 use Rattle.outcome.proofs.Comments.{comment_end_inside}
+use Rattle.byte.specs.declared.Refusal.{Refusal}
 use Rattle.plan.specs.declared.Plan.{Plan}
 use Rattle.plan.specs.Code.{Plans, copied_draft, goes_plan, one_plan, ending_plan}
 use Rattle.plan.proofs.Plans.{token_plans, refused_plans, wait_plans, sign_plans, last_sign_plans}
@@ -24,11 +26,12 @@ pub taken_arm : (kind arm : CommentKind) (r : ℕ) → kind ≡ arm → r ≡ en
 taken_arm kind arm r e h = rw e h
 
 module _ (kind : CommentKind) (src : List ℕ) (at : ℕ) (end : Bool) (h : at ≤ length src) where
-  pub endless_single : (r : Plan) → kind ≡ CommentKind.SingleLine
-      → r ≡ one_plan (copied_draft Kind.Comment 0 at at (at + (length src - at))) (at + (length src - at)) Change.Keep
+  pub endless_single : (r : Plan Refusal) (number : ℕ) → kind ≡ CommentKind.SingleLine
+      → r ≡ one_plan (copied_draft number 0 at at (at + (length src - at))) (at + (length src - at)) Change.Keep
+      → number ≡ kind_number Kind.Comment
       → Plans src end (endless kind at (drop at src)) r
   unfolding endless
-  endless_single r e p = rw (e, p, length-drop at src) (token_plans src end Kind.Comment at (length src - at) Change.Keep (omega arith))
+  endless_single r number e p n = rw (e, p, n, length-drop at src) (token_plans src end (kind_number Kind.Comment) at (length src - at) Change.Keep (omega arith))
 
   pub endless_multi : kind ≡ CommentKind.MultiLine
       → Plans src end (endless kind at (drop at src)) (Plan.Refused unexpected_end_of_file (length src))
@@ -54,12 +57,14 @@ module _ (kind : CommentKind) (k : ℕ) (src : List ℕ) (at : ℕ) (end : Bool)
     pub taken_small : length src ≤ 65536 → j + taken < 2 ^ 64
     taken_small s = omega (arith, taken_inside)
 
-    pub comment_token : (r : Plan) → r ≡ one_plan (copied_draft Kind.Comment 0 at at (at + (j + taken))) (at + (j + taken)) Change.Keep
+    pub comment_token : (r : Plan Refusal) (number : ℕ)
+        → r ≡ one_plan (copied_draft number 0 at at (at + (j + taken))) (at + (j + taken)) Change.Keep
+        → number ≡ kind_number Kind.Comment
         → Plans src end (comment_at kind k end at (drop at src) (drop (at + k) src)) r
     unfolding commented
-    comment_token r p = rw (← f, e, p, ← t) (token_plans src end Kind.Comment at (j + taken) Change.Keep taken_inside)
+    comment_token r number p n = rw (← f, e, p, n, ← t) (token_plans src end (kind_number Kind.Comment) at (j + taken) Change.Keep taken_inside)
 
-  pub comment_endless : (r : Plan) → found ≡ CommentEnd.Over → Plans src end (endless kind at (drop at src)) r
+  pub comment_endless : (r : Plan Refusal) → found ≡ CommentEnd.Over → Plans src end (endless kind at (drop at src)) r
       → Plans src end (comment_at kind k end at (drop at src) (drop (at + k) src)) r
   unfolding commented
   comment_endless r e p = rw (← f, e) p
@@ -73,12 +78,12 @@ pub ruleset commenting = (taken_short, taken_small, comment_token, comment_endle
 -- ---- `/` and `#`
 
 module _ (src : List ℕ) (end : Bool) (at : ℕ) where
-  pub slash_past : length src ≤ at + 1 → (p r : Plan) → p ≡ goes_plan (at + 1) Change.Keep → r ≡ ending_plan end p
+  pub slash_past : length src ≤ at + 1 → (p r : Plan Refusal) → p ≡ goes_plan (at + 1) Change.Keep → r ≡ ending_plan end p
       → Plans src end (slash end at (drop at src) (drop (at + 1) src)) r
   unfolding slash
   slash_past past p r e f = rw (drop_of_length-le src past) (last_sign_plans src end at r p e f)
 
-  module _ (h : at + 1 < length src) (r : Plan) where
+  module _ (h : at + 1 < length src) (r : Plan Refusal) where
     two : at + 1 + 1 ≡ at + 2
     two = omega arith
 
@@ -100,7 +105,7 @@ module _ (src : List ℕ) (end : Bool) (at : ℕ) where
     slash_other b c e =
         rw (drop-one src (at + 1) h, ne_eqb (get_or src (at + 1) 0) 47 b, ne_eqb (get_or src (at + 1) 0) 42 c) (sign_plans src end at r e)
 
-  module _ (flag : Bool) (f : flag ≡ is_next 91 (drop (at + 1) src)) (r : Plan) where
+  module _ (flag : Bool) (f : flag ≡ is_next 91 (drop (at + 1) src)) (r : Plan Refusal) where
     pub hash_goes : flag ≡ true → r ≡ goes_plan (at + 1) Change.Keep → Plans src end (hash end at (drop at src) (drop (at + 1) src)) r
     unfolding hash
     hash_goes t e = rw (← f, t) (sign_plans src end at r e)

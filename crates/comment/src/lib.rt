@@ -107,7 +107,7 @@ fn endless(kind: CommentKind, src: &[u8], at: usize, end: bool) -> Plan
 {
     match kind {
         CommentKind::SingleLine => {
-            plan::one_token(Kind::Comment, at, src.len() - at, Change::Keep)
+            plan::one_token(u32::from(Kind::Comment), at, src.len() - at, Change::Keep)
         }
         CommentKind::MultiLine => Plan::Refused {
             refusal: Refusal::UnexpectedEndOfFile,
@@ -125,7 +125,7 @@ fn comment(kind: CommentKind, src: &[u8], at: usize, k: usize, end: bool) -> Pla
     match comment_end(kind, src, at, k, end) {
         CommentEnd::At(j) => {
             let len = j + end_taken(kind);
-            plan::one_token(Kind::Comment, at, len, Change::Keep)
+            plan::one_token(u32::from(Kind::Comment), at, len, Change::Keep)
         }
         CommentEnd::Over => endless(kind, src, at, end),
         CommentEnd::Undecided => Plan::Wait,

@@ -9,22 +9,26 @@
 --   is_full                a frame would be the 65th
 --   advanced, Advances     the numbers after so many tokens and value bytes, and that they fit
 --   Commits, Works         what `commit` asks of its plan, and of what the plan tells
---   Committed              what it gives
+--   Committed              what it gives of an outcome
+--   renamed, CommittedAs   a next whose refusal bears another name; what is given of an outcome, so renamed
+--   plan_next, plan_tables, CommittedPlan   what `commit` gives of a plan, whose own refusal may be of any kind
 use Rattle.std.specs.Prelude.{ℕ, ◌+◌, ◌*◌, ◌/◌, ◌≤◌, Bool, false, List, [], ◌∷◌, ◌≡◌, leb, length}
 use Rattle.source.specs.declared.Span.{Span}
+use Rattle.state.specs.declared.Answer.{Answer}
 use Rattle.token.specs.declared.Token.{Token}
-use Rattle.token.specs.Kinds.{kind_number}
 use Rattle.outcome.specs.declared.Change.{Change}
-use Rattle.outcome.specs.Outcomes.{Piece, Outcome}
-use Rattle.outcome.specs.Insides.{AllInside, ToldInside, Inside}
+use Rattle.outcome.specs.Outcomes.{Piece, Outcome, limited}
+use Rattle.outcome.specs.Insides.{AllInside, ToldInside}
 use Rattle.plan.specs.declared.Draft.{Draft}
 use Rattle.plan.specs.declared.Drafts.{Drafts}
 use Rattle.plan.specs.declared.Work.{Work}
+use Rattle.byte.specs.declared.Refusal.{Refusal}
+use Rattle.byte.specs.Refusals.{wait}
 use Rattle.plan.specs.declared.Plan.{Plan}
-use Rattle.plan.specs.Code.{drafts_of, pieces_of, Ready, AllReady, DraftsReady, outcome_of, PlanReady}
+use Rattle.plan.specs.Code.{drafts_of, pieces_of, Ready, AllReady, DraftsReady, outcome_of}
 use Rattle.commit.specs.declared.Mark.{Mark}
 use Rattle.commit.specs.declared.Next.{Next}
-use Rattle.commit.specs.Records.{span_at, put_piece, put, answer_of, reached}
+use Rattle.commit.specs.Records.{span_at, Tables, put_piece, put, answer_of, stays, reached}
 
 unfoldable pub total_of : List Draft → ℕ
 total_of [] = 0
@@ -57,7 +61,7 @@ pub record Marked (src : List ℕ) (m : Mark) (list pool : ℕ) : Type 0 where
 -- the token of a draft of a step that ends at `after`
 abbrev pub draft_token : List ℕ → ℕ → Mark → Draft → Token
 draft_token src after m d = record {
-  kind = kind_number d.kind;
+  kind = d.kind;
   detail = d.detail;
   span = span_at src m.span d.place;
   start = m.bytes;
@@ -119,7 +123,7 @@ is_full (Change.Enter f) depth = leb 64 depth
 is_full Change.Leave depth = false
 
 -- the numbers after count tokens with len value bytes
-abbrev pub advanced : List ℕ → Mark → Work → ℕ → ℕ → Next
+abbrev pub advanced : {R : Type 0} → List ℕ → Mark → Work → ℕ → ℕ → Next R
 advanced src m w count len = record {
   answer = answer_of w.finished;
   mark = record { span = span_at src m.span w.after; tokens = m.tokens + count; bytes = m.bytes + len };
@@ -131,21 +135,57 @@ pub record Advances (src : List ℕ) (m : Mark) (w : Work) (count len : ℕ) : T
   pub places : m.tokens + count ≤ 65537
   pub room : m.bytes + len ≤ 65536
 
--- what `commit` asks: the plan can be written, and its outcome lies from the cursor on
-pub record Commits (src : List ℕ) (end : Bool) (scratch : List ℕ) (m : Mark) (plan : Plan)
-    (list pool : ℕ) : Type 0 where
-  pub marked : Marked src m list pool
-  pub ready : PlanReady plan src end scratch
-  pub inside : Inside m.span.position (length src) (outcome_of src end plan)
-
--- the same of what a plan tells
+-- what a plan tells can be written, and lies from the cursor on
 pub record Works (src : List ℕ) (end : Bool) (scratch : List ℕ) (m : Mark) (w : Work) (list pool : ℕ) : Type 0 where
   pub marked : Marked src m list pool
   pub ready : DraftsReady w.drafts src end scratch
   pub inside : ToldInside m.span.position (length src) (pieces_of src end w.drafts) w.after
 
+-- what `commit` asks: what the plan tells can be written, and a place that it refuses lies from the cursor on
+pub record Commits {R : Type 0} (src : List ℕ) (end : Bool) (scratch : List ℕ) (m : Mark) (plan : Plan R)
+    (list pool : ℕ) : Type 0 where
+  pub marked : Marked src m list pool
+  pub told : (w : Work) → plan ≡ Plan.Told w → Works src end scratch m w list pool
+  pub refused : (refusal : R) (place : ℕ) → plan ≡ Plan.Refused refusal place → Ahead src m.span place
+
 -- what `commit` gives of an outcome
-pub record Committed (src : List ℕ) (m : Mark) (l q : List ℕ) (o : Outcome) (r : Next) (l' q' : List ℕ) : Type 0 where
+pub record Committed (src : List ℕ) (m : Mark) (l q : List ℕ) (o : Outcome) (r : Next Refusal) (l' q' : List ℕ) : Type 0 where
   pub next : r ≡ (reached src m (record { list = l; pool = q }) o).next
   pub list : l' ≡ (reached src m (record { list = l; pool = q }) o).tables.list
   pub pool : q' ≡ (reached src m (record { list = l; pool = q }) o).tables.pool
+
+-- an answer and a next whose refusal, if there is one, bears another name
+abbrev pub answer_renamed : {R : Type 0} → (Refusal → R) → Answer Refusal → Answer R
+answer_renamed name Answer.Done = Answer.Done
+answer_renamed name Answer.Finished = Answer.Finished
+answer_renamed name (Answer.Refused refusal span) = Answer.Refused (name refusal) span
+
+abbrev pub renamed : {R : Type 0} → (Refusal → R) → Next Refusal → Next R
+renamed name x = record { answer = answer_renamed name x.answer; mark = x.mark; change = x.change }
+
+-- what is given of an outcome where refusals bear these names
+pub record CommittedAs {R : Type 0} (name : Refusal → R) (src : List ℕ) (m : Mark) (l q : List ℕ) (o : Outcome)
+    (r : Next R) (l' q' : List ℕ) : Type 0 where
+  pub next : r ≡ renamed name (reached src m (record { list = l; pool = q }) o).next
+  pub list : l' ≡ (reached src m (record { list = l; pool = q }) o).tables.list
+  pub pool : q' ≡ (reached src m (record { list = l; pool = q }) o).tables.pool
+
+-- a plan's own refusal stays as it is
+unfoldable pub plan_next : {R : Type 0} → (Refusal → R) → List ℕ → Bool → Mark → ℕ → Tables → Plan R → Next R
+plan_next name src end m depth t (Plan.Told w) =
+    renamed name (reached src m t (limited depth m.span.position (outcome_of src end (Plan.Told w)))).next
+plan_next name src end m depth t (Plan.Refused refusal place) = stays refusal (span_at src m.span place) m
+plan_next name src end m depth t Plan.Wait = stays (name wait) m.span m
+
+unfoldable pub plan_tables : {R : Type 0} → List ℕ → Bool → Mark → ℕ → Tables → Plan R → Tables
+plan_tables src end m depth t (Plan.Told w) =
+    (reached src m t (limited depth m.span.position (outcome_of src end (Plan.Told w)))).tables
+plan_tables src end m depth t (Plan.Refused refusal place) = t
+plan_tables src end m depth t Plan.Wait = t
+
+-- what `commit` gives of a plan; what it refuses itself bears these names
+pub record CommittedPlan {R : Type 0} (name : Refusal → R) (src : List ℕ) (end : Bool) (m : Mark) (depth : ℕ) (l q : List ℕ)
+    (plan : Plan R) (r : Next R) (l' q' : List ℕ) : Type 0 where
+  pub next : r ≡ plan_next name src end m depth (record { list = l; pool = q }) plan
+  pub list : l' ≡ (plan_tables src end m depth (record { list = l; pool = q }) plan).list
+  pub pool : q' ≡ (plan_tables src end m depth (record { list = l; pool = q }) plan).pool

@@ -67,22 +67,22 @@ abbrev pub room_for : Mark → Tables → List Piece → Result (Unit {0}) Refus
 room_for m t pieces =
     room_refusal (length t.list) (length t.pool) m.tokens m.bytes (length pieces) (length (values pieces))
 
-abbrev pub answer_of : Bool → Answer
+abbrev pub answer_of : {R : Type 0} → Bool → Answer R
 answer_of finished = if finished then Answer.Finished else Answer.Done
 
 -- what a step comes to, and what the tables then hold
 pub record Reached : Type 0 where
-  pub next : Next
+  pub next : Next Refusal
   pub tables : Tables
 
-abbrev pub stays : Refusal → Span → Mark → Next
+abbrev pub stays : {R : Type 0} → R → Span → Mark → Next R
 stays refusal span m = record {
   answer = Answer.Refused refusal span;
   mark = m;
   change = Change.Keep;
 }
 
-abbrev pub advances : List ℕ → Mark → List Piece → ℕ → Change → Bool → Next
+abbrev pub advances : List ℕ → Mark → List Piece → ℕ → Change → Bool → Next Refusal
 advances src m pieces after change finished = record {
   answer = answer_of finished;
   mark = record {

@@ -6,14 +6,14 @@
 ghost use Rattle.std.specs.Prelude.{◌≡◌, ◌+◌, ◌*◌, ◌≤◌, length};
 ghost use Rattle.byte.specs.Laid.{laid};
 ghost use Rattle.token.specs.Records.{record_of};
-ghost use Rattle.outcome.specs.Outcomes.{limited};
 ghost use Rattle.plan.specs.declared.Plan.{Plan};
 ghost use Rattle.plan.specs.Code.{made, piece_of, drafts_of, pieces_of, outcome_of};
 ghost use Rattle.commit.specs.Records.{span_at, answer_of, stays};
 ghost use Rattle.commit.specs.Code.{draft_token, total_of, Ahead, Writes, Drawn, DraftFits, DraftPut, past_draft, PastFits};
-ghost use Rattle.commit.specs.Code.{DraftsFit, DraftsPut, is_full, advanced, Advances, Works, Commits, Committed};
+ghost use Rattle.commit.specs.Code.{DraftsFit, DraftsPut, is_full, advanced, Advances, Works, Commits};
+ghost use Rattle.commit.specs.Code.{CommittedAs, CommittedPlan};
 
-use byte::Refusal;
+use byte::{Refusal, RefusalName};
 use outcome::Change;
 use plan::{Draft, Drafts, Making, Plan, Work};
 use source::Span;
@@ -32,8 +32,8 @@ pub struct Mark {
 
 // What a step comes to, without the session: answer, cursor, marks and the change of frame.
 #[derive(Clone, Copy)]
-pub struct Next {
-    pub answer: Answer,
+pub struct Next<R = Refusal> {
+    pub answer: Answer<R>,
     pub mark: Mark,
     pub change: Change,
 }
@@ -61,7 +61,7 @@ pub fn span_at(src: &[u8], p: Span, place: usize) -> Span
 }
 
 // A refusal: the numbers are as they were.
-fn stay(refusal: Refusal, span: Span, m: Mark) -> Next
+fn stay<R: Copy>(refusal: R, span: Span, m: Mark) -> Next<R>
     ensures { result ≡ stays refusal span m }
 {
     Next {
@@ -105,7 +105,7 @@ fn token_of(src: &[u8], after: usize, m: Mark, d: Draft) -> Token
     ensures { result ≡ draft_token src.now after m d }
 {
     Token {
-        kind: u32::from(d.kind),
+        kind: d.kind,
         detail: d.detail as u32,
         span: span_at(src, m.span, d.place),
         start: m.bytes,
@@ -201,7 +201,7 @@ fn is_full(change: Change, depth: u32) -> bool
 }
 
 // Done, or nothing is left to read.
-fn answer_of(finished: bool) -> Answer
+fn answer_of<R: Copy>(finished: bool) -> Answer<R>
     ensures { result ≡ answer_of finished }
 {
     if finished {
@@ -212,7 +212,7 @@ fn answer_of(finished: bool) -> Answer
 }
 
 // The numbers after `count` tokens with `len` value bytes.
-fn advance(src: &[u8], m: Mark, w: Work, count: u32, len: u32) -> Next
+fn advance<R: Copy>(src: &[u8], m: Mark, w: Work, count: u32, len: u32) -> Next<R>
     requires { Advances src.now m w count len }
     ensures { result ≡ advanced src.now m w count len }
 {
@@ -233,43 +233,50 @@ fn advance(src: &[u8], m: Mark, w: Work, count: u32, len: u32) -> Next
 
 // What a plan tells, where no frame is the 65th: refused where there is no room, else written.
 #[tactic(auto, using(crate::proofs::Nexts::works))]
-fn write_work(step: Step, m: Mark, w: Work, list: &mut [u32], pool: &mut [u8]) -> Next
+fn write_work<R: RefusalName>(
+    step: Step,
+    m: Mark,
+    w: Work,
+    list: &mut [u32],
+    pool: &mut [u8],
+) -> Next<R>
     requires works { Works step.src.now step.end step.scratch.now m w (length list.old) (length pool.old) }
     requires ends { step.after ≡ w.after }
-    ensures { Committed step.entry.src.now m list.old pool.old (outcome_of step.entry.src.now step.entry.end (Plan.Told w)) result list.new pool.new }
+    ensures { CommittedAs R.named step.entry.src.now m list.old pool.old (outcome_of step.entry.src.now step.entry.end (Plan.Told w)) result list.new pool.new }
 {
     let drafts = w.drafts;
     let count = count_of(drafts);
     let len = total(drafts) as u32;
     let room = token::room(list.len(), pool.len(), m.tokens, m.bytes, count, len);
     if let Err(refusal) = room {
-        return stay(refusal, m.span, m);
+        return stay(R::named(refusal), m.span, m);
     }
     put_drafts(step, m, drafts, list, pool);
     advance(step.src, m, w, count, len)
 }
 
 // A plan becomes numbers, records and value bytes, or a refusal. Order: what the plan refuses, 9, 7, 8.
+// The plan's own refusal is passed on as it is, be it a Refusal or any number.
 // A value that is held stands in the scratch part.
 #[tactic(auto, using(crate::proofs::Nexts::commits))]
-pub fn commit(
+pub fn commit<R: RefusalName>(
     src: &[u8],
     end: bool,
     m: Mark,
     depth: u32,
-    plan: Plan,
+    plan: Plan<R>,
     scratch: &[u8],
     list: &mut [u32],
     pool: &mut [u8],
-) -> Next
+) -> Next<R>
     requires { Commits src.now end scratch.now m plan (length list.old) (length pool.old) }
-    ensures { Committed src.now m list.old pool.old (limited depth m.span.position (outcome_of src.now end plan)) result list.new pool.new }
+    ensures { CommittedPlan R.named src.now end m depth list.old pool.old plan result list.new pool.new }
 {
     match plan {
         Plan::Told(w) => {
             let change = w.change;
             if is_full(change, depth) {
-                return stay(Refusal::StackFull, m.span, m);
+                return stay(R::named(Refusal::StackFull), m.span, m);
             }
             let after = w.after;
             let step = Step {
@@ -284,6 +291,6 @@ pub fn commit(
             let span = span_at(src, m.span, place);
             stay(refusal, span, m)
         }
-        Plan::Wait => stay(Refusal::Wait, m.span, m),
+        Plan::Wait => stay(R::named(Refusal::Wait), m.span, m),
     }
 }

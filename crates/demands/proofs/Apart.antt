@@ -15,6 +15,7 @@ use lib.ListN.{length, get_or, drop, set}
 use lib.Seq.{get_or-set_same}
 use Rattle.byte.proofs.Refusals.{same_here}
 use Rattle.byte.specs.Refusals.{wait}
+use Rattle.byte.specs.declared.Refusal.{Refusal}
 use Rattle.source.specs.declared.Span.{Span}
 use Rattle.state.specs.declared.Frame.{Frame}
 use Rattle.state.specs.declared.Session.{Session}
@@ -133,7 +134,7 @@ module _ (s : Session) (some : 1 ≤ s.depth) (slots : s.depth ≤ length s.fram
 
 -- ---- outcomes
 
-answers_apart : (x y : Bool) → answer_of x ≡ answer_of y → x ≡ y
+answers_apart : (x y : Bool) → answer_of {R = Refusal} x ≡ answer_of y → x ≡ y
 answers_apart true true e = refl
 answers_apart true false e = absurd (let z : ◌≡◌ {A = ℕ} 0 1 = cc in omega arith)
 answers_apart false true e = absurd (let z : ◌≡◌ {A = ℕ} 0 1 = cc in omega arith)

@@ -13,6 +13,7 @@ use lib.ListN.{length, length-append}
 use lib.Seq.{take-append_seam}
 use Rattle.byte.specs.Words.{every}
 use Rattle.byte.specs.Demand.{is_byte}
+use Rattle.byte.specs.declared.Refusal.{Refusal}
 use Rattle.state.specs.declared.Answer.{Answer}
 use Rattle.state.specs.declared.Choices.{Choices}
 use Rattle.state.specs.declared.Session.{Session}
@@ -32,7 +33,7 @@ use Rattle.demands.proofs.Waiting.{call_waits_exactly}
 -- ---- walks that have ended
 
 -- the walk has come to an end: its last step was not merely done
-abbrev pub Ended : Answer → Type 0
+abbrev pub Ended : Answer Refusal → Type 0
 Ended Answer.Done = ⊥
 Ended Answer.Finished = Unit {0}
 Ended (Answer.Refused refusal span) = Unit {0}
@@ -48,7 +49,7 @@ walk_more (suc m) k src end s l q e =
     rw (suc-add m k)
     (go now.turn.answer now _ _ (λ f. walk_more m k src end now.turn.session now.list now.pool f) e)
   where
-    go : (a : Answer) (now later later' : After) → (Ended later.turn.answer → later' ≡ later)
+    go : (a : Answer Refusal) (now later later' : After) → (Ended later.turn.answer → later' ≡ later)
         → Ended (gone_on a now later).turn.answer
         → gone_on a now later' ≡ gone_on a now later
     go Answer.Done now later later' same f = same f
@@ -72,21 +73,21 @@ module _ (n : ℕ) (src : List ℕ) (end : Bool) (s : Session) (l q : List ℕ) 
   unfolding walked gone_on
   walked_on e = rw e
 
-  pub walked_last : (a : Answer) → (stepped src end s l q).turn.answer ≡ a → Ended a
+  pub walked_last : (a : Answer Refusal) → (stepped src end s l q).turn.answer ≡ a → Ended a
       → walked (suc n) src end s l q ≡ stepped src end s l q
   unfolding walked gone_on
   walked_last Answer.Done e f = absurd f
   walked_last Answer.Finished e f = rw e
   walked_last (Answer.Refused refusal span) e f = rw e
 
-wait_refused : (a : Answer) → is_wait a ≡ true → Ended a
+wait_refused : (a : Answer Refusal) → is_wait a ≡ true → Ended a
 unfolding is_wait
 wait_refused Answer.Done e = absurd (false≢true e)
 wait_refused Answer.Finished e = tt
 wait_refused (Answer.Refused refusal span) e = tt
 
 -- a refusal keeps session, list and pool, so a step more from there is the step again
-wait_kept : (a : Answer) (src : List ℕ) (s : Session) (l q : List ℕ) → (stepped src false s l q).turn.answer ≡ a → is_wait a ≡ true
+wait_kept : (a : Answer Refusal) (src : List ℕ) (s : Session) (l q : List ℕ) → (stepped src false s l q).turn.answer ≡ a → is_wait a ≡ true
     → ((stepped src false s l q).turn.session ≡ s) × ((stepped src false s l q).list ≡ l) × ((stepped src false s l q).pool ≡ q)
 unfolding is_wait
 wait_kept Answer.Done src s l q e f = absurd (false≢true f)
@@ -101,7 +102,7 @@ module _ (part rest : List ℕ) (bytes : every is_byte part ≡ true) (short : l
     abbrev partly : After
     partly = stepped part false s l q
 
-    over_fate : (a : Answer) → partly.turn.answer ≡ a → is_wait a ≡ false → Ended a → stepped (part ++ rest) true s l q ≡ partly
+    over_fate : (a : Answer Refusal) → partly.turn.answer ≡ a → is_wait a ≡ false → Ended a → stepped (part ++ rest) true s l q ≡ partly
         → Fate (suc n) part (part ++ rest) s l q (walked (suc n) part false s l q)
     over_fate a e f k g =
         same (rw (walked_last n part false s l q a e k, e) f)
@@ -110,7 +111,7 @@ module _ (part rest : List ℕ) (bytes : every is_byte part ≡ true) (short : l
         ∙ sym (walked_last n (part ++ rest) true s l q a (ap (λ (x : After). x.turn.answer) g ∙ e) k))
 
     -- the step is settled: it is the longer script's, and the walk goes on from there or is over
-    settled_fate : (a : Answer) → partly.turn.answer ≡ a → is_wait a ≡ false → stepped (part ++ rest) true s l q ≡ partly
+    settled_fate : (a : Answer Refusal) → partly.turn.answer ≡ a → is_wait a ≡ false → stepped (part ++ rest) true s l q ≡ partly
         → StaysSound part l q partly
         → Fate n part (part ++ rest) partly.turn.session partly.list partly.pool
         (walked n part false partly.turn.session partly.list partly.pool)
@@ -139,7 +140,7 @@ module _ (part rest : List ℕ) (bytes : every is_byte part ≡ true) (short : l
     settled_fate Answer.Finished e f g k ih = over_fate Answer.Finished e f tt g
     settled_fate (Answer.Refused refusal span) e f g k ih = over_fate (Answer.Refused refusal span) e f tt g
 
-    waiting_fate : (a : Answer) → partly.turn.answer ≡ a → is_wait a ≡ true → StaysSound part l q partly
+    waiting_fate : (a : Answer Refusal) → partly.turn.answer ≡ a → is_wait a ≡ true → StaysSound part l q partly
         → Fate (suc n) part (part ++ rest) s l q (walked (suc n) part false s l q)
     waiting_fate a e f k =
         let last = walked_last n part false s l q a e (wait_refused a f) in

@@ -14,6 +14,7 @@ use borrow.Author.Tests.{leb-true, leb-false}
 use Rattle.byte.specs.declared.Octal.{Octal}
 use Rattle.byte.specs.Demand.{is_byte}
 use Rattle.byte.specs.Words.{every}
+use Rattle.byte.specs.declared.Refusal.{Refusal}
 use Rattle.state.specs.declared.Answer.{Answer}
 use Rattle.state.specs.declared.Choices.{Choices}
 use Rattle.state.specs.declared.Session.{Session}
@@ -140,7 +141,7 @@ kept_edges s t l l' count onward e x =
       stated = λ i h. subst IsStated (sym (same i h)) (x.stated i (omega (arith, h, count)));
     }
 
-stays_edges : (src : List ℕ) (s : Session) (l : List ℕ) (t : Turn) → Stays src s t → Edges l s → Edges l t.session
+stays_edges : (src : List ℕ) (s : Session) (l : List ℕ) (t : Turn Refusal) → Stays src s t → Edges l s → Edges l t.session
 stays_edges src s l t k = kept_edges s t.session l l k.tokens k.onward refl
 
 pub filled_edges : (s : Session) (l q : List ℕ) → Filled s l q → Edges l s
@@ -228,7 +229,7 @@ module _ (src : List ℕ) (end : Bool) where
             x.written;
       }
 
-      go : (answer : Answer) → now.turn.answer ≡ answer → StepOf (suc n) src end s l q i
+      go : (answer : Answer Refusal) → now.turn.answer ≡ answer → StepOf (suc n) src end s l q i
       go Answer.Done e =
           side now.turn.session.tokens i
           (λ old.

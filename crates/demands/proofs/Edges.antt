@@ -13,6 +13,7 @@ use Rattle.std.specs.Prelude.{Ok}
 use Rattle.byte.specs.Words.{every}
 use Rattle.byte.proofs.Tests.{&&-left, &&-right}
 use Rattle.byte.specs.Laid.{laid}
+use Rattle.byte.specs.declared.Refusal.{Refusal}
 use Rattle.state.specs.declared.Answer.{Answer}
 use Rattle.state.specs.declared.Session.{Session}
 use Rattle.state.specs.Calls.{span_of}
@@ -171,7 +172,7 @@ module _ (call : Call) (src : List ℕ) (s : Session) (l q : List ℕ) where
         written = t;
       })
 
-  none_new : (answer : Answer)
+  none_new : (answer : Answer Refusal)
       → NewAfter call src s (record { turn = record { answer = answer; session = s }; list = l; pool = q })
   none_new answer k new = absurd (omega (arith, new.0, new.1))
 

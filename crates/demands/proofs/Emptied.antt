@@ -18,6 +18,7 @@ use Rattle.byte.specs.Refusals.{wait}
 use Rattle.byte.specs.Words.{every}
 use Rattle.byte.specs.Demand.{is_byte}
 use Rattle.byte.proofs.Tests.{choice}
+use Rattle.byte.specs.declared.Refusal.{Refusal}
 use Rattle.state.specs.declared.Answer.{Answer}
 use Rattle.state.specs.declared.Choices.{Choices}
 use Rattle.state.specs.declared.Session.{Session}
@@ -98,7 +99,7 @@ before_emptied z x later e = rw (sym e, ap (λ (h : Handed). h.tokens) (hands_ha
 
 -- where the answer passes this test, and so does not lack room, what comes later is handed too: in tables that stay,
 -- and in tables that are emptied
-module _ (test : Answer → Bool) (roomy : (a : Answer) → test a ≡ true → lacks_room a ≡ false) (l q : List ℕ)
+module _ (test : Answer Refusal → Bool) (roomy : (a : Answer Refusal) → test a ≡ true → lacks_room a ≡ false) (l q : List ℕ)
     (now : After) (h : Handed) (on : Session → Handed) where
   abbrev whole : Handed
   whole = if test h.answer then before h (on h.session) else h
@@ -125,13 +126,13 @@ module _ (test : Answer → Bool) (roomy : (a : Answer) → test a ≡ true → 
 
 -- ---- many steps
 
-done_room : (a : Answer) → is_done a ≡ true → lacks_room a ≡ false
+done_room : (a : Answer Refusal) → is_done a ≡ true → lacks_room a ≡ false
 unfolding is_done lacks_room
 done_room Answer.Done e = refl
 done_room Answer.Finished e = refl
 done_room (Answer.Refused refusal span) e = absurd (false≢true e)
 
-go_on_done : (a : Answer) (now later : After) → gone_on a now later ≡ (if is_done a then later else now)
+go_on_done : (a : Answer Refusal) (now later : After) → gone_on a now later ≡ (if is_done a then later else now)
 unfolding gone_on is_done
 go_on_done Answer.Done now later = refl
 go_on_done Answer.Finished now later = refl
@@ -155,7 +156,7 @@ module _ (src : List ℕ) (end : Bool) where
       go now.turn.answer now _ k
       (walk_sound n now.turn.session now.list now.pool (rw (k.list, k.pool) k.sound))
     where
-      go : (a : Answer) (now later : After) → StaysSound src l q now → StaysSound src now.list now.pool later
+      go : (a : Answer Refusal) (now later : After) → StaysSound src l q now → StaysSound src now.list now.pool later
           → StaysSound src l q (gone_on a now later)
       go Answer.Done now later x y =
           record {
@@ -234,7 +235,7 @@ fed_handed n src (part ∷ more) s =
     let now = walk_handed n src false s in
     if is_wait now.answer then before now (fed_handed n (src ++ part) more now.session) else now
 
-wait_room : (a : Answer) → is_wait a ≡ true → lacks_room a ≡ false
+wait_room : (a : Answer Refusal) → is_wait a ≡ true → lacks_room a ≡ false
 unfolding is_wait lacks_room
 wait_room Answer.Done e = refl
 wait_room Answer.Finished e = refl

@@ -84,7 +84,7 @@ scripting_owes (slot ∷ frames) (suc i) = scripting_owes frames i
 
 -- ---- a step
 
-done_finished : Answer.Finished ≡ Answer.Done → ⊥
+done_finished : ◌≡◌ {A = Answer Refusal} Answer.Finished Answer.Done → ⊥
 done_finished e = let y : ◌≡◌ {A = ℕ} 0 1 = cc in omega arith
 
 module _ (src : List ℕ) (s : Session) (l q : List ℕ) where
@@ -151,7 +151,7 @@ walk_falls (suc n) src end s l q h less =
     walk_falls n src end now.turn.session now.list now.pool (rw (sound.list, sound.pool) sound.sound)
     (omega (arith, step_falls src s l q h end d)))
   where
-    go : (a : Answer) (now later : After) → now.turn.answer ≡ a → (a ≡ Answer.Done → Ended later.turn.answer)
+    go : (a : Answer Refusal) (now later : After) → now.turn.answer ≡ a → (a ≡ Answer.Done → Ended later.turn.answer)
         → Ended (gone_on a now later).turn.answer
     go Answer.Done now later e ends = ends refl
     go Answer.Finished now later e ends = rw e tt

@@ -60,9 +60,9 @@ module _ (src : List ℕ) (s : Session) (l q : List ℕ) where
       (refusing_kept wait (span_of s)) (call_outcome call src end s))
       (λ refusal e. refusing_kept refusal origin)
 
-pub gives_one : (a : After) (r r' : Turn) (l l' q q' : List ℕ) → Gives a r l q → Gives a r' l' q' → (r ≡ r') × (l ≡ l') × (q ≡ q')
+pub gives_one : (a : After) (r r' : Turn Refusal) (l l' q q' : List ℕ) → Gives a r l q → Gives a r' l' q' → (r ≡ r') × (l ≡ l') × (q ≡ q')
 gives_one a r r' l l' q q' x y = (x.turn ∙ sym y.turn, x.list ∙ sym y.list, x.pool ∙ sym y.pool)
 
-pub committed_one : (src : List ℕ) (m : Mark) (l q : List ℕ) (o : Outcome) (r r' : Next) (l₁ l₂ q₁ q₂ : List ℕ)
+pub committed_one : (src : List ℕ) (m : Mark) (l q : List ℕ) (o : Outcome) (r r' : Next Refusal) (l₁ l₂ q₁ q₂ : List ℕ)
     → Committed src m l q o r l₁ q₁ → Committed src m l q o r' l₂ q₂ → (r ≡ r') × (l₁ ≡ l₂) × (q₁ ≡ q₂)
 committed_one src m l q o r r' l₁ l₂ q₁ q₂ x y = (x.next ∙ sym y.next, x.list ∙ sym y.list, x.pool ∙ sym y.pool)

@@ -131,18 +131,18 @@ module _ (call : Call) (src : List ℕ) (end : Bool) (s : Session) (rust : s.cho
 
 -- ---- many steps
 
-abbrev Later : Answer → After → After → After → Type 0
+abbrev Later : Answer Refusal → After → After → After → Type 0
 Later a now later later' =
     NotThree (gone_on a now later)
     → gone_on a (chosen_after Octal.Manual now) later' ≡ chosen_after Octal.Manual (gone_on a now later)
 
-go_on_three : (a : Answer) (now later : After) → now.turn.answer ≡ a → NotThree (gone_on a now later) → NotThree now
+go_on_three : (a : Answer Refusal) (now later : After) → now.turn.answer ≡ a → NotThree (gone_on a now later) → NotThree now
 unfolding gone_on
 go_on_three Answer.Done now later x h = λ span e. done_told (sym x ∙ e)
 go_on_three Answer.Finished now later x h = h
 go_on_three (Answer.Refused refusal place) now later x h = h
 
-go_on_chosen : (a : Answer) (now later later' : After) → Chosen later later' → Later a now later later'
+go_on_chosen : (a : Answer Refusal) (now later later' : After) → Chosen later later' → Later a now later later'
 unfolding gone_on
 go_on_chosen Answer.Done now later later' x h = x h
 go_on_chosen Answer.Finished now later later' x h = refl
@@ -206,7 +206,7 @@ fed_choices n src (part ∷ more) s l q =
     (λ e. fed_choices n (src ++ part) more now.turn.session now.list now.pool ∙ first) (λ e. first)
 
 -- a wait is no 3
-wait_three : (a : Answer) → is_wait a ≡ true → (span : Span) → a ≡ Answer.Refused invalid_octal_escape span → ⊥
+wait_three : (a : Answer Refusal) → is_wait a ≡ true → (span : Span) → a ≡ Answer.Refused invalid_octal_escape span → ⊥
 unfolding is_wait
 wait_three a w span e = false≢true (sym (ap is_wait e) ∙ w)
 
@@ -240,14 +240,14 @@ fed_chosen n src (part ∷ more) s rust l q h =
 
 -- ---- how many are done
 
-counted_chosen : (a : Answer) (k k' : ℕ) → (a ≡ Answer.Done → k' ≡ k) → counted a k' ≡ counted a k
+counted_chosen : (a : Answer Refusal) (k k' : ℕ) → (a ≡ Answer.Done → k' ≡ k) → counted a k' ≡ counted a k
 unfolding counted
 counted_chosen Answer.Done k k' x = ap suc (x refl)
 counted_chosen Answer.Finished k k' x = refl
 counted_chosen (Answer.Refused refusal span) k k' x = refl
 
 -- after a call that is done the walk is no 3 either
-go_on_done : (a : Answer) (now later : After) → a ≡ Answer.Done → NotThree (gone_on a now later) → NotThree later
+go_on_done : (a : Answer Refusal) (now later : After) → a ≡ Answer.Done → NotThree (gone_on a now later) → NotThree later
 unfolding gone_on
 go_on_done a now later e h = rw e at h
 

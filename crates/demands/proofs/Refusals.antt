@@ -148,10 +148,10 @@ module _ (call : Call) (src : List ℕ) (end : Bool) (s : Session) (l q : List �
 
 -- ---- many steps
 
-refuses_more : (refused others : List Refusal) → AllIn others refused → (a : Answer) → Refuses refused a → Refuses others a
+refuses_more : (refused others : List Refusal) → AllIn others refused → (a : Answer Refusal) → Refuses refused a → Refuses others a
 refuses_more refused others part a r = record { among = λ n p f. among_every _ refused part n (r.among n p f) }
 
-go_on_refuses : (refused : List Refusal) (a : Answer) (now later : After) → Refuses refused now.turn.answer
+go_on_refuses : (refused : List Refusal) (a : Answer Refusal) (now later : After) → Refuses refused now.turn.answer
     → Refuses refused later.turn.answer → Refuses refused (gone_on a now later).turn.answer
 unfolding gone_on
 go_on_refuses refused Answer.Done now later x y = y

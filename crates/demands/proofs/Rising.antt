@@ -21,6 +21,7 @@ use Rattle.byte.specs.Laid.{laid}
 use Rattle.source.specs.declared.Span.{Span}
 use Rattle.byte.proofs.Tests.{choice}
 use Rattle.source.proofs.Cursor.{passed_position}
+use Rattle.byte.specs.declared.Refusal.{Refusal}
 use Rattle.state.specs.declared.Answer.{Answer}
 use Rattle.state.specs.declared.Session.{Session}
 use Rattle.state.specs.declared.Turn.{Turn}
@@ -178,7 +179,7 @@ call_rising src s l q call end o =
     (λ refusal e. o)
 
 -- what holds after the step and after the walk that goes on holds after both
-pub go_on_either : (P : After → Type 0) (a : Answer) (now later : After) → P now → P later → P (gone_on a now later)
+pub go_on_either : (P : After → Type 0) (a : Answer Refusal) (now later : After) → P now → P later → P (gone_on a now later)
 unfolding gone_on
 go_on_either P Answer.Done now later x y = y
 go_on_either P Answer.Finished now later x y = x
@@ -210,7 +211,7 @@ lent_ordered s l l' e o = record {
 }
 
 -- a cursor that goes on keeps the order, as after skip, push and pop
-pub stays_rising : (src : List ℕ) (s : Session) (l : List ℕ) (t : Turn) → Stays src s t → Ordered l s
+pub stays_rising : (src : List ℕ) (s : Session) (l : List ℕ) (t : Turn Refusal) → Stays src s t → Ordered l s
     → Ordered l t.session
 stays_rising src s l t k o = record {
   inside = rw k.tokens o.inside;

@@ -68,7 +68,7 @@ module _ (call : Call) (src : List ℕ) (end : Bool) (s : Session) (l q : List �
 abbrev pub next : List ℕ → Bool → After → After
 next src end a = stepped src end a.turn.session a.list a.pool
 
-ended_undone : (a : Answer) → Ended a → a ≡ Answer.Done → ⊥
+ended_undone : (a : Answer Refusal) → Ended a → a ≡ Answer.Done → ⊥
 ended_undone a h e = subst Ended e h
 
 -- a walk after its first step: it goes on, or the step is the last
@@ -77,10 +77,10 @@ module _ (src : List ℕ) (end : Bool) (s : Session) (l q : List ℕ) where
   now = stepped src end s l q
 
   stepped_ways : (P : Type 0) → (now.turn.answer ≡ Answer.Done → P)
-      → ((a : Answer) → now.turn.answer ≡ a → Ended a → P) → P
+      → ((a : Answer Refusal) → now.turn.answer ≡ a → Ended a → P) → P
   stepped_ways P on over = go now.turn.answer refl
     where
-      go : (a : Answer) → now.turn.answer ≡ a → P
+      go : (a : Answer Refusal) → now.turn.answer ≡ a → P
       go Answer.Done e = on e
       go Answer.Finished e = over Answer.Finished e tt
       go (Answer.Refused refusal span) e = over (Answer.Refused refusal span) e tt
@@ -145,7 +145,7 @@ module _ (src : List ℕ) (end : Bool) where
       (walk_last n _ _ _ (subst (λ (x : After). Ended x.turn.answer) on h))))
       (λ a e k. over a e k)
     where
-      over : (a : Answer) → (now src end s l q).turn.answer ≡ a → Ended a
+      over : (a : Answer Refusal) → (now src end s l q).turn.answer ≡ a → Ended a
           → WalkEnds (suc n) (steps_done (suc n) src end s l q) s l q
       over Answer.Done e k = absurd k
       over Answer.Finished e k =

@@ -103,11 +103,11 @@ pub record Wrote (s : Session) (l q : List ℕ) (a : After) (ts : List Taken) : 
 pub wrote_new : {s : Session} {l q : List ℕ} {a : After} {ts : List Taken} → Wrote s l q a ts → new_in s a ≡ ts
 wrote_new {a = a} w = w.new a.list a.pool refl refl
 
-pub grows_none : (s : Session) (l q : List ℕ) (answer : Answer)
+pub grows_none : (s : Session) (l q : List ℕ) (answer : Answer Refusal)
     → Grows s l q (record { turn = record { answer = answer; session = s }; list = l; pool = q })
 grows_none s l q answer = record { tokens = omega arith; bytes = omega arith; list = refl; pool = refl }
 
-pub wrote_none : (s : Session) (l q : List ℕ) (answer : Answer)
+pub wrote_none : (s : Session) (l q : List ℕ) (answer : Answer Refusal)
     → Wrote s l q (record { turn = record { answer = answer; session = s }; list = l; pool = q }) []
 unfolding taken_in
 wrote_none s l q answer =
@@ -234,12 +234,12 @@ module _ (src : List ℕ) (s : Session) (l q : List ℕ) where
   settled_hands Outcome.Wait = λ f. record { wrote = wrote_none s l q _; answer = refl; session = refl }
 
 -- the answer is no refusal
-abbrev pub Answered : Answer → Type 0
+abbrev pub Answered : Answer Refusal → Type 0
 Answered Answer.Done = Unit {0}
 Answered Answer.Finished = Unit {0}
 Answered (Answer.Refused refusal span) = ⊥
 
-pub answered_room : (a : Answer) → Answered a → lacks_room a ≡ false
+pub answered_room : (a : Answer Refusal) → Answered a → lacks_room a ≡ false
 unfolding lacks_room
 answered_room Answer.Done r = refl
 answered_room Answer.Finished r = refl

@@ -14,6 +14,7 @@
 use Rattle.std.specs.Prelude.{ℕ, zero, suc, ◌-◌, ◌*◌, Bool, true, false, ◌||◌, List, [], ◌∷◌, ◌++◌, get_or, take, drop, if◌then◌else◌}
 use Rattle.byte.specs.Refusals.{list_full, pool_full, is_same}
 use Rattle.source.specs.declared.Span.{Span}
+use Rattle.byte.specs.declared.Refusal.{Refusal}
 use Rattle.state.specs.declared.Answer.{Answer}
 use Rattle.state.specs.declared.Session.{Session}
 use Rattle.outcome.specs.Outcomes.{Piece}
@@ -70,14 +71,14 @@ emptied s = record {
   choices = s.choices;
 }
 
-unfoldable pub lacks_room : Answer → Bool
+unfoldable pub lacks_room : Answer Refusal → Bool
 lacks_room (Answer.Refused refusal span) = is_same refusal list_full || is_same refusal pool_full
 lacks_room Answer.Done = false
 lacks_room Answer.Finished = false
 
 pub record Handed : Type 0 where
   pub tokens : List Taken
-  pub answer : Answer
+  pub answer : Answer Refusal
   pub session : Session
 
 -- what a call from an emptied session gives to its host

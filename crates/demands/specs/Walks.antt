@@ -11,6 +11,7 @@
 --                it, the session, list and pool as the wait found them; after the last part the end is announced
 use Rattle.std.specs.Prelude.{ℕ, zero, suc, Bool, true, false, List, [], ◌∷◌, ◌++◌, if◌then◌else◌}
 use Rattle.byte.specs.Refusals.{wait, is_same}
+use Rattle.byte.specs.declared.Refusal.{Refusal}
 use Rattle.state.specs.declared.Answer.{Answer}
 use Rattle.state.specs.declared.Session.{Session}
 use Rattle.state.specs.Calls.{done}
@@ -18,7 +19,7 @@ use Rattle.outcome.specs.declared.Call.{Call}
 use Rattle.lexer.specs.Turns.{After}
 use Rattle.lexer.specs.Calls.{gated, called, stepped}
 
-unfoldable pub gone_on : Answer → After → After → After
+unfoldable pub gone_on : Answer Refusal → After → After → After
 gone_on Answer.Done now later = later
 gone_on Answer.Finished now later = now
 gone_on (Answer.Refused refusal span) now later = now
@@ -36,7 +37,7 @@ called_on call (suc n) src end s list pool =
     gone_on now.turn.answer now (walked n src end now.turn.session now.list now.pool)
 
 -- one more where the answer is done
-unfoldable pub counted : Answer → ℕ → ℕ
+unfoldable pub counted : Answer Refusal → ℕ → ℕ
 counted Answer.Done later = suc later
 counted Answer.Finished later = 0
 counted (Answer.Refused refusal span) later = 0
@@ -53,12 +54,12 @@ calls_done call (suc n) src end s list pool =
     let now = called call src end s list pool in
     counted now.turn.answer (steps_done n src end now.turn.session now.list now.pool)
 
-unfoldable pub is_done : Answer → Bool
+unfoldable pub is_done : Answer Refusal → Bool
 is_done Answer.Done = true
 is_done Answer.Finished = false
 is_done (Answer.Refused refusal span) = false
 
-unfoldable pub is_wait : Answer → Bool
+unfoldable pub is_wait : Answer Refusal → Bool
 is_wait (Answer.Refused refusal span) = is_same refusal wait
 is_wait Answer.Done = false
 is_wait Answer.Finished = false

@@ -23,11 +23,11 @@ pub record Makes (src : List ℕ) (end : Bool) (scratch : List ℕ) (p : Piece) 
 module _ {scratch : List ℕ} (src : List ℕ) (end : Bool) where
   module _ (kind : Kind) (place : ℕ) (value : List ℕ) where
     pub copied_makes : (from len : ℕ) → from + len ≤ length src → value ≡ take len (drop from src)
-        → Makes src end scratch (piece (kind_number kind) place value) (copied_draft kind 0 place from (from + len))
+        → Makes src end scratch (piece (kind_number kind) place value) (copied_draft (kind_number kind) 0 place from (from + len))
     unfolding made_by
     copied_makes from len inside same =
         let n : from + len - from ≡ len = omega arith in
-        record { told = rw (n, same); ready = plan.copied_ready src end kind 0 place from (from + len) (omega arith) inside }
+        record { told = rw (n, same); ready = plan.copied_ready src end (kind_number kind) 0 place from (from + len) (omega arith) inside }
 
     pub made_makes : (making : Making) (from to : ℕ) → Able making src scratch from to (length value) value
         → made_by making src end from to ≡ value

@@ -59,11 +59,11 @@ module _ (at : ℕ) (scan : Scanned) (h : Placed at scan) (len : ℕ) (stop : St
   placed_order = placed.1
 
 module _ (mode : Mode) (place : ℕ) (label : Label) (at room : ℕ) (scan : Scanned) where
-  pub read_plan_arm : (arm : Scanned) (r : Plan) → scan ≡ arm → r ≡ read_plan mode place label at room arm
+  pub read_plan_arm : (arm : Scanned) (r : Plan Refusal) → scan ≡ arm → r ≡ read_plan mode place label at room arm
       → r ≡ read_plan mode place label at room scan
   read_plan_arm arm r a e = rw a e
 
-  module _ (len : ℕ) (stop : Stop) (from after : ℕ) (d : Draft) (r : Plan)
+  module _ (len : ℕ) (stop : Stop) (from after : ℕ) (d : Draft) (r : Plan Refusal)
       (a : scan ≡ Scanned.Text len stop from after) (held : Bool) (h : held ≡ is_held mode len room)
       (making : Making) (g : making ≡ text_making mode label held) (found : Option Kind)
       (k : found ≡ literal_kind mode) where
@@ -272,7 +272,7 @@ module _ (mode : Mode) (src : List ℕ) (label : Label) (end : Bool) (at : ℕ) 
     pub text_placed : Placed at scan
     text_placed = rw (s.told, p) (reading_placed mode at (length src) (drop at src) _ text-read)
 
-    pub text_planned : (place : ℕ) (r : Plan) → r ≡ read_plan mode place label at (length scratch) scan
+    pub text_planned : (place : ℕ) (r : Plan Refusal) → r ≡ read_plan mode place label at (length scratch) scan
         → PlansIn src end scratch (read_text mode src label end place at) r
     text_planned place r e =
         let holds : Holds mode src label end at scratch =

@@ -17,7 +17,7 @@ use Rattle.state.specs.declared.Label.{Label}
 use Rattle.state.specs.declared.Reading as session
 use Rattle.state.specs.Bounds.{label_bytes}
 use Rattle.token.specs.declared.Kind.{Kind}
-use Rattle.token.specs.Kinds.{string_part}
+use Rattle.token.specs.Kinds.{kind_number, string_part}
 use Rattle.unit.specs.declared.Mode.{Mode}
 use Rattle.unit.specs.declared.Stop.{Stop}
 use Rattle.unit.specs.Readings as unit
@@ -91,14 +91,14 @@ module _ {scratch : List ℕ} (mode : Mode) (src : List ℕ) (end : Bool) (at : 
   read-plans (unit.Text value stop from after) e i =
       rw (slice_source src at from after (omega (arith, i.narrow)), ← stop_numbered mode stop)
       (parted_plans src end after (stop_change stop) string_part at value _
-      (λ k. copied_draft (stop_kind mode stop) (stop_detail stop) k from after)
+      (λ k. copied_draft (kind_number (stop_kind mode stop)) (stop_detail stop) k from after)
       (makes value stop from after e)
-      (λ k. copied_ready src end (stop_kind mode stop) (stop_detail stop) k from after i.order i.inside))
+      (λ k. copied_ready src end (kind_number (stop_kind mode stop)) (stop_detail stop) k from after i.order i.inside))
   read-plans (unit.Refused refusal place) e i = record { told = refl; ready = tt }
   read-plans unit.Wait e i = record { told = refl; ready = tt }
 
   scan_plans : unit-inside.InsideReading refusals at (length src) read → (scan arm : Scanned) → scan ≡ text-scans.measured read → scan ≡ arm
-      → (r : Plan) → r ≡ text_work mode draft arm → PlansIn src end scratch (texted mode at (drop at src) read) r
+      → (r : Plan Refusal) → r ≡ text_work mode draft arm → PlansIn src end scratch (texted mode at (drop at src) read) r
   scan_plans i scan arm s a r e =
       let work : r ≡ text_work mode draft (text-scans.measured read) = e ∙ rw (← a, s) in
       rw work (read-plans read refl i)
@@ -126,7 +126,7 @@ module _ (src : List ℕ) (label : Label) (end : Bool) (at : ℕ) (here : Here s
 
   module _ (part : List ℕ) (p : part ≡ label_bytes src label) (scan : Scanned)
       (s : scan ≡ text-scans.measured (sheet_at part end at (drop at src))) where
-    pub sheet_arm : (arm : Scanned) (r : Plan) → scan ≡ arm → r ≡ text_work Mode.Nowdoc (sheet_draft at) arm
+    pub sheet_arm : (arm : Scanned) (r : Plan Refusal) → scan ≡ arm → r ≡ text_work Mode.Nowdoc (sheet_draft at) arm
         → Plans src end (nowdoc session.Reading.Sheet (label_bytes src label) end at (drop at src)) r
     unfolding nowdoc
     sheet_arm arm r a e =
@@ -134,7 +134,7 @@ module _ (src : List ℕ) (label : Label) (end : Bool) (at : ℕ) (here : Here s
         (rw (all_left src at here.inside) at (sheet_inside (label_bytes src label) end at (drop at src))) scan arm (s ∙ rw p) a r e
 
     module _ (len : ℕ) (stop : Stop) (from after : ℕ) (a : scan ≡ Scanned.Text len stop from after) where
-      pub sheet_parted : (d : Draft) (r : Plan) → d ≡ sheet_draft at len stop from → r ≡ text_plan Mode.Nowdoc d stop from after
+      pub sheet_parted : (d : Draft) (r : Plan Refusal) → d ≡ sheet_draft at len stop from → r ≡ text_plan Mode.Nowdoc d stop from after
           → Plans src end (nowdoc session.Reading.Sheet (label_bytes src label) end at (drop at src)) r
       unfolding text_work
       sheet_parted d r m e = sheet_arm (Scanned.Text len stop from after) r a (e ∙ rw m)
@@ -170,13 +170,13 @@ module _ (place : ℕ) (src : List ℕ) (end : Bool) (at : ℕ) (here : Here src
   number_plans numbers.Reading.Wait e = record { told = refl; ready = tt }
 
   module _ (scan : Option number.Scanned) (s : scan ≡ numbers.scanned (numbers.number_at end at (drop at src))) where
-    number_arm : (arm : Option number.Scanned) (r : Plan) → scan ≡ arm → r ≡ number_work place at arm
+    number_arm : (arm : Option number.Scanned) (r : Plan Refusal) → scan ≡ arm → r ≡ number_work place at arm
         → Plans src end (numbered place (numbers.number_at end at (drop at src))) r
     number_arm arm r a e =
         let work : r ≡ number_work place at (numbers.scanned (numbers.number_at end at (drop at src))) = e ∙ rw (← a, s) in
         rw work (number_plans (numbers.number_at end at (drop at src)) refl)
 
-    pub number_found : (found : number.Scanned) (kind : Kind) (d : Draft) (r : Plan) → scan ≡ Some found
+    pub number_found : (found : number.Scanned) (kind : Kind) (d : Draft) (r : Plan Refusal) → scan ≡ Some found
         → kind ≡ number_kind found.literal → d ≡ made_draft kind place Making.Number at found.after found.len
         → r ≡ one_plan d found.after Change.Keep
         → Plans src end (numbered place (numbers.number_at end at (drop at src))) r

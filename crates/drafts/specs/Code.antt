@@ -19,6 +19,7 @@ use Rattle.std.specs.Prelude.{ℕ, Option, Some, None, ◌+◌, ◌-◌, ◌≤�
 use Rattle.state.specs.declared.Frame.{Frame}
 use Rattle.state.specs.declared.Label.{Label}
 use Rattle.token.specs.declared.Kind.{Kind}
+use Rattle.token.specs.Kinds.{kind_number}
 use Rattle.unit.specs.declared.Indentation.{Indentation}
 use Rattle.unit.specs.declared.Mode.{Mode}
 use Rattle.unit.specs.declared.Stop.{Stop}
@@ -31,6 +32,7 @@ use Rattle.outcome.specs.declared.Change.{Change}
 use Rattle.outcome.specs.Texts.{stop_detail, stop_change, is_left}
 use Rattle.plan.specs.declared.Making.{Making}
 use Rattle.plan.specs.declared.Draft.{Draft}
+use Rattle.byte.specs.declared.Refusal.{Refusal}
 use Rattle.plan.specs.declared.Plan.{Plan}
 use Rattle.plan.specs.Code.{copied_draft, one_plan, parted_plan}
 
@@ -63,7 +65,7 @@ number_kind Literal.Float = Kind.LiteralFloat
 
 abbrev pub made_draft : Kind → ℕ → Making → ℕ → ℕ → ℕ → Draft
 made_draft kind place making from to len =
-    record { kind = kind; detail = 0; place = place; making = making; from = from; to = to; len = len }
+    record { kind = kind_number kind; detail = 0; place = place; making = making; from = from; to = to; len = len }
 
 -- a nowdoc's label is looked for, and nothing is written
 unfoldable pub is_held : Mode → ℕ → ℕ → Bool
@@ -80,22 +82,22 @@ text_making mode label held = if held then Making.Held mode label else Making.Te
 -- a text that passed no more bytes than it has was not escaped
 unfoldable pub text_draft : Kind → ℕ → Making → ℕ → ℕ → Stop → ℕ → Draft
 text_draft kind place making at len stop from =
-    if eqb (at + len) (text_end stop from) then copied_draft kind 0 place at (at + len)
+    if eqb (at + len) (text_end stop from) then copied_draft (kind_number kind) 0 place at (at + len)
     else made_draft kind place making at from len
 
 -- without an indentation it is the source's own bytes
 unfoldable pub sheet_draft : ℕ → ℕ → Stop → ℕ → Draft
 sheet_draft at len stop from =
-    if eqb (stop_detail stop) 0 then copied_draft Kind.StringPart 0 at at (at + len)
+    if eqb (stop_detail stop) 0 then copied_draft (kind_number Kind.StringPart) 0 at at (at + len)
     else made_draft Kind.StringPart at (Making.Sheet (blank_of stop) (stop_detail stop)) at (from - stop_detail stop) len
 
 -- both tokens bear the span where the call began
-unfoldable pub text_plan : Mode → Draft → Stop → ℕ → ℕ → Plan
+unfoldable pub text_plan : Mode → Draft → Stop → ℕ → ℕ → Plan Refusal
 text_plan mode part stop from after =
-    parted_plan part (copied_draft (stop_kind mode stop) (stop_detail stop) part.place from after) after (stop_change stop)
+    parted_plan part (copied_draft (kind_number (stop_kind mode stop)) (stop_detail stop) part.place from after) after (stop_change stop)
 
 -- where a text of so many bytes before a stop makes this draft
-unfoldable pub text_work : Mode → (ℕ → Stop → ℕ → Draft) → Scanned → Plan
+unfoldable pub text_work : Mode → (ℕ → Stop → ℕ → Draft) → Scanned → Plan Refusal
 text_work mode draft (Scanned.Text len stop from after) = text_plan mode (draft len stop from) stop from after
 text_work mode draft (Scanned.Refused refusal place) = Plan.Refused refusal place
 text_work mode draft Scanned.Wait = Plan.Wait
@@ -109,7 +111,7 @@ literal_kind (Mode.Heredoc octals) = None
 literal_kind Mode.Nowdoc = None
 
 -- before an interpolation, which is left, it is a part
-unfoldable pub literal_plan : Draft → Bool → ℕ → Plan
+unfoldable pub literal_plan : Draft → Bool → ℕ → Plan Refusal
 literal_plan d left after = one_plan d after (if left then Change.Swap Frame.DoubleQuote else Change.Keep)
 
 unfoldable pub Placed : ℕ → Scanned → Type 0
@@ -118,24 +120,24 @@ Placed at (Scanned.Refused refusal place) = Unit {0}
 Placed at Scanned.Wait = Unit {0}
 
 -- a mode's text, or a literal of a kind
-unfoldable pub text_read_plan : Option Kind → Mode → ℕ → Making → ℕ → ℕ → Stop → ℕ → ℕ → Plan
+unfoldable pub text_read_plan : Option Kind → Mode → ℕ → Making → ℕ → ℕ → Stop → ℕ → ℕ → Plan Refusal
 text_read_plan None mode place making at len stop from after =
     text_plan mode (text_draft Kind.StringPart at making at len stop from) stop from after
 text_read_plan (Some kind) mode place making at len stop from after =
     literal_plan (text_draft (if is_left stop then Kind.StringPart else kind) place making at len stop from) (is_left stop) after
 
 -- the text starts at `at`; a literal's token bears the span of `place`; the scratch part has `room` bytes
-unfoldable pub read_plan : Mode → ℕ → Label → ℕ → ℕ → Scanned → Plan
+unfoldable pub read_plan : Mode → ℕ → Label → ℕ → ℕ → Scanned → Plan Refusal
 read_plan mode place label at room (Scanned.Text len stop from after) =
     let making = text_making mode label (is_held mode len room) in
     text_read_plan (literal_kind mode) mode place making at len stop from after
 read_plan mode place label at room (Scanned.Refused refusal fault) = Plan.Refused refusal fault
 read_plan mode place label at room Scanned.Wait = Plan.Wait
 
-unfoldable pub number_plan : ℕ → ℕ → Literal → ℕ → ℕ → Plan
+unfoldable pub number_plan : ℕ → ℕ → Literal → ℕ → ℕ → Plan Refusal
 number_plan place at literal after len =
     one_plan (made_draft (number_kind literal) place Making.Number at after len) after Change.Keep
 
-unfoldable pub number_work : ℕ → ℕ → Option number.Scanned → Plan
+unfoldable pub number_work : ℕ → ℕ → Option number.Scanned → Plan Refusal
 number_work place at (Some scan) = number_plan place at scan.literal scan.after scan.len
 number_work place at None = Plan.Wait

@@ -108,7 +108,7 @@ fn made_draft(kind: Kind, place: usize, making: Making, from: usize, to: usize, 
     ensures { result ≡ made_draft kind place making from to len }
 {
     Draft {
-        kind,
+        kind: u32::from(kind),
         detail: 0,
         place,
         making,
@@ -166,7 +166,7 @@ fn text_draft(
     ensures { result ≡ text_draft kind place making at len stop from }
 {
     if at + len == text_end(stop, from) {
-        return plan::copied(kind, 0, place, at, at + len);
+        return plan::copied(u32::from(kind), 0, place, at, at + len);
     }
     made_draft(kind, place, making, at, from, len)
 }
@@ -180,7 +180,7 @@ fn sheet_draft(at: usize, len: usize, stop: Stop, from: usize) -> Draft
 {
     let width = stop_detail(stop);
     if width == 0 {
-        return plan::copied(Kind::StringPart, 0, at, at, at + len);
+        return plan::copied(u32::from(Kind::StringPart), 0, at, at, at + len);
     }
     let blank = sheet::blank_of(stop);
     let making = Making::Sheet { blank, width };
@@ -193,7 +193,7 @@ fn text_plan(mode: Mode, part: Draft, stop: Stop, from: usize, after: usize) -> 
     requires { from ≤ after }
     ensures { result ≡ text_plan mode part stop from after }
 {
-    let kind = stop_kind(mode, stop);
+    let kind = u32::from(stop_kind(mode, stop));
     let closing = plan::copied(kind, stop_detail(stop), part.place, from, after);
     plan::parted(part, closing, after, stop_change(stop))
 }

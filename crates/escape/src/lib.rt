@@ -39,13 +39,13 @@ pub fn utf8_len(code: u32) -> usize
 }
 
 // Bytes at a place of a part.
-// As token's `put_value`: this crate does not stand on that one.
+// As token's `put_value`: this crate does not stand on that one. How many is a constant, so `memcpy` isn't called.
 #[tactic(auto, unfolding(byte::specs::Laid::laid))]
-fn put(dst: &mut [u8], at: usize, bytes: &[u8])
+fn put<const N: usize>(dst: &mut [u8], at: usize, bytes: &[u8; N])
     requires { at + length bytes.now ≤ length dst.old }
     ensures { dst.new ≡ laid dst.old at bytes.now }
 {
-    dst[at..at + bytes.len()].copy_from_slice(bytes);
+    dst[at..at + N].copy_from_slice(bytes);
 }
 
 // A code point in UTF-8, at a place of a part. No `char::encode_utf8`: it would refuse surrogates.

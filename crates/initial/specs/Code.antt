@@ -10,9 +10,11 @@ use Rattle.byte.specs.Bytes.{is_none_of}
 use Rattle.source.specs.Code.{RunEnd}
 use Rattle.state.specs.declared.Frame.{Frame}
 use Rattle.token.specs.declared.Kind.{Kind}
+use Rattle.token.specs.Kinds.{kind_number, inline_html}
 use Rattle.outcome.specs.declared.Change.{Change}
 use Rattle.outcome.specs.declared.OpenTagKind.{OpenTagKind}
 use Rattle.outcome.specs.Initials.{tag_length}
+use Rattle.byte.specs.declared.Refusal.{Refusal}
 use Rattle.plan.specs.declared.Plan.{Plan}
 use Rattle.plan.specs.Code.{copied_draft, one_draft, parted_plan}
 
@@ -30,15 +32,15 @@ tag_kind OpenTagKind.Full = Kind.OpenTagFull
 tag_kind OpenTagKind.Echo = Kind.OpenTagEcho
 tag_kind OpenTagKind.Short = Kind.OpenTagShort
 
-abbrev pub tag_plan : ℕ → OpenTagKind → ℕ → Plan
+abbrev pub tag_plan : ℕ → OpenTagKind → ℕ → Plan Refusal
 tag_plan at kind place =
     parted_plan
-    (copied_draft Kind.InlineHtml 0 at at place)
-    (copied_draft (tag_kind kind) 0 place place (place + tag_length kind))
+    (copied_draft inline_html 0 at at place)
+    (copied_draft (kind_number (tag_kind kind)) 0 place place (place + tag_length kind))
     (place + tag_length kind)
     (Change.Swap Frame.Scripting)
 
-abbrev pub over_plan : ℕ → ℕ → Plan
+abbrev pub over_plan : ℕ → ℕ → Plan Refusal
 over_plan at hi =
-    let text = copied_draft Kind.InlineHtml 0 at at hi in
+    let text = copied_draft inline_html 0 at at hi in
     Plan.Told (record { drafts = one_draft text; after = hi; change = Change.Keep; finished = true })

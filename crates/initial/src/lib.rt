@@ -145,8 +145,8 @@ fn tag_plan(at: usize, kind: OpenTagKind, place: usize) -> Plan
     ensures { result ≡ tag_plan at kind place }
 {
     let after = place + tag_length(kind);
-    let text = plan::copied(Kind::InlineHtml, 0, at, at, place);
-    let tag = plan::copied(tag_kind(kind), 0, place, place, after);
+    let text = plan::copied(u32::from(Kind::InlineHtml), 0, at, at, place);
+    let tag = plan::copied(u32::from(tag_kind(kind)), 0, place, place, after);
     plan::parted(text, tag, after, Change::Swap(Frame::Scripting))
 }
 
@@ -156,7 +156,7 @@ fn over_plan(at: usize, hi: usize) -> Plan
     requires { at ≤ hi }
     ensures { result ≡ over_plan at hi }
 {
-    let text = plan::copied(Kind::InlineHtml, 0, at, at, hi);
+    let text = plan::copied(u32::from(Kind::InlineHtml), 0, at, at, hi);
     Plan::Told(Work {
         drafts: plan::only(text),
         after: hi,

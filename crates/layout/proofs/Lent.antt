@@ -1,6 +1,7 @@
 -- Lent numbers on each way through the functions that look at them. Assumes nothing.
---   frame_in_at     the frame in a slot
---   alone_session   the gate over numbers is the gate of their session
+--   frame_in_at       the frame in a slot
+--   frame_told_past   Initial past the 64 slots
+--   alone_session     the gate over numbers is the gate of their session
 use Prim.Native.Nat.{ℕ, zero, suc, ◌+◌, ◌*◌, ◌≤◌, ◌<◌}
 use Rattle.byte.specs.declared.Refusal.{Refusal}
 use mathlib.Core.Path.{◌≡◌, refl, sym, ap, ◌∙◌}
@@ -8,6 +9,7 @@ use mathlib.Core.List.{List}
 use native.Mathlib.Omega.{arith}
 use lib.ListN.{length, get_or, drop}
 use lib.Seq.{drop-drop}
+use Rattle.std.proofs.lemmas.List.{get_or_past}
 use Rattle.source.specs.declared.Span.{Span}
 use Rattle.std.specs.Prelude.{Result}
 use Rattle.state.specs.declared.Frame.{Frame}
@@ -17,6 +19,8 @@ use Rattle.state.specs.Calls.{span_of}
 use Rattle.state.specs.Gates.{gate_over, gate_refusal}
 use Rattle.state.proofs.Gates.{gate_session}
 use Rattle.layout.specs.Sessions.{slot_in, frames_in, depth_in, session_in}
+use Rattle.layout.specs.Lent.{frame_told}
+use Rattle.layout.proofs.Sessions.{length_frames_in}
 
 -- the slot that stands i slots on
 pub get_d_frames_in : (count i : ℕ) (numbers : List ℕ) → i < count
@@ -35,9 +39,10 @@ pub frame_in_at : (numbers : List ℕ) (i : ℕ) (slot : Slot) → (199 ≤ leng
 frame_in_at numbers i slot h e =
     ap (λ (x : Slot). x.frame) (e ∙ sym (get_d_frames_in 64 i (drop 7 numbers) h.1 ∙ ap slot_in (drop-drop (i * 3) 7 numbers)))
 
--- the frame in each slot
-abbrev pub frame_told : List ℕ → ℕ → Frame
-frame_told numbers i = (get_or (frames_in 64 (drop 7 numbers)) i no_slot).frame
+pub frame_told_past : (numbers : List ℕ) (i : ℕ) → 64 ≤ i → Frame.Initial ≡ frame_told numbers i
+frame_told_past numbers i h =
+    let frames = frames_in 64 (drop 7 numbers) in
+    sym (ap (λ (x : Slot). x.frame) (get_or_past frames i no_slot (rw (length_frames_in 64 (drop 7 numbers)) h)))
 
 -- the gate over the numbers is the gate of their session
 pub alone_session : (src numbers : List ℕ) (p : Span) (depth : ℕ) (alone : Result (Unit {0}) Refusal) → p ≡ span_of (session_in numbers)

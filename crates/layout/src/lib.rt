@@ -8,12 +8,12 @@ ghost use Rattle.state.specs.Bounds.{no_slot};
 ghost use Rattle.state.specs.Gates.{lent_refusal};
 ghost use Rattle.state.specs.Calls.{span_of};
 ghost use Rattle.layout.specs.Sessions.{frame_number, label_of, slot_numbers, frames_numbers, numbers_of, label_in, frame_in, slot_in, frames_in, depth_in, session_in};
-ghost use Rattle.layout.specs.Lent.{place_numbers};
-ghost use Rattle.layout.specs.Answers.{answer_numbers, is_unrefused, refusal_in, Turned};
+ghost use Rattle.layout.specs.Lent.{place_numbers, frame_told};
+ghost use Rattle.layout.specs.Answers.{answer_by, is_unrefused, refusal_by, Turned};
 
-use byte::Refusal;
+use byte::{Refusal, RefusalName};
 use source::Span;
-use state::{Answer, Frame, Label, Session, Slot, Turn};
+use state::{Answer, Frame, Frames, Label, Session, Slot, Turn};
 
 mod choices;
 
@@ -74,6 +74,25 @@ pub fn frame_at(numbers: &[u32], i: usize) -> Frame
     slot.frame
 }
 
+// The frames in a session's numbers, for the gate.
+#[derive(Clone, Copy)]
+struct LentFrames<'a> {
+    numbers: &'a [u32],
+    ghost long: { 199 ≤ length numbers.now },
+}
+
+impl<'a> Frames for LentFrames<'a> {
+    ghost frame = { λ lent. frame_told lent.numbers.now };
+
+    fn frame_at(&self, i: usize) -> Frame {
+        // Past the 64 places: the gate never asks there.
+        if 64 <= i {
+            return Frame::Initial;
+        }
+        frame_at(self.numbers, i)
+    }
+}
+
 // The depth; 0 where the choices are none: no session has that depth, and `no_session` refuses it.
 #[tactic(auto, unfolding(crate::specs::Sessions::depth_in))]
 fn depth_in(depth: u32, choices: u32) -> u32
@@ -107,7 +126,7 @@ pub fn gate_in(src: &[u8], list: usize, pool: usize, numbers: &[u32]) -> Result<
         return Err(Refusal::TooLarge);
     }
     let depth = depth_in(numbers[3], numbers[6]);
-    state::gate_over(src, span_in(numbers), depth, |i| frame_at(numbers, i))?;
+    state::gate_over(src, span_in(numbers), depth, &LentFrames { numbers })?;
     let tokens = numbers[4] as usize;
     let bytes = numbers[5] as usize;
     if list / 8 < tokens || pool < bytes {
@@ -221,16 +240,16 @@ pub fn put_session(numbers: &mut [u32], s: Session)
 }
 
 // An answer as five numbers.
-#[tactic(auto, unfolding(crate::specs::Answers::answer_numbers))]
-pub fn put_answer(answer: &mut [u32], a: Answer)
+#[tactic(auto, unfolding(crate::specs::Answers::answer_by))]
+pub fn put_answer<R: RefusalName>(answer: &mut [u32], a: Answer<R>)
     requires { 5 ≤ length answer.old }
-    ensures { answer.new ≡ laid answer.old 0 (answer_numbers a) }
+    ensures { answer.new ≡ laid answer.old 0 (answer_by R.number a) }
 {
     let numbers = match a {
         Answer::Done => [0, 0, 0, 0, 0],
         Answer::Finished => [1, 0, 0, 0, 0],
         Answer::Refused { refusal, span } => {
-            let number = u32::from(refusal);
+            let number = refusal.number();
             [2, number, span.line, span.column, span.position]
         }
     };
@@ -238,7 +257,7 @@ pub fn put_answer(answer: &mut [u32], a: Answer)
 }
 
 // Whether a call was not refused.
-pub fn is_unrefused(a: Answer) -> bool
+pub fn is_unrefused<R: Copy>(a: Answer<R>) -> bool
     ensures { result ≡ is_unrefused a }
 {
     matches!(a, Answer::Done | Answer::Finished)
@@ -246,28 +265,26 @@ pub fn is_unrefused(a: Answer) -> bool
 
 // An answer's refusal, or 0.
 // A number, no Option: it goes to a host as it is, 0 where nothing is refused.
-#[tactic(auto, unfolding(crate::specs::Answers::refusal_in))]
-pub fn refusal_in(a: Answer) -> u32
-    ensures { result ≡ refusal_in a }
+#[tactic(auto, unfolding(crate::specs::Answers::refusal_by))]
+pub fn refusal_in<R: RefusalName>(a: Answer<R>) -> u32
+    ensures { result ≡ refusal_by R.number a }
 {
     match a {
         Answer::Done | Answer::Finished => 0,
-        Answer::Refused { refusal, span: _ } => u32::from(refusal),
+        Answer::Refused { refusal, span: _ } => refusal.number(),
     }
 }
 
 // The answer as numbers, and the session where the call is not refused. Gives the refusal or 0.
-pub fn put_turn(t: Turn, session: &mut [u32], answer: &mut [u32]) -> u32
+#[tactic(auto, using(crate::proofs::Answers::turned))]
+pub fn put_turn<R: RefusalName>(t: Turn<R>, session: &mut [u32], answer: &mut [u32]) -> u32
     requires { (199 ≤ length session.old) × (5 ≤ length answer.old) }
-    ensures { Turned t session.old answer.old result session.new answer.new }
+    ensures { Turned R.number t session.old answer.old result session.new answer.new }
 {
-    let a = t.answer;
-    put_answer(answer, a);
-    match a {
-        Answer::Refused { refusal, span: _ } => u32::from(refusal),
-        Answer::Done | Answer::Finished => {
-            put_session(session, t.session);
-            0
-        }
+    let number = refusal_in(t.answer);
+    put_answer(answer, t.answer);
+    if number == 0 {
+        put_session(session, t.session);
     }
+    number
 }

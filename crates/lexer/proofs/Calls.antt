@@ -11,7 +11,7 @@ use mathlib.Core.List.{List}
 use native.Mathlib.Omega.{arith}
 use lib.Dec.{leb}
 use lib.ListN.{length, drop}
-use borrow.Author.Tests.{leb-true, le-leb, ne_eqb}
+use borrow.Author.Tests.{leb-true, le-leb}
 use Rattle.source.specs.Cursor.{origin}
 use Rattle.source.specs.declared.Span.{Span}
 use Rattle.byte.proofs.Tests.{&&-left, &&-right, unrefused}
@@ -28,15 +28,18 @@ use Rattle.state.proofs.Longer.{top_good}
 use Rattle.token.specs.Records.{room_refusal}
 use Rattle.outcome.specs.declared.Call.{Call}
 use Rattle.outcome.specs.Outcomes.{values, limited}
+use Rattle.outcome.specs.Insides.{Inside, PlaceInside}
 use Rattle.outcome.specs.Steps.{top_frame, call_at, call_outcome}
 use Rattle.outcome.proofs.StepWays.{call_at_ways}
+use Rattle.plan.specs.declared.Work.{Work}
 use Rattle.plan.specs.declared.Plan.{Plan}
 use Rattle.plan.specs.Code.{outcome_of, PlansIn, Here}
 use Rattle.modes.specs.Code.{Near}
 use Rattle.modes.proofs.Passes.{Passes}
 use Rattle.commit.specs.declared.Next.{Next}
 use Rattle.commit.specs.Records.{put, reached}
-use Rattle.commit.specs.Code.{is_full, Commits, Committed}
+use Rattle.commit.specs.Code.{Ahead, is_full, Works, Commits, Committed, CommittedPlan}
+use Rattle.commit.proofs.Nexts.{committed_same}
 use Rattle.lexer.specs.declared.Place.{Place}
 use Rattle.lexer.specs.Turns.{Gives, mark_of, turn_of}
 use Rattle.lexer.specs.Calls.{called}
@@ -83,7 +86,7 @@ module _ (call : Call) (src : List ℕ) (end : Bool) (f : Frame) (choices : Choi
   step_near = record { line = s.marked.cursor.line; column = s.marked.cursor.column }
 
   -- bytes are passed: no piece is written, so there is room
-  pub step_passes : (p : Span) (x : Next) → Passes call src f at.mark.span p → (p.position ≡ at.mark.span.position → ⊥)
+  pub step_passes : (p : Span) (x : Next Refusal) → Passes call src f at.mark.span p → (p.position ≡ at.mark.span.position → ⊥)
       → x ≡ moved_to at.mark p → Committed src at.mark l q (outcome_at call src end f choices at) x l q
   unfolding limited reached put values room_refusal
   step_passes p x o n e =
@@ -99,31 +102,38 @@ module _ (call : Call) (src : List ℕ) (end : Bool) (f : Frame) (choices : Choi
         pool = rw (tokens, bytes, places, room);
       })
 
-  module _ (scratch : List ℕ) (plan : Plan)
+  module _ (scratch : List ℕ) (plan : Plan Refusal)
       (p : PlansIn src end scratch
       (call_at call f src choices at.depth end at.mark.span.position (drop at.mark.span.position src)) plan) where
-    pub step_commits : Commits src end scratch at.mark plan (length l) (length q)
-    step_commits =
-        record {
-          marked = s.marked;
-          ready = p.ready;
-          inside =
-              rw p.told
-              (call_at_ways choices src at.depth at.mark.span.position end
-              s.marked.cursor.inside f call).lies;
-        }
+    plan_inside : Inside at.mark.span.position (length src) (outcome_of src end plan)
+    plan_inside = rw p.told (call_at_ways choices src at.depth at.mark.span.position end s.marked.cursor.inside f call).lies
 
-    pub step_committed : (x : Next) (l' q' : List ℕ)
-        → Committed src at.mark l q (limited at.depth at.mark.span.position (outcome_of src end plan)) x l' q'
+    plan_told : (w : Work) → plan ≡ Plan.Told w → Works src end scratch at.mark w (length l) (length q)
+    unfolding outcome_of
+    plan_told w e =
+        let inside : Inside at.mark.span.position (length src) (outcome_of src end (Plan.Told w)) = rw e at plan_inside in
+        record { marked = s.marked; ready = rw e at p.ready; inside = inside }
+
+    plan_refused : (refusal : Refusal) (place : ℕ) → plan ≡ Plan.Refused refusal place → Ahead src at.mark.span place
+    unfolding outcome_of
+    plan_refused refusal place e =
+        let i : PlaceInside at.mark.span.position (length src) refusal place = rw e at plan_inside in
+        record { cursor = s.marked.cursor; low = i.low; high = i.high }
+
+    pub step_commits : Commits src end scratch at.mark plan (length l) (length q)
+    step_commits = record { marked = s.marked; told = plan_told; refused = plan_refused }
+
+    pub step_committed : (x : Next Refusal) (l' q' : List ℕ)
+        → CommittedPlan (λ (refusal : Refusal). refusal) src end at.mark at.depth l q plan x l' q'
         → Committed src at.mark l q (outcome_at call src end f choices at) x l' q'
-    step_committed x l' q' c = rw p.told at c
+    step_committed x l' q' c = rw p.told at (committed_same src end at.mark at.depth l q plan x l' q' c)
 
 pub ruleset steps = (step_here, step_commits, step_committed)
 
 -- ---- in a session
 
 module _ (call : Call) (src : List ℕ) (end : Bool) (s : Session) (l q : List ℕ) where
-  pub called_shut : (refusal : Refusal) → lent_refusal src (length l) (length q) s ≡ Err refusal → (r : Turn)
+  pub called_shut : (refusal : Refusal) → lent_refusal src (length l) (length q) s ≡ Err refusal → (r : Turn Refusal)
       → r ≡ refused refusal origin s → Gives (called call src end s l q) r l q
   unfolding called
   called_shut refusal e r h = rw e (record { turn = h; list = refl; pool = refl })
@@ -155,7 +165,7 @@ module _ (call : Call) (src : List ℕ) (end : Bool) (s : Session) (l q : List �
       top = top_good src s opened.good;
     }
 
-    module _ (x : Next) (l' q' : List ℕ)
+    module _ (x : Next Refusal) (l' q' : List ℕ)
         (c : Committed src (mark_of s) l q (call_outcome call src end s) x l' q') where
       pub open_free : is_full x.change s.depth ≡ false
       unfolding call_outcome

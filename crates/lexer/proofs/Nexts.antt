@@ -9,8 +9,8 @@ use Rattle.byte.specs.declared.Refusal.{Refusal}
 use mathlib.Core.Path.{◌≡◌, refl}
 use mathlib.Core.Bool.{Bool, false}
 use mathlib.Core.List.{List}
-use lib.Dec.{eqb, ltb}
-use borrow.Author.Tests.{eqb-true, lt-leb, ltb-true}
+use lib.Dec.{ltb}
+use borrow.Author.Tests.{lt-leb, ltb-true}
 use Rattle.std.specs.Prelude.{Result, Ok, Err}
 use Rattle.byte.specs.Refusals.{wait}
 use Rattle.byte.proofs.Tests.{choice}

@@ -5,6 +5,7 @@
 --   moved_to     what a step comes to that only passes bytes
 --   Standing     the cursor and the marks are within their bounds, and the top frame is one
 use Rattle.std.specs.Prelude.{ℕ, Bool, true, List, ◌≡◌, drop}
+use Rattle.byte.specs.declared.Refusal.{Refusal}
 use Rattle.source.specs.declared.Span.{Span}
 use Rattle.state.specs.declared.Answer.{Answer}
 use Rattle.state.specs.declared.Frame.{Frame}
@@ -38,7 +39,7 @@ outcome_at call src end f choices at =
     limited at.depth at.mark.span.position
     (call_at call f src choices at.depth end at.mark.span.position (drop at.mark.span.position src))
 
-abbrev pub moved_to : Mark → Span → Next
+abbrev pub moved_to : Mark → Span → Next Refusal
 moved_to m p = record {
   answer = Answer.Done;
   mark = record { span = p; tokens = m.tokens; bytes = m.bytes };

@@ -21,11 +21,11 @@ use Rattle.commit.specs.declared.Next.{Next}
 use Rattle.commit.specs.Records.{Reached, reached}
 
 pub record After : Type 0 where
-  pub turn : Turn
+  pub turn : Turn Refusal
   pub list : List ℕ
   pub pool : List ℕ
 
-pub record Gives (a : After) (r : Turn) (l q : List ℕ) : Type 0 where
+pub record Gives (a : After) (r : Turn Refusal) (l q : List ℕ) : Type 0 where
   pub turn : r ≡ a.turn
   pub list : l ≡ a.list
   pub pool : q ≡ a.pool
@@ -57,7 +57,7 @@ changed s p tokens bytes change = record {
 abbrev pub mark_of : Session → Mark
 mark_of s = record { span = span_of s; tokens = s.tokens; bytes = s.bytes }
 
-abbrev pub turn_of : Session → Next → Turn
+abbrev pub turn_of : Session → Next Refusal → Turn Refusal
 turn_of s x = record {
   answer = x.answer;
   session = changed s x.mark.span x.mark.tokens x.mark.bytes x.change;

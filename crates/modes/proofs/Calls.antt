@@ -28,6 +28,7 @@ use Rattle.outcome.specs.Outcomes.{Outcome}
 use Rattle.outcome.specs.Texts.{text_read, numbered}
 use Rattle.outcome.specs.Scripts.{point, scripting}
 use Rattle.outcome.specs.Steps.{text_mode, nowdoc, framed, scripted, call_at}
+use Rattle.byte.specs.declared.Refusal.{Refusal}
 use Rattle.plan.specs.declared.Plan.{Plan}
 use Rattle.plan.specs.Code.{Here, Named, PlansIn, Plans}
 use Rattle.plan.proofs.Plans.{refused_plans, plans_in}
@@ -326,7 +327,7 @@ module _ (call : Call) (f : Frame) (src : List ℕ) (choices : Choices) (depth :
     (x : Reads (calls call f src choices at) src at row) where
   module _ (scratch : List ℕ) where
     -- a routine that fills the scratch part
-    pub row_held : (arm : Way) (r : Plan) → row.way ≡ arm
+    pub row_held : (arm : Way) (r : Plan Refusal) → row.way ≡ arm
         → PlansIn src end scratch (way_outcome arm row src at depth end) r
         → PlansIn src end scratch (call_at call f src choices depth end at (drop at src)) r
     unfolding calls
@@ -335,7 +336,7 @@ module _ (call : Call) (f : Frame) (src : List ℕ) (choices : Choices) (depth :
         (subst (λ way. PlansIn src end scratch (way_outcome way row src at depth end) r) (sym k) p)
 
     -- any other
-    pub row_arm : (arm : Way) (r : Plan) → row.way ≡ arm → Plans src end (way_outcome arm row src at depth end) r
+    pub row_arm : (arm : Way) (r : Plan Refusal) → row.way ≡ arm → Plans src end (way_outcome arm row src at depth end) r
         → PlansIn src end scratch (call_at call f src choices depth end at (drop at src)) r
     row_arm arm r k p = row_held arm r k (plans_in src end scratch (way_outcome arm row src at depth end) r p)
 

@@ -20,6 +20,7 @@ use Rattle.outcome.specs.Openings.{opening, opened}
 use Rattle.outcome.specs.Comments.{slash, hash}
 use Rattle.outcome.specs.Scripts.{point, word, close_tag, scripting}
 use Rattle.plan.specs.declared.Drafts.{Drafts}
+use Rattle.byte.specs.declared.Refusal.{Refusal}
 use Rattle.plan.specs.declared.Plan.{Plan}
 use Rattle.plan.specs.Code.{outcome_of, pieces, Plans, no_drafts, goes_plan, ending_plan}
 use Rattle.modes.specs.Code.{finished_plan, NoLiteral}
@@ -30,7 +31,7 @@ use Rattle.modes.proofs.Looks.{name_small}
 
 module _ (src : List ℕ) (end : Bool) (at : ℕ) where
   -- nothing is left after a sign
-  module _ (past : length src ≤ at + 1) (p r : Plan) (e : p ≡ goes_plan (at + 1) Change.Keep) (f : r ≡ ending_plan end p) where
+  module _ (past : length src ≤ at + 1) (p r : Plan Refusal) (e : p ≡ goes_plan (at + 1) Change.Keep) (f : r ≡ ending_plan end p) where
     pub point_past : Plans src end (point end at (drop (at + 1) src)) r
     unfolding point
     point_past = rw (drop_of_length-le src past) (last_sign_plans src end at r p e f)
@@ -39,7 +40,7 @@ module _ (src : List ℕ) (end : Bool) (at : ℕ) where
     unfolding close_tag
     close_tag_past = rw (drop_of_length-le src past) (last_sign_plans src end at r p e f)
 
-  module _ (h : at + 1 < length src) (r : Plan) where
+  module _ (h : at + 1 < length src) (r : Plan Refusal) where
     pub point_other : is_digit (get_or src (at + 1) 0) ≡ false → r ≡ goes_plan (at + 1) Change.Keep
         → Plans src end (point end at (drop (at + 1) src)) r
     unfolding point
@@ -57,7 +58,7 @@ module _ (src : List ℕ) (end : Bool) (at : ℕ) where
     close_tag_other b e = rw (drop-one src (at + 1) h, ne_eqb (get_or src (at + 1) 0) 62 b) (sign_plans src end at r e)
 
   module _ (name : Option ℕ) (n : name ≡ named end 1 (drop (at + 1) src)) where
-    pub word_over : (k : ℕ) (r : Plan) → name ≡ Some k → r ≡ goes_plan (at + k) Change.Keep
+    pub word_over : (k : ℕ) (r : Plan Refusal) → name ≡ Some k → r ≡ goes_plan (at + k) Change.Keep
         → Plans src end (word at (named end 1 (drop (at + 1) src))) r
     unfolding word
     word_over k r e p = rw (← n, e, p) (goes_plans src end (at + k) Change.Keep)
@@ -86,8 +87,8 @@ pub finished_plan_made : (at : ℕ) (drafts : Drafts) → drafts ≡ no_drafts
     → Plan.Told (record { drafts = drafts; after = at; change = Change.Keep; finished = true }) ≡ finished_plan at
 finished_plan_made at drafts e = rw e
 
-module _ (octals : Octal) (depth : ℕ) (src : List ℕ) (end : Bool) (at : ℕ) (r : Plan) where
-  pub scripting_past : (p : Plan) → length src ≤ at → p ≡ finished_plan at → r ≡ ending_plan end p
+module _ (octals : Octal) (depth : ℕ) (src : List ℕ) (end : Bool) (at : ℕ) (r : Plan Refusal) where
+  pub scripting_past : (p : Plan Refusal) → length src ≤ at → p ≡ finished_plan at → r ≡ ending_plan end p
       → Plans src end (scripting octals depth end at (drop at src)) r
   unfolding scripting outcome_of pieces
   scripting_past p h e f =

@@ -18,10 +18,11 @@ use Rattle.byte.specs.Refusals.{unexpected_end_of_file, no_property}
 use Rattle.byte.proofs.Words.{drop-one}
 use Rattle.state.specs.declared.Frame.{Frame}
 use Rattle.token.specs.declared.Kind.{Kind}
-use Rattle.token.specs.Kinds.{kind_number, question_arrow, arrow}
+use Rattle.token.specs.Kinds.{kind_number, identifier, question_arrow, arrow}
 use Rattle.outcome.specs.declared.Change.{Change}
 use Rattle.outcome.specs.Outcomes.{Outcome, goes, ending}
 use Rattle.outcome.specs.Lookings.{named, is_bracketed, varname, looking_for_varname, property, arrow_head, questioned, looking_for_property, var_offset}
+use Rattle.byte.specs.declared.Refusal.{Refusal}
 use Rattle.plan.specs.declared.Plan.{Plan}
 use Rattle.plan.specs.Code.{Here, Plans, copied_draft, goes_plan, one_plan, ending_plan}
 use Rattle.plan.proofs.Plans.{token_plans, goes_plans, refused_plans, wait_plans, ending_plans}
@@ -118,12 +119,12 @@ pub ruleset bracketed = (is_bracketed_past, is_bracketed_here, is_bracketed_othe
 
 -- ---- LookingForVarname
 
-module _ (src : List ℕ) (end : Bool) (at k : ℕ) (flag : Bool) (f : flag ≡ is_bracketed (drop (at + k) src)) (r : Plan) where
-  pub varname_token : at + k ≤ length src → flag ≡ true
-      → r ≡ one_plan (copied_draft Kind.Identifier 0 at at (at + k)) (at + k) (Change.Swap Frame.Scripting)
+module _ (src : List ℕ) (end : Bool) (at k : ℕ) (flag : Bool) (f : flag ≡ is_bracketed (drop (at + k) src)) (r : Plan Refusal) where
+  pub varname_token : (number : ℕ) → at + k ≤ length src → flag ≡ true
+      → r ≡ one_plan (copied_draft number 0 at at (at + k)) (at + k) (Change.Swap Frame.Scripting) → number ≡ identifier
       → Plans src end (varname at (drop at src) (Some k)) r
   unfolding varname
-  varname_token h t e = rw (drop-drop k at src, ← f, t, e) (token_plans src end Kind.Identifier at k (Change.Swap Frame.Scripting) h)
+  varname_token number h t e n = rw (drop-drop k at src, ← f, t, e, n) (token_plans src end identifier at k (Change.Swap Frame.Scripting) h)
 
   pub varname_goes : flag ≡ false → r ≡ goes_plan at (Change.Swap Frame.Scripting)
       → Plans src end (varname at (drop at src) (Some k)) r
@@ -133,7 +134,7 @@ module _ (src : List ℕ) (end : Bool) (at k : ℕ) (flag : Bool) (f : flag ≡ 
 pub ruleset varnames = (varname_token, varname_goes)
 
 module _ (src : List ℕ) (end : Bool) (at : ℕ) where
-  pub looking_for_varname_past : length src ≤ at → (p r : Plan) → p ≡ goes_plan at (Change.Swap Frame.Scripting) → r ≡ ending_plan end p
+  pub looking_for_varname_past : length src ≤ at → (p r : Plan Refusal) → p ≡ goes_plan at (Change.Swap Frame.Scripting) → r ≡ ending_plan end p
       → Plans src end (looking_for_varname end at (drop at src)) r
   unfolding looking_for_varname
   looking_for_varname_past h p r e f =
@@ -142,13 +143,13 @@ module _ (src : List ℕ) (end : Bool) (at : ℕ) where
       (goes_plans src end at (Change.Swap Frame.Scripting)))
 
   module _ (h : at < length src) (start : Bool) (f : start ≡ is_start (get_or src at 0)) where
-    pub looking_for_varname_other : not start ≡ true → (r : Plan) → r ≡ goes_plan at (Change.Swap Frame.Scripting)
+    pub looking_for_varname_other : not start ≡ true → (r : Plan Refusal) → r ≡ goes_plan at (Change.Swap Frame.Scripting)
         → Plans src end (looking_for_varname end at (drop at src)) r
     unfolding looking_for_varname
     looking_for_varname_other t r e = rw (drop-one src at h, ← f, not-true start t, e) (goes_plans src end at (Change.Swap Frame.Scripting))
 
     module _ (t : not start ≡ false) (name : Option ℕ) (n : name ≡ named end 1 (drop (at + 1) src)) where
-      pub looking_for_varname_name : (k : ℕ) (r : Plan) → name ≡ Some k → Plans src end (varname at (drop at src) (Some k)) r
+      pub looking_for_varname_name : (k : ℕ) (r : Plan Refusal) → name ≡ Some k → Plans src end (varname at (drop at src) (Some k)) r
           → Plans src end (looking_for_varname end at (drop at src)) r
       unfolding looking_for_varname
       looking_for_varname_name k r e p = rw (drop-one src at h, ← f, not-false start t, ← n, e) (rw (drop-one src at h) at p)
@@ -163,7 +164,7 @@ pub ruleset looking_for_varnames = (looking_for_varname_past, looking_for_varnam
 
 module _ (src : List ℕ) (end : Bool) (at : ℕ) where
   -- nothing is left
-  module _ (p r : Plan) (e : p ≡ Plan.Refused no_property at) (f : r ≡ ending_plan end p) where
+  module _ (p r : Plan Refusal) (e : p ≡ Plan.Refused no_property at) (f : r ≡ ending_plan end p) where
     unproperty : Plans src end (ending end (Outcome.Refused no_property at)) r
     unproperty =
         rw (f, e) (ending_plans src end (Outcome.Refused no_property at) (Plan.Refused no_property at) (refused_plans src end no_property at))
@@ -180,18 +181,19 @@ module _ (src : List ℕ) (end : Bool) (at : ℕ) where
     unfolding looking_for_property
     looking_for_property_past h = rw (drop_of_length-le src h) unproperty
 
-  module _ (kind : Kind) (k : ℕ) (h : at + k < length src) (r : Plan) where
-    pub arrow_head_token : get_or src (at + k) 0 ≡ 62 → r ≡ one_plan (copied_draft kind 0 at at (at + (k + 1))) (at + (k + 1)) Change.Keep
+  module _ (kind : Kind) (k : ℕ) (h : at + k < length src) (r : Plan Refusal) where
+    pub arrow_head_token : (number : ℕ) → get_or src (at + k) 0 ≡ 62
+        → r ≡ one_plan (copied_draft number 0 at at (at + (k + 1))) (at + (k + 1)) Change.Keep → number ≡ kind_number kind
         → Plans src end (arrow_head (kind_number kind) k end at (drop at src) (drop (at + k) src)) r
     unfolding arrow_head
-    arrow_head_token b e = rw (drop-one src (at + k) h, b, e, add-one k) (token_plans src end kind at (suc k) Change.Keep (omega arith))
+    arrow_head_token number b e n = rw (drop-one src (at + k) h, b, e, n, add-one k) (token_plans src end (kind_number kind) at (suc k) Change.Keep (omega arith))
 
     pub arrow_head_other : (get_or src (at + k) 0 ≡ 62 → ⊥) → r ≡ Plan.Refused no_property at
         → Plans src end (arrow_head (kind_number kind) k end at (drop at src) (drop (at + k) src)) r
     unfolding arrow_head
     arrow_head_other b e = rw (drop-one src (at + k) h, ne_eqb (get_or src (at + k) 0) 62 b, e) (refused_plans src end no_property at)
 
-  module _ (h : at + 1 < length src) (r : Plan) where
+  module _ (h : at + 1 < length src) (r : Plan Refusal) where
     pub questioned_arrow : get_or src (at + 1) 0 ≡ 45
         → Plans src end (arrow_head question_arrow 2 end at (drop at src) (drop (at + 2) src)) r
         → Plans src end (questioned end at (drop at src) (drop (at + 1) src)) r
@@ -205,7 +207,7 @@ module _ (src : List ℕ) (end : Bool) (at : ℕ) where
     unfolding questioned
     questioned_other b e = rw (drop-one src (at + 1) h, ne_eqb (get_or src (at + 1) 0) 45 b, e) (refused_plans src end no_property at)
 
-  module _ (h : at < length src) (r : Plan) where
+  module _ (h : at < length src) (r : Plan Refusal) where
     pub looking_for_property_question : get_or src at 0 ≡ 63 → Plans src end (questioned end at (drop at src) (drop (at + 1) src)) r
         → Plans src end (looking_for_property end at (drop at src)) r
     unfolding looking_for_property
@@ -217,7 +219,7 @@ module _ (src : List ℕ) (end : Bool) (at : ℕ) where
     looking_for_property_arrow b p = rw (drop-one src at h, b) (rw (drop-one src at h, b) at p)
 
   module _ (h : at < length src) (q : get_or src at 0 ≡ 63 → ⊥) (d : get_or src at 0 ≡ 45 → ⊥) (start : Bool) (f : start ≡ is_start (get_or src at 0)) where
-    pub looking_for_property_other : not start ≡ true → (r : Plan) → r ≡ Plan.Refused no_property at
+    pub looking_for_property_other : not start ≡ true → (r : Plan Refusal) → r ≡ Plan.Refused no_property at
         → Plans src end (looking_for_property end at (drop at src)) r
     unfolding looking_for_property
     looking_for_property_other t r e =
@@ -225,13 +227,13 @@ module _ (src : List ℕ) (end : Bool) (at : ℕ) where
         (refused_plans src end no_property at)
 
     module _ (t : not start ≡ false) (name : Option ℕ) (n : name ≡ named end 1 (drop (at + 1) src)) where
-      pub looking_for_property_name : (k : ℕ) (r : Plan) → name ≡ Some k
-          → r ≡ one_plan (copied_draft Kind.Identifier 0 at at (at + k)) (at + k) Change.Leave
+      pub looking_for_property_name : (k : ℕ) (r : Plan Refusal) (number : ℕ) → name ≡ Some k
+          → r ≡ one_plan (copied_draft number 0 at at (at + k)) (at + k) Change.Leave → number ≡ identifier
           → Plans src end (looking_for_property end at (drop at src)) r
       unfolding looking_for_property property
-      looking_for_property_name k r e p =
-          rw (drop-one src at h, ne_eqb (get_or src at 0) 63 q, ne_eqb (get_or src at 0) 45 d, ← f, not-false start t, ← n, e, p)
-          (rw (drop-one src at h) at (token_plans src end Kind.Identifier at k Change.Leave (name_inside src end at h name n k e)))
+      looking_for_property_name k r number e p i =
+          rw (drop-one src at h, ne_eqb (get_or src at 0) 63 q, ne_eqb (get_or src at 0) 45 d, ← f, not-false start t, ← n, e, p, i)
+          (rw (drop-one src at h) at (token_plans src end identifier at k Change.Leave (name_inside src end at h name n k e)))
 
       pub looking_for_property_waits : name ≡ None → Plans src end (looking_for_property end at (drop at src)) Plan.Wait
       unfolding looking_for_property property
@@ -254,7 +256,7 @@ pub ruleset looking_for_properties = (
 
 -- ---- VarOffset
 
-module _ (src : List ℕ) (end : Bool) (at : ℕ) (r : Plan) where
+module _ (src : List ℕ) (end : Bool) (at : ℕ) (r : Plan Refusal) where
   pub var_offset_past : length src ≤ at → r ≡ ending_plan end (Plan.Refused unexpected_end_of_file at)
       → Plans src end (var_offset end at (drop at src)) r
   unfolding var_offset

@@ -39,6 +39,7 @@ use Rattle.outcome.specs.Texts.{text_read, numbered}
 use Rattle.outcome.specs.Scripts.{scripting}
 use Rattle.outcome.specs.Lookings.{looking_for_varname, looking_for_property, var_offset}
 use Rattle.outcome.specs.Steps.{nowdoc, framed, call_at}
+use Rattle.byte.specs.declared.Refusal.{Refusal}
 use Rattle.plan.specs.declared.Plan.{Plan}
 use Rattle.plan.specs.Code.{Named, no_drafts}
 use Rattle.modes.specs.declared.rows.Way.{Way}
@@ -102,7 +103,7 @@ pub record Reads (o : ℕ → Bool → Outcome) (src : List ℕ) (at : ℕ) (row
   pub name : Named src row.label
   pub asked : Asked row.way src at
 
-abbrev pub finished_plan : ℕ → Plan
+abbrev pub finished_plan : ℕ → Plan Refusal
 finished_plan at = Plan.Told (record { drafts = no_drafts; after = at; change = Change.Keep; finished = true })
 
 unfoldable pub is_step : Call → Bool

@@ -42,7 +42,12 @@ fn varname(src: &[u8], at: usize, k: usize, end: bool) -> Plan
     ensures { Plans src.now end (varname at (drop at src.now) (Some k)) result }
 {
     if is_bracketed(src, at + k) {
-        return plan::one_token(Kind::Identifier, at, k, Change::Swap(Frame::Scripting));
+        return plan::one_token(
+            u32::from(Kind::Identifier),
+            at,
+            k,
+            Change::Swap(Frame::Scripting),
+        );
     }
     plan::goes(at, Change::Swap(Frame::Scripting))
 }
@@ -86,7 +91,7 @@ fn arrow_head(kind: Kind, k: usize, src: &[u8], at: usize, end: bool) -> Plan
         return plan::ending(end, no_property(at));
     }
     if src[i] == b'>' {
-        return plan::one_token(kind, at, k + 1, Change::Keep);
+        return plan::one_token(u32::from(kind), at, k + 1, Change::Keep);
     }
     no_property(at)
 }
@@ -127,7 +132,7 @@ pub fn looking_for_property(src: &[u8], at: usize, end: bool) -> Plan
         return no_property(at);
     }
     match named_at(src, at + 1, end) {
-        Some(k) => plan::one_token(Kind::Identifier, at, k, Change::Leave),
+        Some(k) => plan::one_token(u32::from(Kind::Identifier), at, k, Change::Leave),
         None => Plan::Wait,
     }
 }

@@ -198,4 +198,33 @@ module _ (src : List ℕ) (at : ℕ) (inside : at ≤ length src) (base : Base) 
       let size : length (drop at src) ≡ length src - at = length-drop at src in
       omega (arith, (prefix base (drop at src) (sym e) other).inside)
 
-pub ruleset numbers = (number_decimal, number_prefixed, prefix_inside)
+-- the same of each base that is named
+module _ (src : List ℕ) (at : ℕ) (end : Bool) (r : Option Extent) (base : Base) (e : base ≡ base_of (drop at src)) where
+  number_named : (arm : Base) → (arm ≡ Base.Decimal → ⊥) → base ≡ arm → r ≡ extent_of (prefixed arm end at (drop at src))
+      → r ≡ extent_of (number_at end at (drop at src))
+  number_named arm other f h = number_prefixed src at end r base e (λ z. other (sym f ∙ z)) (rw f h)
+
+  pub number_binary : base ≡ Base.Binary → r ≡ extent_of (prefixed Base.Binary end at (drop at src))
+      → r ≡ extent_of (number_at end at (drop at src))
+  number_binary f h = number_named Base.Binary (λ z. cc) f h
+
+  pub number_octal : base ≡ Base.Octal → r ≡ extent_of (prefixed Base.Octal end at (drop at src))
+      → r ≡ extent_of (number_at end at (drop at src))
+  number_octal f h = number_named Base.Octal (λ z. cc) f h
+
+  pub number_hex : base ≡ Base.Hex → r ≡ extent_of (prefixed Base.Hex end at (drop at src))
+      → r ≡ extent_of (number_at end at (drop at src))
+  number_hex f h = number_named Base.Hex (λ z. cc) f h
+
+module _ (src : List ℕ) (at : ℕ) (inside : at ≤ length src) (base : Base) (e : base ≡ base_of (drop at src)) where
+  pub binary_inside : base ≡ Base.Binary → at + 2 ≤ length src
+  binary_inside f = prefix_inside src at inside base e (λ z. let y : Base.Binary ≡ Base.Decimal = sym f ∙ z in cc)
+
+  pub octal_inside : base ≡ Base.Octal → at + 2 ≤ length src
+  octal_inside f = prefix_inside src at inside base e (λ z. let y : Base.Octal ≡ Base.Decimal = sym f ∙ z in cc)
+
+  pub hex_inside : base ≡ Base.Hex → at + 2 ≤ length src
+  hex_inside f = prefix_inside src at inside base e (λ z. let y : Base.Hex ≡ Base.Decimal = sym f ∙ z in cc)
+
+pub ruleset numbers =
+    (number_decimal, number_binary, number_octal, number_hex, binary_inside, octal_inside, hex_inside)

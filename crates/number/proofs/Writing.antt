@@ -62,6 +62,9 @@ module _ (base : Base) (part : List ℕ) where
   counting_first = record { inside = omega arith; small = omega arith; told = refl }
 
   module _ (len i : ℕ) (c : Counting base part len i) where
+    pub counting_end : length part ≤ i → len ≡ length (spelled base part)
+    counting_end h = c.told ∙ rw (take_all i part h)
+
     module _ (more : ℕ) (h : i < length part) where
       pub counting_kept : (get_or part i 0 ≡ 95 → ⊥) → more ≡ len + 1 → Counting base part more (i + 1)
       counting_kept other e =
@@ -78,6 +81,8 @@ module _ (base : Base) (part : List ℕ) where
         small = omega (arith, c.small);
         told = rw (spelled_under base part i h under) (e ∙ c.told);
       }
+
+pub ruleset counting = (counting_first, counting_end, counting_kept, counting_under)
 
 -- the loop that writes: they stand at the start
 pub record Storing (base : Base) (part old now : List ℕ) (i j : ℕ) : Type 0 where

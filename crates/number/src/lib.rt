@@ -345,9 +345,12 @@ impl<'a> Place<'a> {
     fn number_extent(&self) -> Option<Extent>
         ensures { result ≡ extent_of (number_at self.now.end self.now.at (drop self.now.at self.now.src.now)) }
     {
+        // An arm each: so each base has a loop of its own over its digits.
         match base_at(self.src, self.at) {
+            Base::Binary => self.prefixed_extent(Base::Binary),
+            Base::Octal => self.prefixed_extent(Base::Octal),
             Base::Decimal => self.decimal_extent(),
-            base => self.prefixed_extent(base),
+            Base::Hex => self.prefixed_extent(Base::Hex),
         }
     }
 }

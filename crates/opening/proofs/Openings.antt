@@ -12,6 +12,7 @@ use Rattle.outcome.specs.declared.DocStringKind.{DocStringKind}
 use Rattle.outcome.specs.declared.Opening.{Opening}
 use Rattle.outcome.specs.Openings.{opening, doc_frame, opened}
 use Rattle.outcome.proofs.Openings.{LabelInside, opening_label}
+use Rattle.byte.specs.declared.Refusal.{Refusal}
 use Rattle.plan.specs.declared.Plan.{Plan}
 use Rattle.plan.specs.Code.{Plans, goes_plan}
 use Rattle.plan.proofs.Plans.{goes_plans, wait_plans, sign_plans}
@@ -20,7 +21,7 @@ use Rattle.opening.specs.Code.{block_plan}
 pub doc_frame_arm : (kind arm : DocStringKind) (label : Label) (r : Frame) → kind ≡ arm → r ≡ doc_frame arm label → r ≡ doc_frame kind label
 doc_frame_arm kind arm label r e h = rw e h
 
-pub block_plan_made : (kind : DocStringKind) (start len after : ℕ) (frame : Frame) (r : Plan)
+pub block_plan_made : (kind : DocStringKind) (start len after : ℕ) (frame : Frame) (r : Plan Refusal)
     → frame ≡ doc_frame kind (record { start = start; len = len }) → r ≡ goes_plan after (Change.Swap frame) → r ≡ block_plan kind start len after
 block_plan_made kind start len after frame r e f = f ∙ rw e
 
@@ -36,13 +37,13 @@ module _ (src : List ℕ) (at : ℕ) (end : Bool) (h : at < length src) (small :
       pub label_length : len ≤ 64
       label_length = label.most
 
-      pub opened_block : (r : Plan) → r ≡ block_plan kind start len after
+      pub opened_block : (r : Plan Refusal) → r ≡ block_plan kind start len after
           → Plans src end (opened at (opening end (at + 1) (drop (at + 1) src))) r
       unfolding opened
       opened_block r g =
           rw (g, ← e, f) (goes_plans src end after (Change.Swap (doc_frame kind (record { start = start; len = len }))))
 
-    pub opened_other : (r : Plan) → o ≡ Opening.Other → r ≡ goes_plan (at + 1) Change.Keep
+    pub opened_other : (r : Plan Refusal) → o ≡ Opening.Other → r ≡ goes_plan (at + 1) Change.Keep
         → Plans src end (opened at (opening end (at + 1) (drop (at + 1) src))) r
     unfolding opened
     opened_other r f g = rw (← e, f) (sign_plans src end at r g)

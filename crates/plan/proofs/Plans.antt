@@ -12,8 +12,6 @@ use lib.Seq.{take-nil}
 use borrow.Author.Tests.{eq-eqb, ne_eqb}
 use Rattle.state.specs.declared.Label.{Label}
 use Rattle.state.specs.Bounds.{label_bytes}
-use Rattle.token.specs.declared.Kind.{Kind}
-use Rattle.token.specs.Kinds.{kind_number}
 use Rattle.outcome.specs.declared.Change.{Change}
 use Rattle.outcome.specs.Outcomes.{Outcome, unless_empty, goes, ending}
 use Rattle.outcome.specs.Lookings.{token}
@@ -30,7 +28,7 @@ pub named_short : (src : List ℕ) (label : Label) (part : List ℕ) → Named s
 named_short src label part name e = rw e (simp (length-take, length-drop) (omega (arith, name.short)))
 
 -- bytes of the source can be copied
-pub copied_ready : {scratch : List ℕ} (src : List ℕ) (end : Bool) (kind : Kind) (detail place from to : ℕ) → from ≤ to
+pub copied_ready : {scratch : List ℕ} (src : List ℕ) (end : Bool) (kind detail place from to : ℕ) → from ≤ to
     → to ≤ length src
     → Ready src end scratch (copied_draft kind detail place from to)
 unfolding made_by
@@ -41,8 +39,8 @@ copied_ready src end kind detail place from to h i =
     }
 
 -- k bytes from `at` on as a token
-pub token_plans : (src : List ℕ) (end : Bool) (kind : Kind) (at k : ℕ) (change : Change) → at + k ≤ length src
-    → Plans src end (token (kind_number kind) at (drop at src) k change) (one_plan (copied_draft kind 0 at at (at + k)) (at + k) change)
+pub token_plans : (src : List ℕ) (end : Bool) (kind at k : ℕ) (change : Change) → at + k ≤ length src
+    → Plans src end (token kind at (drop at src) k change) (one_plan (copied_draft kind 0 at at (at + k)) (at + k) change)
 unfolding made_by outcome_of pieces
 token_plans src end kind at k change inside =
     let n : at + k - at ≡ k = omega arith in
@@ -67,20 +65,20 @@ module _ (src : List ℕ) (end : Bool) where
   wait_plans = record { told = refl; ready = tt }
 
   -- a choice that a test decides
-  pub either_plans : (t : Bool) (o o' : Outcome) (p p' : Plan) → Plans src end o p → Plans src end o' p'
+  pub either_plans : (t : Bool) (o o' : Outcome) (p p' : Plan Refusal) → Plans src end o p → Plans src end o' p'
       → Plans src end (if t then o else o') (if t then p else p')
   either_plans true o o' p p' first other = first
   either_plans false o o' p p' first other = other
 
-  pub ending_plans : (o : Outcome) (p : Plan) → Plans src end o p → Plans src end (ending end o) (ending_plan end p)
+  pub ending_plans : (o : Outcome) (p : Plan Refusal) → Plans src end o p → Plans src end (ending end o) (ending_plan end p)
   ending_plans o p h = either_plans end o Outcome.Wait p Plan.Wait h wait_plans
 
   -- a sign is passed; nothing is left after it
-  module _ (at : ℕ) (r : Plan) where
+  module _ (at : ℕ) (r : Plan Refusal) where
     pub sign_plans : r ≡ goes_plan (at + 1) Change.Keep → Plans src end (goes (suc at) Change.Keep) r
     sign_plans e = rw (e, add-one at) (goes_plans (suc at) Change.Keep)
 
-    pub last_sign_plans : (p : Plan) → p ≡ goes_plan (at + 1) Change.Keep → r ≡ ending_plan end p
+    pub last_sign_plans : (p : Plan Refusal) → p ≡ goes_plan (at + 1) Change.Keep → r ≡ ending_plan end p
         → Plans src end (ending end (goes (suc at) Change.Keep)) r
     last_sign_plans p e f =
         rw (f, e, add-one at) (ending_plans (goes (suc at) Change.Keep) (goes_plan (suc at) Change.Keep) (goes_plans (suc at) Change.Keep))
@@ -90,7 +88,7 @@ module _ {scratch : List ℕ} (src : List ℕ) (end : Bool) (part d : Draft) (af
   parted_value : (value : List ℕ) → made src end part ≡ value → part.detail ≡ 0 → Ready src end scratch part
       → Ready src end scratch d
       → PlansIn src end scratch
-      (Outcome.Told (unless_empty (kind_number part.kind) part.place value ++ piece_of src end d ∷ []) after change false)
+      (Outcome.Told (unless_empty part.kind part.place value ++ piece_of src end d ∷ []) after change false)
       (parted_plan part d after change)
   unfolding outcome_of pieces unless_empty
   parted_value [] v z p q =
@@ -102,7 +100,7 @@ module _ {scratch : List ℕ} (src : List ℕ) (end : Bool) (part d : Draft) (af
 
   pub parted_plans : part.detail ≡ 0 → Ready src end scratch part → Ready src end scratch d
       → PlansIn src end scratch
-      (Outcome.Told (unless_empty (kind_number part.kind) part.place (made src end part) ++ piece_of src end d ∷ []) after change false)
+      (Outcome.Told (unless_empty part.kind part.place (made src end part) ++ piece_of src end d ∷ []) after change false)
       (parted_plan part d after change)
   parted_plans z p q = parted_value (made src end part) refl z p q
 
@@ -131,15 +129,15 @@ module _ (src : List ℕ) (end : Bool) (scratch : List ℕ) where
     all_in more r.1,
   )
 
-  ready_in : (r : Plan) → PlanReady r src end [] → PlanReady r src end scratch
+  ready_in : (r : Plan Refusal) → PlanReady r src end [] → PlanReady r src end scratch
   ready_in (Plan.Told w) r = record { few = r.few; all = all_in (drafts_of w.drafts) r.all }
   ready_in (Plan.Refused refusal place) r = tt
   ready_in Plan.Wait r = tt
 
-  pub plans_in : (o : Outcome) (r : Plan) → Plans src end o r → PlansIn src end scratch o r
+  pub plans_in : (o : Outcome) (r : Plan Refusal) → Plans src end o r → PlansIn src end scratch o r
   plans_in o r p = record { told = p.told; ready = ready_in r p.ready }
 
 -- plans that meet one statement make one outcome: they may differ in how a value comes about, and in nothing that is written
-pub plans_one : (src : List ℕ) (end : Bool) (scratch scratch' : List ℕ) (o : Outcome) (r r' : Plan) → PlansIn src end scratch o r
+pub plans_one : (src : List ℕ) (end : Bool) (scratch scratch' : List ℕ) (o : Outcome) (r r' : Plan Refusal) → PlansIn src end scratch o r
     → PlansIn src end scratch' o r' → outcome_of src end r ≡ outcome_of src end r'
 plans_one src end scratch scratch' o r r' x y = x.told ∙ sym y.told

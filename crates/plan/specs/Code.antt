@@ -13,8 +13,6 @@
 use Rattle.std.specs.Prelude.{ℕ, ◌+◌, ◌-◌, ◌≤◌, Bool, false, List, [], ◌∷◌, ◌≡◌, eqb, length, take, drop, if◌then◌else◌}
 use Rattle.state.specs.declared.Label.{Label}
 use Rattle.state.specs.Bounds.{label_bytes}
-use Rattle.token.specs.declared.Kind.{Kind}
-use Rattle.token.specs.Kinds.{kind_number}
 use Rattle.unit.specs.Readings.{text_at}
 use Rattle.text.specs.Code as text
 use Rattle.number.specs.Numbers as number
@@ -24,6 +22,7 @@ use Rattle.outcome.specs.Outcomes.{Piece, Outcome}
 use Rattle.plan.specs.declared.Making.{Making}
 use Rattle.plan.specs.declared.Draft.{Draft}
 use Rattle.plan.specs.declared.Drafts.{Drafts}
+use Rattle.byte.specs.declared.Refusal.{Refusal}
 use Rattle.plan.specs.declared.Plan.{Plan}
 
 unfoldable pub made_by : Making → List ℕ → Bool → ℕ → ℕ → List ℕ
@@ -39,7 +38,7 @@ abbrev pub made : List ℕ → Bool → Draft → List ℕ
 made src end d = made_by d.making src end d.from d.to
 
 abbrev pub piece_of : List ℕ → Bool → Draft → Piece
-piece_of src end d = record { kind = kind_number d.kind; detail = d.detail; place = d.place; value = made src end d }
+piece_of src end d = record { kind = d.kind; detail = d.detail; place = d.place; value = made src end d }
 
 -- the drafts, in order
 abbrev pub drafts_of : Drafts → List Draft
@@ -54,7 +53,7 @@ pieces src end (d ∷ more) = piece_of src end d ∷ pieces src end more
 abbrev pub pieces_of : List ℕ → Bool → Drafts → List Piece
 pieces_of src end ds = pieces src end (drafts_of ds)
 
-unfoldable pub outcome_of : List ℕ → Bool → Plan → Outcome
+unfoldable pub outcome_of : List ℕ → Bool → Plan Refusal → Outcome
 outcome_of src end (Plan.Told w) = Outcome.Told (pieces_of src end w.drafts) w.after w.change w.finished
 outcome_of src end (Plan.Refused refusal place) = Outcome.Refused refusal place
 outcome_of src end Plan.Wait = Outcome.Wait
@@ -100,19 +99,19 @@ pub record DraftsReady (ds : Drafts) (src : List ℕ) (end : Bool) (scratch : Li
   pub few : length (drafts_of ds) ≤ 2
   pub all : AllReady (drafts_of ds) src end scratch
 
-abbrev pub PlanReady : Plan → List ℕ → Bool → List ℕ → Type 0
+abbrev pub PlanReady : Plan Refusal → List ℕ → Bool → List ℕ → Type 0
 PlanReady (Plan.Told w) src end scratch = DraftsReady w.drafts src end scratch
 PlanReady (Plan.Refused refusal place) src end scratch = Unit {0}
 PlanReady Plan.Wait src end scratch = Unit {0}
 
-pub record PlansIn (src : List ℕ) (end : Bool) (scratch : List ℕ) (o : Outcome) (r : Plan) : Type 0 where
+pub record PlansIn (src : List ℕ) (end : Bool) (scratch : List ℕ) (o : Outcome) (r : Plan Refusal) : Type 0 where
   pub told : outcome_of src end r ≡ o
   pub ready : PlanReady r src end scratch
 
-abbrev pub Plans : List ℕ → Bool → Outcome → Plan → Type 0
+abbrev pub Plans : List ℕ → Bool → Outcome → Plan Refusal → Type 0
 Plans src end o r = PlansIn src end [] o r
 
-abbrev pub copied_draft : Kind → ℕ → ℕ → ℕ → ℕ → Draft
+abbrev pub copied_draft : ℕ → ℕ → ℕ → ℕ → ℕ → Draft
 copied_draft kind detail place from to =
     record { kind = kind; detail = detail; place = place; making = Making.Copied; from = from; to = to; len = to - from }
 
@@ -125,18 +124,18 @@ one_draft d = Drafts.One d
 abbrev pub two_drafts : Draft → Draft → Drafts
 two_drafts d e = Drafts.Two d e
 
-abbrev pub work_plan : Drafts → ℕ → Change → Plan
+abbrev pub work_plan : Drafts → ℕ → Change → Plan Refusal
 work_plan drafts after change = Plan.Told (record { drafts = drafts; after = after; change = change; finished = false })
 
-abbrev pub goes_plan : ℕ → Change → Plan
+abbrev pub goes_plan : ℕ → Change → Plan Refusal
 goes_plan after change = work_plan no_drafts after change
 
-abbrev pub one_plan : Draft → ℕ → Change → Plan
+abbrev pub one_plan : Draft → ℕ → Change → Plan Refusal
 one_plan d after change = work_plan (one_draft d) after change
 
-abbrev pub parted_plan : Draft → Draft → ℕ → Change → Plan
+abbrev pub parted_plan : Draft → Draft → ℕ → Change → Plan Refusal
 parted_plan part d after change = if eqb part.len 0 then one_plan d after change else work_plan (two_drafts part d) after change
 
 -- nothing is left of the text: this at the announced end, else wait
-abbrev pub ending_plan : Bool → Plan → Plan
+abbrev pub ending_plan : {R : Type 0} → Bool → Plan R → Plan R
 ending_plan end p = if end then p else Plan.Wait

@@ -10,7 +10,6 @@ ghost use Rattle.plan.specs.Code.{Named, copied_draft, no_drafts, one_draft, wor
 use byte::Refusal;
 use outcome::Change;
 use state::Label;
-use token::Kind;
 use unit::Mode;
 
 // How a token's value comes about.
@@ -30,7 +29,8 @@ pub enum Making {
 // A token to be written: its value has `len` bytes and comes from the source's bytes from `from` up to `to`.
 #[derive(Clone, Copy)]
 pub struct Draft {
-    pub kind: Kind,
+    // The number that its record bears.
+    pub kind: u32,
     pub detail: usize,
     // The place whose span it bears.
     pub place: usize,
@@ -59,9 +59,9 @@ pub struct Work {
 
 // What a routine answers. Three answers, as of a scan: `call_waits` tells a wait from a refusal.
 #[derive(Clone, Copy)]
-pub enum Plan {
+pub enum Plan<R = Refusal> {
     Told(Work),
-    Refused { refusal: Refusal, place: usize },
+    Refused { refusal: R, place: usize },
     Wait,
 }
 
@@ -84,7 +84,7 @@ pub fn label_bytes(src: &[u8], label: Label) -> &[u8]
 }
 
 // A token whose value is the source's own bytes.
-pub fn copied(kind: Kind, detail: usize, place: usize, from: usize, to: usize) -> Draft
+pub fn copied(kind: u32, detail: usize, place: usize, from: usize, to: usize) -> Draft
     requires { from ≤ to }
     ensures { result ≡ copied_draft kind detail place from to }
 {
@@ -140,7 +140,7 @@ pub fn one(draft: Draft, after: usize, change: Change) -> Plan
 }
 
 // The `k` bytes at a place as a token.
-pub fn one_token(kind: Kind, at: usize, k: usize, change: Change) -> Plan
+pub fn one_token(kind: u32, at: usize, k: usize, change: Change) -> Plan
     requires { at + k ≤ 65536 }
     ensures { result ≡ one_plan (copied_draft kind 0 at at (at + k)) (at + k) change }
 {
@@ -150,7 +150,7 @@ pub fn one_token(kind: Kind, at: usize, k: usize, change: Change) -> Plan
 
 // Nothing is left of the text: the plan at the announced end, else wait.
 // As `last` of escape: one function for all types would take both answers, and say no more than this `if`.
-pub fn ending(end: bool, p: Plan) -> Plan
+pub fn ending<R: Copy>(end: bool, p: Plan<R>) -> Plan<R>
     ensures { result ≡ ending_plan end p }
 {
     if end {

@@ -24,12 +24,12 @@ use Rattle.walk.specs.Walks.{is_written}
 use Rattle.walk.proofs.Walks.{called_on_one, is_written_refused}
 use Rattle.walk.proofs.Values.{unwritten}
 use Rattle.layout.specs.Sessions.{session_in}
-use Rattle.layout.specs.Answers.{refusal_in, is_unrefused}
-use Rattle.puretakoi.specs.Calls.{are_long, Crossed, WalkCalled, Begun, Filed}
+use Rattle.layout.specs.Answers.{refusal_by, refusal_in, is_unrefused}
+use Rattle.puretakoi.specs.Calls.{are_long, Crossed, WalkCalled, Begun, FiledBy}
 
 -- a number that is not 0 is a refusal's
-refused_told : (a : Answer) → (refusal_in a ≡ 0 → ⊥) → is_unrefused a ≡ false
-unfolding refusal_in
+refused_told : (a : Answer Refusal) → (refusal_in a ≡ 0 → ⊥) → is_unrefused a ≡ false
+unfolding refusal_by
 refused_told Answer.Done h = absurd (h refl)
 refused_told Answer.Finished h = absurd (h refl)
 refused_told (Answer.Refused refusal span) h = refl
@@ -83,7 +83,7 @@ module _ (src : List ℕ) (end : Bool) (session list pool answer : List ℕ) (r 
         written (inl z) = rw z
         written (inr h) = is_written_refused most first (refused_told first.turn.answer h)
 
-pub crossed_one : (t : Turn) (session answer : List ℕ) (r r' : ℕ) (s s' a a' : List ℕ) → Crossed t session answer r s a
+pub crossed_one : (t : Turn Refusal) (session answer : List ℕ) (r r' : ℕ) (s s' a a' : List ℕ) → Crossed t session answer r s a
     → Crossed t session answer r' s' a' → (r ≡ r') × (s ≡ s') × (a ≡ a')
 crossed_one t session answer r r' s s' a a' x y = (x.number ∙ sym y.number, x.holds ∙ sym y.holds, x.tells ∙ sym y.tells)
 
@@ -111,7 +111,8 @@ pub begun_one : (choices : ℕ) (session : List ℕ) (r r' : ℕ) (s s' : List �
     → (r ≡ r') × (s ≡ s')
 begun_one choices session r r' s s' x y = (x.number ∙ sym y.number, x.holds ∙ sym y.holds)
 
-pub filed_one : (refusal : Result (Unit {0}) Refusal) (lent values : List ℕ) (r r' : ℕ) (l l' : List ℕ) → Filed refusal lent values r l
-    → Filed refusal lent values r' l'
+pub filed_one : {R : Type 0} (number_of : R → ℕ) (refusal : Result (Unit {0}) R) (lent values : List ℕ) (r r' : ℕ) (l l' : List ℕ)
+    → FiledBy number_of refusal lent values r l
+    → FiledBy number_of refusal lent values r' l'
     → (r ≡ r') × (l ≡ l')
-filed_one refusal lent values r r' l l' x y = (x.number ∙ sym y.number, x.holds ∙ sym y.holds)
+filed_one number_of refusal lent values r r' l l' x y = (x.number ∙ sym y.number, x.holds ∙ sym y.holds)

@@ -19,17 +19,18 @@ use Rattle.state.specs.declared.Turn.{Turn}
 use Rattle.state.specs.Calls.{fresh_session, skipped, pushed, popped}
 use Rattle.token.specs.Files.{file_answer, Written}
 use Rattle.layout.specs.Sessions.{numbers_of, frame_in, are_choices, choices_in, session_in}
-use Rattle.layout.specs.Answers.{refusal_in, Turned}
+use Rattle.layout.specs.Answers.{refusal_by, refusal_in, Turned}
+use Rattle.layout.proofs.Answers.{session_told}
 use Rattle.puretakoi.specs.Told.{told_number, Tells}
 use Rattle.puretakoi.specs.Calls.{are_long, Crossed, fresh_refusal, fresh_numbers, Begun, Filed}
 
 -- the refusal in the answer of a record file's call
 refusal_file : (told : Result (Unit {0}) Refusal) → refusal_in (file_answer told) ≡ told_number told
-unfolding refusal_in file_answer
+unfolding refusal_by file_answer
 refusal_file (Ok passes) = refl
 refusal_file (Err refusal) = refl
 
-pub filed : (told : Result (Unit {0}) Refusal) (lent values : List ℕ) (a : Answer) (r : ℕ) (after : List ℕ)
+pub filed : (told : Result (Unit {0}) Refusal) (lent values : List ℕ) (a : Answer Refusal) (r : ℕ) (after : List ℕ)
     → Written told lent values a after → r ≡ refusal_in a → Filed told lent values r after
 filed told lent values a r after w e = record { number = e ∙ rw w.answer (refusal_file told); holds = w.holds }
 
@@ -51,7 +52,7 @@ module _ (session answer : List ℕ) (flag : Bool) (e : flag ≡ are_long (lengt
 -- a call over the session in a host's numbers
 module _ (session answer : List ℕ) (found : Option Session)
     (e : SomeIff found (are_long (length session) (length answer) ≡ true) (session_in session)) where
-  pub crossed_short : (r : ℕ) → found ≡ None → r ≡ number_of out_of_place → (t : Turn) → Crossed t session answer r session answer
+  pub crossed_short : (r : ℕ) → found ≡ None → r ≡ number_of out_of_place → (t : Turn Refusal) → Crossed t session answer r session answer
   crossed_short r n z t =
       let no : are_long (length session) (length answer) ≡ true → ⊥ = rw n at e in
       let short : are_long (length session) (length answer) ≡ false = not_so _ no in
@@ -69,12 +70,12 @@ module _ (session answer : List ℕ) (found : Option Session)
     unfolding are_long
     crossed_answer = leb-true 5 (length answer) (&&-right (leb 199 (length session)) (leb 5 (length answer)) so.0)
 
-    crossed : (t : Turn) (r : ℕ) (session' answer' : List ℕ) → Turned t session answer r session' answer'
+    crossed : (t : Turn Refusal) (r : ℕ) (session' answer' : List ℕ) → Turned number_of t session answer r session' answer'
         → Crossed t session answer r session' answer'
     crossed t r session' answer' w =
-        record { number = w.number ∙ rw so.0; holds = w.holds ∙ rw so.0; tells = w.tells ∙ rw so.0 }
+        record { number = w.number ∙ rw so.0; holds = w.holds ∙ rw (so.0, session_told t session); tells = w.tells ∙ rw so.0 }
 
-    module _ (src : List ℕ) (t : Turn) (r : ℕ) (session' answer' : List ℕ) (w : Turned t session answer r session' answer') where
+    module _ (src : List ℕ) (t : Turn Refusal) (r : ℕ) (session' answer' : List ℕ) (w : Turned number_of t session answer r session' answer') where
       pub skip_done : (count : ℕ) → t ≡ skipped src s count
           → Crossed (skipped src (session_in session) count) session answer r session' answer'
       skip_done count g = crossed (skipped src (session_in session) count) r session' answer' (rw (← so.1, ← g) w)

@@ -37,7 +37,7 @@ use Rattle.walk.specs.Walks.{is_written}
 use Rattle.walk.proofs.Walks.{called_on_one}
 use Rattle.walk.proofs.Values.{read_back}
 use Rattle.layout.specs.Sessions.{numbers_of, frame_in, session_in}
-use Rattle.layout.specs.Answers.{answer_numbers, refusal_in, unless_refused, session_after}
+use Rattle.layout.specs.Answers.{answer_by, answer_numbers, refusal_in, unless_refused, session_after}
 use Rattle.layout.proofs.Again.{Held, session_again, frame_in_held, held_in, held_moved, held_left, held_entered}
 use Rattle.puretakoi.specs.Calls.{are_long, Crossed, told_numbers, WalkCalled, Answered, Turns, Walked}
 
@@ -51,12 +51,12 @@ pub record Stands (a : After) (done : ℕ) (answer : List ℕ) (r : ℕ)
   pub values : pool' ≡ a.pool
 
 -- an answer of five numbers, and the number after them
-sixth : (answer : List ℕ) (a : Answer) (done : ℕ) → 6 ≤ length answer
+sixth : (answer : List ℕ) (a : Answer Refusal) (done : ℕ) → 6 ≤ length answer
     → get_or (laid answer 0 (told_numbers (length answer) a done)) 5 0 ≡ done
-unfolding told_numbers laid answer_numbers
+unfolding told_numbers laid answer_by
 sixth answer a done room = rw (le-leb 6 (length answer) room) (go a)
   where
-    go : (b : Answer) → get_or (laid answer 0 (answer_numbers b ++ (done ∷ []))) 5 0 ≡ done
+    go : (b : Answer Refusal) → get_or (laid answer 0 (answer_numbers b ++ (done ∷ []))) 5 0 ≡ done
     go Answer.Done = refl
     go Answer.Finished = refl
     go (Answer.Refused refusal span) = refl
@@ -124,7 +124,7 @@ module _ (src : List ℕ) (end : ℕ) (session list pool answer : List ℕ) (r :
 
 -- ---- skip, push and pop
 
-abbrev HeldTurn : Turn → Type 0
+abbrev HeldTurn : Turn Refusal → Type 0
 HeldTurn t = Held t.session
 
 module _ (src session answer : List ℕ) (r : ℕ) (session' answer' : List ℕ)
@@ -133,19 +133,19 @@ module _ (src session answer : List ℕ) (r : ℕ) (session' answer' : List ℕ)
   here = session_in session
 
   -- a session that is not refused is written whole, and a refused one stays
-  crosses : (t : Turn) → Kept here t → HeldTurn t → Crossed t session answer r session' answer' → session_in session' ≡ t.session
+  crosses : (t : Turn Refusal) → Kept here t → HeldTurn t → Crossed t session answer r session' answer' → session_in session' ≡ t.session
   unfolding unless_refused
   crosses t k h c =
       let holds : session' ≡ session_after t session = c.holds ∙ rw long in
       ap session_in holds ∙ go t.answer (k.back)
     where
-      go : (a : Answer) → ((refusal : Refusal) (span : Span) → a ≡ Answer.Refused refusal span → t.session ≡ here)
+      go : (a : Answer Refusal) → ((refusal : Refusal) (span : Span) → a ≡ Answer.Refused refusal span → t.session ≡ here)
           → session_in (unless_refused a (laid session 0 (numbers_of t.session)) session) ≡ t.session
       go Answer.Done back = session_again t.session h session
       go Answer.Finished back = session_again t.session h session
       go (Answer.Refused refusal span) back = sym (back refusal span refl)
 
-  gated_held : (told : Result (Unit {0}) Refusal) (t : Turn) → HeldTurn t → HeldTurn (gated told here t)
+  gated_held : (told : Result (Unit {0}) Refusal) (t : Turn Refusal) → HeldTurn t → HeldTurn (gated told here t)
   gated_held (Ok passes) t h = h
   gated_held (Err refusal) t h = held_in session
 

@@ -13,6 +13,7 @@ use lib.ListN.{length, get_or, take}
 use borrow.Author.Tests.{le-leb}
 use Rattle.byte.specs.Words.{announced}
 use Rattle.byte.specs.Laid.{laid}
+use Rattle.byte.specs.declared.Refusal.{Refusal}
 use Rattle.state.specs.declared.Turn.{Turn}
 use Rattle.state.specs.Calls.{fresh_session, skipped, pushed, popped}
 use Rattle.outcome.specs.declared.Call.{Call}
@@ -96,7 +97,7 @@ module _ (src session answer : List ℕ) (r : ℕ) (session' answer' list pool :
   abbrev Kept : Type 0
   Kept = Filled (session_in session') list pool
 
-  crossed_filled : (t : Turn) → Filled t.session list pool
+  crossed_filled : (t : Turn Refusal) → Filled t.session list pool
       → (are_long (length session) (length answer) ≡ true → session_in session' ≡ t.session)
       → Crossed t session answer r session' answer' → Kept
   crossed_filled t g crosses c = go (are_long (length session) (length answer)) refl

@@ -28,14 +28,14 @@ use Rattle.demands.specs.Walks.{called_on}
 use Rattle.demands.specs.Refusals.{refusals}
 use Rattle.demands.proofs.Refusals.{call_refusals, steps_refusals}
 use Rattle.layout.specs.Sessions.{are_choices, frame_in, session_in}
-use Rattle.layout.specs.Answers.{refusal_in}
+use Rattle.layout.specs.Answers.{refusal_by, refusal_in}
 use Rattle.puretakoi.specs.Told.{told_number, numbers_told}
 use Rattle.puretakoi.proofs.Told.{number_some, told_among, one_of_more, one_of_here}
 use Rattle.puretakoi.specs.Places.{is_small, span_in, past_refusal, Past}
 use Rattle.puretakoi.specs.Calls.{are_long, Crossed, Answered, Walked, fresh_refusal, Begun, Filed}
 
 -- no refusal
-abbrev pub Unrefused : Answer → Type 0
+abbrev pub Unrefused : Answer Refusal → Type 0
 Unrefused a = (a ≡ Answer.Done) ⊎ (a ≡ Answer.Finished)
 
 -- a number of 0 to 13
@@ -52,22 +52,22 @@ which_most (n ∷ more) all r e =
 -- ---- the calls with a session
 
 -- 10 also where a slice is too short
-pub record HostNumber (refused : List Refusal) (a : Answer) (session answer : List ℕ) (r : ℕ) : Type 0 where
+pub record HostNumber (refused : List Refusal) (a : Answer Refusal) (session answer : List ℕ) (r : ℕ) : Type 0 where
   pub none : (r ≡ 0) ↔ ((are_long (length session) (length answer) ≡ true) × Unrefused a)
   pub which : is_one_of r (0 ∷ numbers_told (out_of_place ∷ refused)) ≡ true
 
-module _ (session answer : List ℕ) (r : ℕ) (refused : List Refusal) (a : Answer) (told : Refuses refused a)
+module _ (session answer : List ℕ) (r : ℕ) (refused : List Refusal) (a : Answer Refusal) (told : Refuses refused a)
     (e : r ≡ (if are_long (length session) (length answer) then refusal_in a else number_of out_of_place)) where
   abbrev long : Bool
   long = are_long (length session) (length answer)
 
   unrefused_zero : Unrefused a → refusal_in a ≡ 0
-  unfolding refusal_in
+  unfolding refusal_by
   unrefused_zero (inl x) = rw x
   unrefused_zero (inr x) = rw x
 
-  zero_unrefused : (b : Answer) → a ≡ b → refusal_in b ≡ 0 → Unrefused a
-  unfolding refusal_in
+  zero_unrefused : (b : Answer Refusal) → a ≡ b → refusal_in b ≡ 0 → Unrefused a
+  unfolding refusal_by
   zero_unrefused Answer.Done x z = inl x
   zero_unrefused Answer.Finished x z = inr x
   zero_unrefused (Answer.Refused refusal span) x z = absurd (number_some refusal z)
@@ -75,8 +75,8 @@ module _ (session answer : List ℕ) (r : ℕ) (refused : List Refusal) (a : Ans
   abbrev Given : ℕ → Type 0
   Given n = is_one_of n (0 ∷ numbers_told (out_of_place ∷ refused)) ≡ true
 
-  answer_which : (b : Answer) → a ≡ b → Given (refusal_in b)
-  unfolding refusal_in
+  answer_which : (b : Answer Refusal) → a ≡ b → Given (refusal_in b)
+  unfolding refusal_by
   answer_which Answer.Done x = one_of_here 0 _
   answer_which Answer.Finished x = one_of_here 0 _
   answer_which (Answer.Refused refusal span) x =

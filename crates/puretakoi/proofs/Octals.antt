@@ -32,7 +32,7 @@ use Rattle.demands.specs.Filled.{Filled, choose}
 use Rattle.demands.proofs.Choices.{called_on_choices}
 use Rattle.demands.proofs.Octals.{called_on_chosen, calls_done_chosen}
 use Rattle.layout.specs.Sessions.{are_choices, reading_in, choices_in, octal_in, depth_in, session_in}
-use Rattle.layout.specs.Answers.{refusal_in}
+use Rattle.layout.specs.Answers.{refusal_by, refusal_in}
 use Rattle.puretakoi.specs.Told.{numbers_told}
 use Rattle.puretakoi.specs.Calls.{are_long, told_numbers, Answered, Turns, Walked}
 use Rattle.puretakoi.proofs.Chain.{turns_cross, turns_stands}
@@ -144,7 +144,7 @@ module _ (call : Call) (src : List ℕ) (end most : ℕ) (session other list poo
   pub host_chosen : (r ≡ number_of invalid_octal_escape → ⊥)
       → (r₂ ≡ r) × (session_in other' ≡ chosen Octal.Manual (session_in session')) × (list₂ ≡ list') × (pool₂ ≡ pool')
       × (answer₂ ≡ answer')
-  unfolding refusal_in
+  unfolding refusal_by
   host_chosen other-number =
       let s = session_in session in
       let x = turns_stands src end session list pool answer r session' list' pool' answer' long call most c in

@@ -15,6 +15,7 @@ use lib.ListN.{length, get_or, take}
 use lib.Seq.{get_or-take}
 use Rattle.byte.specs.Words.{announced}
 use Rattle.byte.specs.Laid.{laid}
+use Rattle.byte.specs.declared.Refusal.{Refusal}
 use Rattle.state.specs.declared.Answer.{Answer}
 use Rattle.outcome.specs.declared.Call.{Call}
 use Rattle.lexer.specs.Turns.{After}
@@ -24,7 +25,7 @@ use Rattle.demands.proofs.Cuts.{Ended, walk_more}
 use Rattle.demands.proofs.Steps.{walked_next}
 use Rattle.walk.proofs.Walks.{walked_some}
 use Rattle.layout.specs.Sessions.{session_in}
-use Rattle.layout.specs.Answers.{answer_numbers, refusal_in}
+use Rattle.layout.specs.Answers.{answer_by, answer_numbers, refusal_in}
 use Rattle.puretakoi.specs.Calls.{are_long, told_numbers, Answered, Walked}
 use Rattle.puretakoi.proofs.Chain.{Stands, turns_stands, reading_stands, turns_size}
 
@@ -36,9 +37,9 @@ pub record Shows (a : After) (r : ℕ) (session' list' pool' answer' : List ℕ)
   pub records : list' ≡ a.list
   pub values : pool' ≡ a.pool
 
-first_five : (answer : List ℕ) (t : Bool) (a : Answer) (done : ℕ)
+first_five : (answer : List ℕ) (t : Bool) (a : Answer Refusal) (done : ℕ)
     → take 5 (laid answer 0 (if t then answer_numbers a ++ (done ∷ []) else answer_numbers a)) ≡ answer_numbers a
-unfolding laid answer_numbers
+unfolding laid answer_by
 first_five answer true Answer.Done done = refl
 first_five answer true Answer.Finished done = refl
 first_five answer true (Answer.Refused refusal span) done = refl
@@ -77,17 +78,17 @@ pub data DoneSteps (src : List ℕ) (end : ℕ) (session list pool : List ℕ) :
       → DoneSteps src end session list pool (n + 1) s' l' q'
 
 -- the first number of an answer
-first_number : (answer : List ℕ) (a : Answer) → take 5 answer ≡ answer_numbers a → get_or answer 0 0 ≡ get_or (answer_numbers a) 0 0
+first_number : (answer : List ℕ) (a : Answer Refusal) → take 5 answer ≡ answer_numbers a → get_or answer 0 0 ≡ get_or (answer_numbers a) 0 0
 first_number answer a e = sym (get_or-take 5 answer 0 0 (omega arith)) ∙ ap (λ (l : List ℕ). get_or l 0 0) e
 
-done_told : (a : Answer) → get_or (answer_numbers a) 0 0 ≡ 0 → a ≡ Answer.Done
-unfolding answer_numbers
+done_told : (a : Answer Refusal) → get_or (answer_numbers a) 0 0 ≡ 0 → a ≡ Answer.Done
+unfolding answer_by
 done_told Answer.Done e = refl
 done_told Answer.Finished e = absurd (omega (arith, e))
 done_told (Answer.Refused refusal span) e = absurd (omega (arith, e))
 
-ended : (a : Answer) → (get_or (answer_numbers a) 0 0 ≡ 0 → ⊥) → Ended a
-unfolding answer_numbers
+ended : (a : Answer Refusal) → (get_or (answer_numbers a) 0 0 ≡ 0 → ⊥) → Ended a
+unfolding answer_by
 ended Answer.Done h = h refl
 ended Answer.Finished h = tt
 ended (Answer.Refused refusal span) h = tt

@@ -12,6 +12,7 @@ use borrow.Author.Tests.{le-leb, lt-leb, not-true, not-false}
 use Rattle.byte.specs.Laid.{laid}
 use Rattle.byte.specs.Refusals.{out_of_place, number_of}
 use Rattle.byte.proofs.Laid.{length_laid, laid_append, set_laid}
+use Rattle.byte.specs.declared.Refusal.{Refusal}
 use Rattle.state.specs.declared.Answer.{Answer}
 use Rattle.outcome.specs.declared.Call.{Call}
 use Rattle.lexer.specs.Turns.{After}
@@ -21,17 +22,17 @@ use Rattle.walk.specs.declared.Ended.{Ended}
 use Rattle.walk.specs.Walks.{Walks}
 use Rattle.walk.proofs.Walks.{called_on_one}
 use Rattle.layout.specs.Sessions.{session_in}
-use Rattle.layout.specs.Answers.{answer_numbers, refusal_in}
+use Rattle.layout.specs.Answers.{answer_by, answer_numbers, refusal_in}
 use Rattle.puretakoi.specs.Calls.{are_long, told_numbers, WalkCalled}
 
-length-numbers : (a : Answer) → length (answer_numbers a) ≡ 5
-unfolding answer_numbers
+length-numbers : (a : Answer Refusal) → length (answer_numbers a) ≡ 5
+unfolding answer_by
 length-numbers Answer.Done = refl
 length-numbers Answer.Finished = refl
 length-numbers (Answer.Refused refusal span) = refl
 
 -- the five numbers are written
-module _ (answer written : List ℕ) (a : Answer) (done : ℕ) (long : 5 ≤ length answer)
+module _ (answer written : List ℕ) (a : Answer Refusal) (done : ℕ) (long : 5 ≤ length answer)
     (e : written ≡ laid answer 0 (answer_numbers a)) where
   size : length written ≡ length answer
   size = ap length e ∙ length_laid answer 0 (answer_numbers a) (rw (length-numbers a) long)

@@ -8,7 +8,7 @@
 --                             that no step changed keeps its own
 --   Answered, Turns, Walked   of one call, of a call and steps after it, and of steps
 --   fresh_refusal, fresh_numbers, Begun   a fresh session
---   Filed   a record file or a list: the refusal or 0, and what the lent slice holds
+--   FiledBy, Filed   a record file or a list: the refusal or 0, and what the lent slice holds
 use Rattle.std.specs.Prelude.{ℕ, Result, Ok, Err, Bool, true, false, ◌&&◌, List, [], ◌∷◌, ◌++◌, ◌≡◌, leb, length, if◌then◌else◌}
 use Rattle.byte.specs.Words.{announced}
 use Rattle.byte.specs.Laid.{laid}
@@ -26,18 +26,18 @@ use Rattle.layout.specs.Answers.{answer_numbers, refusal_in, session_after}
 use Rattle.layout.specs.Lent.{Rewritten}
 use Rattle.walk.specs.Walks.{is_written}
 use Rattle.token.specs.Files.{file_after}
-use Rattle.puretakoi.specs.Told.{told_number, told_after}
+use Rattle.puretakoi.specs.Told.{told_by, told_number, told_after}
 
 unfoldable pub are_long : ℕ → ℕ → Bool
 are_long session answer = leb 199 session && leb 5 answer
 
-pub record Crossed (t : Turn) (session answer : List ℕ) (r : ℕ) (session' answer' : List ℕ) : Type 0 where
+pub record Crossed (t : Turn Refusal) (session answer : List ℕ) (r : ℕ) (session' answer' : List ℕ) : Type 0 where
   pub number : r ≡ (if are_long (length session) (length answer) then refusal_in t.answer else number_of out_of_place)
   pub holds : session' ≡ (if are_long (length session) (length answer) then session_after t session else session)
   pub tells : answer' ≡ (if are_long (length session) (length answer) then laid answer 0 (answer_numbers t.answer) else answer)
 
 -- for a slice of so many numbers
-unfoldable pub told_numbers : ℕ → Answer → ℕ → List ℕ
+unfoldable pub told_numbers : ℕ → Answer Refusal → ℕ → List ℕ
 told_numbers size answer done = if leb 6 size then answer_numbers answer ++ (done ∷ []) else answer_numbers answer
 
 -- of at most so many calls: what the first comes to, what they all do, and how many are done
@@ -83,6 +83,10 @@ pub record Begun (choices : ℕ) (session : List ℕ) (r : ℕ) (session' : List
   pub holds : session' ≡ told_after (fresh_refusal (length session) choices) (fresh_numbers choices session) session
 
 -- without a refusal the values stand at the start of what was lent, and else it is as it was
-pub record Filed (refusal : Result (Unit {0}) Refusal) (lent values : List ℕ) (r : ℕ) (after : List ℕ) : Type 0 where
-  pub number : r ≡ told_number refusal
+pub record FiledBy {R : Type 0} (number_of : R → ℕ) (refusal : Result (Unit {0}) R) (lent values : List ℕ) (r : ℕ) (after : List ℕ)
+    : Type 0 where
+  pub number : r ≡ told_by number_of refusal
   pub holds : after ≡ file_after refusal lent values
+
+abbrev pub Filed : Result (Unit {0}) Refusal → List ℕ → List ℕ → ℕ → List ℕ → Type 0
+Filed refusal lent values r after = FiledBy number_of refusal lent values r after

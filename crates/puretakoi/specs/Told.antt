@@ -1,5 +1,6 @@
 -- What a call comes to that may be refused.
---   told_number   the number that a host is given: the refusal's, or 0
+--   told_by       the refusal's number, or 0
+--   told_number   the number that a host is given
 --   told_after    what was lent, after the call: where it is refused, as it was
 --   numbers_told  the numbers of a list of refusals
 --   Tells         the refusal and what was lent, before the number is told
@@ -7,9 +8,12 @@ use Rattle.std.specs.Prelude.{ℕ, Result, Ok, Err, List, [], ◌∷◌, ◌≡�
 use Rattle.byte.specs.declared.Refusal.{Refusal}
 use Rattle.byte.specs.Refusals.{number_of}
 
+abbrev pub told_by : {R : Type 0} → (R → ℕ) → Result (Unit {0}) R → ℕ
+told_by number (Ok passes) = 0
+told_by number (Err refusal) = number refusal
+
 abbrev pub told_number : Result (Unit {0}) Refusal → ℕ
-told_number (Ok passes) = 0
-told_number (Err refusal) = number_of refusal
+told_number told = told_by number_of told
 
 abbrev pub told_after : Result (Unit {0}) Refusal → List ℕ → List ℕ → List ℕ
 told_after (Ok passes) written lent = written

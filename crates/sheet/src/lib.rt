@@ -65,12 +65,8 @@ impl Indent {
     fn offset(self, line: &[u8]) -> usize
         ensures { result ≡ offset_of self line.now }
     {
-        let four = [self.blank; 4];
         let most = self.width.min(line.len());
-        let (groups, _) = line[..most].as_chunks::<4>();
-        let passed = groups.iter().position(|group| *group != four);
-        let whole = passed.unwrap_or(groups.len()) * 4;
-        source::end_of(&line[..most], whole, |b| self.blank == b)
+        source::end_of(&line[..most], 0, |b| self.blank == b)
     }
 
     // The same of a row that was measured: one of two bytes more than the indentation has all of it.

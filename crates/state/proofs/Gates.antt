@@ -5,7 +5,6 @@ use Rattle.byte.specs.declared.Refusal.{Refusal}
 use mathlib.Core.Path.{◌≡◌, refl, sym, ◌∙◌}
 use mathlib.Core.Bool.{Bool, true, false, ◌&&◌}
 use mathlib.Core.List.{List}
-use native.Mathlib.Omega.{arith}
 use lib.ListN.{length, get_or}
 use borrow.Author.Tests.{leb-true, le-leb, lt-leb}
 use Rattle.source.specs.declared.Span.{Span}
@@ -17,10 +16,6 @@ use Rattle.state.specs.Bounds.{no_slot, are_frames, are_within, is_within, is_st
 use Rattle.state.proofs.Bounds.{Within, is_within_facts, frames_stack}
 use Rattle.state.specs.Calls.{span_of}
 use Rattle.state.specs.Gates.{checked, source_fits, tables_fit, gate_over, gate_refusal, lent_refusal}
-
-pub gate_depth : (size : ℕ) (p : Span) (depth : ℕ) (within : Bool) → within ≡ are_within size p depth → within ≡ true → depth ≤ 64
-gate_depth size p depth within e t =
-    leb-true _ _ (&&-right _ _ (&&-left _ _ (&&-left _ _ (&&-left _ _ (&&-left _ _ (sym e ∙ t))))))
 
 module _ (src : List ℕ) (p : Span) (depth : ℕ) (frame : ℕ → Frame) where
   pub gate_large : 65536 < length src → Err too_large ≡ gate_over src p depth frame
@@ -47,7 +42,7 @@ module _ (src : List ℕ) (p : Span) (depth : ℕ) (frame : ℕ → Frame) where
       pub gate_open : frames ≡ true → Ok tt ≡ gate_over src p depth frame
       gate_open u = rw (looked_at, u)
 
-pub ruleset gates = (gate_depth, gate_large, gate_numbers, gate_frames, gate_open)
+pub ruleset gates = (gate_large, gate_numbers, gate_frames, gate_open)
 
 -- the gate of a session is the gate of its numbers and its frames
 pub gate_session : (src : List ℕ) (s : Session) (p : Span) → p ≡ span_of s → gate_over src p s.depth (λ i. (get_or s.frames i no_slot).frame) ≡ gate_refusal src s

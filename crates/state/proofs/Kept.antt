@@ -34,7 +34,7 @@ use Rattle.state.specs.Calls.{span_of, refused, done, gated, moved, entered, lef
 use Rattle.state.proofs.Bounds.{Within, is_within_facts, within_is_within, within_deep}
 
 -- where the turn's answer is a refusal, its session is s
-pub record Kept (s : Session) (t : Turn) : Type 0 where
+pub record Kept (s : Session) (t : Turn Refusal) : Type 0 where
   pub back : (refusal : Refusal) (span : Span) → t.answer ≡ Answer.Refused refusal span → t.session ≡ s
 
 refused_kept : (refusal : Refusal) (span : Span) (s : Session) → Kept s (refused refusal span s)
@@ -43,7 +43,7 @@ refused_kept refusal span s = record { back = λ n p e. refl }
 done_kept : (s t : Session) → Kept s (done t)
 done_kept s t = record { back = λ n p e. cc }
 
-gated_kept : (shut : Result (Unit {0}) Refusal) (s : Session) (t : Turn) → Kept s t → Kept s (gated shut s t)
+gated_kept : (shut : Result (Unit {0}) Refusal) (s : Session) (t : Turn Refusal) → Kept s t → Kept s (gated shut s t)
 gated_kept (Ok passes) s t k = k
 gated_kept (Err refusal) s t k = refused_kept refusal origin s
 
@@ -62,17 +62,17 @@ module _ (src : List ℕ) (s : Session) where
 
 -- what a turn makes of a session: a good one stays good, the marks and the choices are the same, and the cursor does
 -- not go back
-pub record Stays (src : List ℕ) (s : Session) (t : Turn) : Type 0 where
+pub record Stays (src : List ℕ) (s : Session) (t : Turn Refusal) : Type 0 where
   pub good : is_good src s ≡ true → is_good src t.session ≡ true
   pub tokens : t.session.tokens ≡ s.tokens
   pub bytes : t.session.bytes ≡ s.bytes
   pub choices : t.session.choices ≡ s.choices
   pub onward : s.position ≤ t.session.position
 
-same_stays : (src : List ℕ) (s : Session) (answer : Answer) → Stays src s (record { answer = answer; session = s })
+same_stays : (src : List ℕ) (s : Session) (answer : Answer Refusal) → Stays src s (record { answer = answer; session = s })
 same_stays src s answer = record { good = λ e. e; tokens = refl; bytes = refl; choices = refl; onward = omega arith }
 
-gated_stays : (src : List ℕ) (shut : Result (Unit {0}) Refusal) (s : Session) (t : Turn) → Stays src s t → Stays src s (gated shut s t)
+gated_stays : (src : List ℕ) (shut : Result (Unit {0}) Refusal) (s : Session) (t : Turn Refusal) → Stays src s t → Stays src s (gated shut s t)
 gated_stays src (Ok passes) s t k = k
 gated_stays src (Err refusal) s t k = same_stays src s _
 

@@ -24,7 +24,7 @@ use Rattle.state.specs.Bounds.{is_good, is_frame}
 use Rattle.state.specs.Gates.{checked, source_fits, gate_refusal}
 use Rattle.state.specs.Calls.{span_of, gated, skipped, pushed, popped}
 
-pub record Refuses (refusals : List Refusal) (a : Answer) : Type 0 where
+pub record Refuses (refusals : List Refusal) (a : Answer Refusal) : Type 0 where
   pub among : (refusal : Refusal) (span : Span) → a ≡ Answer.Refused refusal span → is_among refusal refusals ≡ true
 
 pub refuses_one : (refusals : List Refusal) (refusal : Refusal) (span : Span) → is_among refusal refusals ≡ true
@@ -59,10 +59,10 @@ abbrev pushed_refusals : List Refusal
 pushed_refusals = stack_full ∷ move_refusals
 
 module _ (src : List ℕ) (s : Session) where
-  abbrev Among : List Refusal → Turn → Type 0
+  abbrev Among : List Refusal → Turn Refusal → Type 0
   Among refusals t = Refuses refusals t.answer
 
-  gated_refuses : (refusals : List Refusal) (t : Turn)
+  gated_refuses : (refusals : List Refusal) (t : Turn Refusal)
       → ((refusal : Refusal) → is_among refusal gate_refusals ≡ true → is_among refusal refusals ≡ true)
       → Among refusals t → Among refusals (gated (gate_refusal src s) s t)
   unfolding gate_refusal

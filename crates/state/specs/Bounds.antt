@@ -6,11 +6,11 @@
 --   is_bottom                         not VarOffset, not LookingForProperty
 --   is_stack                          the bottom frame may stand there, and each frame up to the depth is one; those
 --                                     above are not looked at
---   Told, are_frames                  what comes of frames that a function tells; the same of so many of them
+--   are_frames                        the same of so many frames, each told by its place
 --   are_within, is_within             position, line and column, and the depth, are within their bounds; a session's
 --   is_good       all of these
 --   fits_tables   the marks are not past their tables; a list of n numbers has n / 8 places
-use Rattle.std.specs.Prelude.{ℕ, ◌≡◌, ◌+◌, ◌/◌, ◌<◌, Bool, true, false, ◌&&◌, List, leb, length, get_or, take, drop}
+use Rattle.std.specs.Prelude.{ℕ, ◌+◌, ◌/◌, Bool, true, false, ◌&&◌, List, leb, length, get_or, take, drop}
 use Rattle.std.specs.List.{list_all, range_with_len}
 use Rattle.byte.specs.Words.{every}
 use Rattle.byte.specs.Bytes.{is_identifier}
@@ -73,10 +73,6 @@ is_slot src slot = is_frame src slot.frame
 
 unfoldable pub is_stack : List ℕ → Session → Bool
 is_stack src s = is_bottom (get_or s.frames 0 no_slot).frame && every (is_slot src) (take s.depth s.frames)
-
--- r is what `of` makes of the frames, by whatever function tells each of 64 places as the calls do that `post` says of
-abbrev pub Told : {A : Type 0} → (ℕ → Frame → Type 0) → ((ℕ → Frame) → A) → A → Type 0
-Told post of r = (frame : ℕ → Frame) → ((i : ℕ) (f : Frame) → i < 64 → post i f → f ≡ frame i) → r ≡ of frame
 
 unfoldable pub are_frames : List ℕ → ℕ → (ℕ → Frame) → Bool
 are_frames src depth frame = is_bottom (frame 0) && list_all (λ i. is_frame src (frame i)) (range_with_len 0 depth)

@@ -19,13 +19,13 @@ use Rattle.state.specs.Gates.{gate_refusal}
 abbrev pub span_of : Session → Span
 span_of s = record { line = s.line; column = s.column; position = s.position }
 
-abbrev pub refused : Refusal → Span → Session → Turn
+abbrev pub refused : {R : Type 0} → R → Span → Session → Turn R
 refused refusal span s = record { answer = Answer.Refused refusal span; session = s }
 
-abbrev pub done : Session → Turn
+abbrev pub done : Session → Turn Refusal
 done s = record { answer = Answer.Done; session = s }
 
-abbrev pub gated : Result (Unit {0}) Refusal → Session → Turn → Turn
+abbrev pub gated : Result (Unit {0}) Refusal → Session → Turn Refusal → Turn Refusal
 gated (Ok passes) s t = t
 gated (Err refusal) s t = refused refusal origin s
 
@@ -79,18 +79,18 @@ fresh_session choices = record {
 }
 
 -- the next count bytes are passed
-unfoldable pub skipped : List ℕ → Session → ℕ → Turn
+unfoldable pub skipped : List ℕ → Session → ℕ → Turn Refusal
 skipped src s count =
     gated (gate_refusal src s) s
     (if leb (s.position + count) (length src) then done (moved s (passed (span_of s) (take count (drop s.position src))))
     else refused out_of_place (span_of s) s)
 
-unfoldable pub pushed : List ℕ → Session → Frame → Turn
+unfoldable pub pushed : List ℕ → Session → Frame → Turn Refusal
 pushed src s f =
     gated (gate_refusal src s) s
     (if is_frame src f then (if ltb s.depth 64 then done (entered s f) else refused stack_full (span_of s) s)
     else refused out_of_place (span_of s) s)
 
-unfoldable pub popped : List ℕ → Session → Turn
+unfoldable pub popped : List ℕ → Session → Turn Refusal
 popped src s =
     gated (gate_refusal src s) s (if ltb 1 s.depth then done (left s) else refused out_of_place (span_of s) s)

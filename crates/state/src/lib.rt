@@ -3,9 +3,9 @@
 // A call takes the session by value and gives it back in its turn, the same one where it refuses.
 #![tactic(auto)]
 
-ghost use Rattle.std.specs.Prelude.{ℕ, ◌≡◌, ◌≤◌, ◌<◌};
+ghost use Rattle.std.specs.Prelude.{ℕ, ◌≡◌, get_or};
 ghost use Rattle.source.specs.Cursor.{origin};
-ghost use Rattle.state.specs.Bounds.{is_label, is_frame, is_bottom, Told, are_frames, are_within};
+ghost use Rattle.state.specs.Bounds.{is_label, is_frame, is_bottom, no_slot, are_frames, are_within};
 ghost use Rattle.state.specs.Gates.{gate_over, gate_refusal};
 ghost use Rattle.state.specs.Calls.{span_of, refused, fresh_session, skipped, pushed, popped};
 
@@ -76,20 +76,42 @@ pub struct Session {
     pub choices: Choices,
 }
 
+// What gives the frames of a mode stack by their places: a session, or the numbers that a host lends (layout::gate_in).
+pub trait Frames {
+    ghost use Rattle.state.specs.declared.Frame.{Frame};
+
+    ghost frame: { Self → ℕ → Frame };
+
+    fn frame_at(&self, i: usize) -> Frame
+        ensures { result ≡ frame self.now i };
+}
+
+impl Frames for Session {
+    ghost frame = { λ s i. (get_or s.frames i no_slot).frame };
+
+    fn frame_at(&self, i: usize) -> Frame {
+        match self.frames.get(i) {
+            Some(slot) => slot.frame,
+            // Past the 64 places: the gate never asks there.
+            None => Frame::Initial,
+        }
+    }
+}
+
 // What came of a call. Three answers, as a host is told them, and beside each a session: no `?` would pass a refusal
 // on.
 #[derive(Clone, Copy)]
-pub enum Answer {
+pub enum Answer<R = Refusal> {
     Done,
     // Done, and nothing is left to read.
     Finished,
-    Refused { refusal: Refusal, span: Span },
+    Refused { refusal: R, span: Span },
 }
 
 // An answer, and the session after it: each of the three answers has one.
 #[derive(Clone, Copy)]
-pub struct Turn {
-    pub answer: Answer,
+pub struct Turn<R = Refusal> {
+    pub answer: Answer<R>,
     pub session: Session,
 }
 
@@ -116,7 +138,7 @@ pub fn span_of(s: Session) -> Span
 }
 
 // A refusal: the session is the one passed.
-pub fn refuse(refusal: Refusal, span: Span, s: Session) -> Turn
+pub fn refuse<R: Copy>(refusal: R, span: Span, s: Session) -> Turn<R>
     ensures { result ≡ refused refusal span s }
 {
     Turn {
@@ -126,7 +148,7 @@ pub fn refuse(refusal: Refusal, span: Span, s: Session) -> Turn
 }
 
 // What the gate refuses bears the script's beginning.
-pub fn refuse_at_gate(refusal: Refusal, s: Session) -> Turn
+pub fn refuse_at_gate<R: Copy>(refusal: R, s: Session) -> Turn<R>
     ensures { result ≡ refused refusal origin s }
 {
     refuse(refusal, origin(), s)
@@ -166,18 +188,16 @@ pub fn is_bottom(f: Frame) -> bool
     !matches!(f, Frame::LookingForProperty | Frame::VarOffset)
 }
 
-// Whether so many frames are a mode stack, where `frame` gives each by its place.
-fn are_frames<F: Fn(usize) -> Frame>(src: &[u8], depth: usize, frame: F) -> bool
-    requires few { depth ≤ 64 }
-    requires callable { (i : ℕ) → i < 64 → F.pre frame i }
-    ensures { Told (F.post frame) (are_frames src.now depth) result }
+// Whether so many frames are a mode stack.
+fn are_frames<F: Frames>(src: &[u8], depth: usize, frames: &F) -> bool
+    ensures { result ≡ are_frames src.now depth (F.frame frames.now) }
 {
-    if !is_bottom(frame(0)) {
+    if !is_bottom(frames.frame_at(0)) {
         return false;
     }
-    // No `all`: its closure over `frame` would want clauses of its own.
+    // No `all` (tried): over a bound the search finds no proof of it.
     for i in 0..depth {
-        if !is_frame(src, frame(i)) {
+        if !is_frame(src, frames.frame_at(i)) {
             return false;
         }
     }
@@ -202,20 +222,14 @@ pub fn is_within(size: usize, p: Span, depth: u32) -> bool
         & (column <= next)
 }
 
-// Refusals 11 and 12 of a source, a place in it and so many frames, where `frame` gives each by its place.
-pub fn gate_over<F: Fn(usize) -> Frame>(
-    src: &[u8],
-    place: Span,
-    depth: u32,
-    frame: F,
-) -> Result<(), Refusal>
-    requires callable { (i : ℕ) → i < 64 → F.pre frame i }
-    ensures { Told (F.post frame) (gate_over src.now place depth) result }
+// Refusals 11 and 12 of a source, a place in it and so many frames.
+pub fn gate_over<F: Frames>(src: &[u8], place: Span, depth: u32, frames: &F) -> Result<(), Refusal>
+    ensures { result ≡ gate_over src.now place depth (F.frame frames.now) }
 {
     if 65536 < src.len() {
         return Err(Refusal::TooLarge);
     }
-    if !is_within(src.len(), place, depth) || !are_frames(src, depth as usize, frame) {
+    if !is_within(src.len(), place, depth) || !are_frames(src, depth as usize, frames) {
         return Err(Refusal::BadSession);
     }
     Ok(())
@@ -225,7 +239,7 @@ pub fn gate_over<F: Fn(usize) -> Frame>(
 pub fn gate(src: &[u8], s: Session) -> Result<(), Refusal>
     ensures { result ≡ gate_refusal src.now s }
 {
-    gate_over(src, span_of(s), s.depth, |i| s.frames[i].frame)
+    gate_over(src, span_of(s), s.depth, &s)
 }
 
 // A session before its script: one frame, Initial, at the beginning, with both marks 0.

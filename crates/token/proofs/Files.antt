@@ -94,17 +94,18 @@ module _ (file : List ℕ) (count : ℕ) (old : List ℕ) where
     listing_end h = writing_end (λ (k : ℕ). list_of k file) count old list i l h
 
 -- an answer that is no refusal
-pub file_answer_done : (refusal : Result (Unit {0}) Refusal) → Answer.Done ≡ file_answer refusal → refusal ≡ Ok tt
+pub file_answer_done : {R : Type 0} (refusal : Result (Unit {0}) R) → Answer.Done ≡ file_answer refusal → refusal ≡ Ok tt
 unfolding file_answer
 file_answer_done (Ok tt) e = refl
 file_answer_done (Err refusal) e = cc
 
 -- two results that meet one statement are equal
-pub written_one : (refusal : Result (Unit {0}) Refusal) (lent values : List ℕ) (r r' : Answer) (after after' : List ℕ) → Written refusal lent values r after → Written refusal lent values r' after' → (r ≡ r') × (after ≡ after')
+pub written_one : {R : Type 0} (refusal : Result (Unit {0}) R) (lent values : List ℕ) (r r' : Answer R) (after after' : List ℕ)
+    → Written refusal lent values r after → Written refusal lent values r' after' → (r ≡ r') × (after ≡ after')
 written_one refusal lent values r r' after after' f g = (f.answer ∙ sym g.answer, f.holds ∙ sym g.holds)
 
 -- a call that was done has written its values
-pub written_values : (refusal : Result (Unit {0}) Refusal) (lent values after : List ℕ) → Written refusal lent values Answer.Done after → after ≡ laid lent 0 values
+pub written_values : {R : Type 0} (refusal : Result (Unit {0}) R) (lent values after : List ℕ) → Written refusal lent values Answer.Done after → after ≡ laid lent 0 values
 unfolding file_after
 written_values refusal lent values after f = rw (file_answer_done refusal f.answer) at f.holds
 

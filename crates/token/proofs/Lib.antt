@@ -1,3 +1,4 @@
+pub mod Copies
 pub mod Files
 pub mod RoundTrips
 pub mod Tokens

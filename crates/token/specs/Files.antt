@@ -49,23 +49,23 @@ to_list_refusal file list =
     else Err too_large
 
 -- a call without a session bears the script's beginning
-unfoldable pub file_answer : Result (Unit {0}) Refusal → Answer
+unfoldable pub file_answer : {R : Type 0} → Result (Unit {0}) R → Answer R
 file_answer (Ok passes) = Answer.Done
 file_answer (Err refusal) = Answer.Refused refusal origin
 
 -- what was lent, after a call: the values stand at its start, or it is as it was
-unfoldable pub file_after : Result (Unit {0}) Refusal → List ℕ → List ℕ → List ℕ
+unfoldable pub file_after : {R : Type 0} → Result (Unit {0}) R → List ℕ → List ℕ → List ℕ
 file_after (Ok passes) lent values = laid lent 0 values
 file_after (Err refusal) lent values = lent
 
-pub record Written (refusal : Result (Unit {0}) Refusal) (lent values : List ℕ) (r : Answer) (after : List ℕ) : Type 0 where
+pub record Written {R : Type 0} (refusal : Result (Unit {0}) R) (lent values : List ℕ) (r : Answer R) (after : List ℕ) : Type 0 where
   pub answer : r ≡ file_answer refusal
   pub holds : after ≡ file_after refusal lent values
 
-abbrev pub ToFile : List ℕ → List ℕ → Answer → List ℕ → Type 0
+abbrev pub ToFile : List ℕ → List ℕ → Answer Refusal → List ℕ → Type 0
 ToFile list file r after = Written (to_file_refusal (length list) (length file)) file (file_of list) r after
 
-abbrev pub ToList : List ℕ → List ℕ → Answer → List ℕ → Type 0
+abbrev pub ToList : List ℕ → List ℕ → Answer Refusal → List ℕ → Type 0
 ToList file list r after = Written (to_list_refusal (length file) (length list)) list (list_of (length file / 4) file) r after
 
 -- 258 is 2 and 1

@@ -2,7 +2,7 @@
 // Of the Rust: token.rs. The list is lent numbers, eight a token; a write touches its own places and no other.
 #![tactic(auto)]
 
-ghost use Rattle.std.specs.Prelude.{◌≡◌, ◌+◌, ◌*◌, ◌≤◌, ◌<◌, length};
+ghost use Rattle.std.specs.Prelude.{◌≡◌, ◌+◌, ◌*◌, ◌≤◌, ◌<◌, length, take, drop};
 ghost use Rattle.source.specs.Cursor.{origin};
 ghost use Rattle.byte.specs.Laid.{laid};
 ghost use Rattle.token.specs.Kinds.{kind_number};
@@ -126,12 +126,67 @@ pub fn put_token(list: &mut [u32], place: usize, t: Token)
     list[at..at + 8].copy_from_slice(&record);
 }
 
-// A value in the pool from its fill mark on.
+// Eight bytes, read before any is written: they become one load and one store. By `copy_from_slice` each block would
+// be asked whether it lies over the other, and a block as an array would become a call of a host's `memcpy`.
+#[tactic(auto, using(crate::proofs::Copies::eight_copied))]
+fn copy_8(part: &[u8], from: usize, rest: &mut [u8], to: usize)
+    requires { (from + 8 ≤ length part.now) × (to + 8 ≤ length rest.old) }
+    ensures { rest.new ≡ laid rest.old to (take 8 (drop from part.now)) }
+{
+    let a = part[from];
+    let b = part[from + 1];
+    let c = part[from + 2];
+    let d = part[from + 3];
+    let e = part[from + 4];
+    let f = part[from + 5];
+    let g = part[from + 6];
+    let h = part[from + 7];
+    rest[to] = a;
+    rest[to + 1] = b;
+    rest[to + 2] = c;
+    rest[to + 3] = d;
+    rest[to + 4] = e;
+    rest[to + 5] = f;
+    rest[to + 6] = g;
+    rest[to + 7] = h;
+}
+
+// Fewer than eight, one by one. Never inlined: beside a local part its loop would become a call of a host's `memcpy`.
+#[inline(never)]
+fn copy_few(part: &[u8], rest: &mut [u8])
+    requires { length part.now ≤ length rest.old }
+    ensures { rest.new ≡ laid rest.old 0 part.now }
+{
+    for (i, b) in part.iter().enumerate() {
+        rest[i] = *b;
+    }
+}
+
+// The bytes of a part, copied to the start of another by blocks of eight: the last block lies over the one before.
+fn copy(part: &[u8], rest: &mut [u8])
+    requires { length part.now ≤ length rest.old }
+    ensures { rest.new ≡ laid rest.old 0 part.now }
+{
+    if part.len() < 8 {
+        copy_few(part, rest);
+        return;
+    }
+    let last = part.len() - 8;
+    let mut i = 0;
+    // A turn passes eight bytes, and the last block lies over, so no iterator counts the places.
+    while i < last {
+        copy_8(part, i, rest, i);
+        i += 8;
+    }
+    copy_8(part, last, rest, last);
+}
+
+// A value in the pool from its fill mark on: the free rest of the pool is passed on as a part.
 pub fn put_value(part: &[u8], pool: &mut [u8], mark: usize)
     requires { mark + length part.now ≤ length pool.old }
     ensures { pool.new ≡ laid pool.old mark part.now }
 {
-    pool[mark..mark + part.len()].copy_from_slice(part);
+    copy(part, &mut pool[mark..]);
 }
 
 // One number of a record, as four bytes of a file, the lowest first.

@@ -14,6 +14,7 @@ use lib.Dec.{eqb, ltb}
 use lib.ListN.{length}
 use borrow.Author.Tests.{eqb-false}
 use Rattle.byte.proofs.Tests.{choice}
+use Rattle.byte.specs.declared.Refusal.{Refusal}
 use Rattle.source.specs.declared.Span.{Span}
 use Rattle.state.specs.declared.Answer.{Answer}
 use Rattle.state.specs.declared.Frame.{Frame}
@@ -123,7 +124,7 @@ module _ (first : Call) (most : ℕ) (src : List ℕ) (end : Bool) (n₀ l₀ q�
     pub passed_less : left' - 1 < left
     passed_less = omega (arith, z, o.left, quick_on_least call src f mark.span left)
 
-    module _ (x : Next) (l' q' : List ℕ)
+    module _ (x : Next Refusal) (l' q' : List ℕ)
         (c : Committed src mark' l q (outcome_at call src end f choices (place mark' depth)) x l' q') where
       pub passed_list : length l' ≡ length l₀
       passed_list = walking_list first most src end n₀ l₀ q₀ left' call mark' depth f choices n l q there some x l' q' c

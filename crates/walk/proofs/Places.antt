@@ -11,6 +11,7 @@ use lib.ListN.{length}
 use Rattle.lexer.proofs.Nexts.{roomy_cases}
 use Rattle.std.specs.Prelude.{Ok}
 use Rattle.byte.proofs.Tests.{choice}
+use Rattle.byte.specs.declared.Refusal.{Refusal}
 use Rattle.state.specs.declared.Session.{Session}
 use Rattle.state.specs.Gates.{lent_refusal}
 use Rattle.outcome.specs.declared.Call.{Call}
@@ -50,7 +51,7 @@ module _ (src : List ℕ) (m : Mark) (t : Tables) where
 
 -- after an open gate, where the call has made x
 module _ (call : Call) (src : List ℕ) (end : Bool) (s : Session) (l q : List ℕ)
-    (gate : lent_refusal src (length l) (length q) s ≡ Ok tt) (x : Next) (l' q' : List ℕ)
+    (gate : lent_refusal src (length l) (length q) s ≡ Ok tt) (x : Next Refusal) (l' q' : List ℕ)
     (c : Committed src (mark_of s) l q (call_outcome call src end s) x l' q') where
   opened : Lent src s (length l) (length q)
   opened = lent_opened src s (length l) (length q) gate
@@ -59,7 +60,7 @@ module _ (call : Call) (src : List ℕ) (end : Bool) (s : Session) (l q : List �
   place_still k =
       let o = call_outcome call src end s in
       let kept = still_next src (mark_of s) (record { list = l; pool = q }) o (call_ways call src end s opened.numbers.position).still in
-      ap (λ (y : Next). y.change) c.next ∙ kept (ap (λ (y : Next). is_done y.answer) (sym c.next) ∙ k)
+      ap (λ (y : Next Refusal). y.change) c.next ∙ kept (ap (λ (y : Next Refusal). is_done y.answer) (sym c.next) ∙ k)
 
   pub place_gives : Gives (called call src end s l q) (turn_of s x) l' q'
   place_gives = open_gives call src end s l q gate x l' q' c

@@ -36,7 +36,7 @@ use Rattle.walk.proofs.Held.{session_held}
 use Rattle.walk.proofs.Walks.{called_on_over, is_written_some}
 
 -- an answer that is not unrefused is a refusal
-pub told : (a : Answer) → is_unrefused a ≡ false → (P : Type 0)
+pub told : (a : Answer Refusal) → is_unrefused a ≡ false → (P : Type 0)
     → ((refusal : Refusal) (span : Span) → a ≡ Answer.Refused refusal span → P) → P
 told Answer.Done h P f = absurd (false≢true (sym h))
 told Answer.Finished h P f = absurd (false≢true (sym h))

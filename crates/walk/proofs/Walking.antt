@@ -13,6 +13,7 @@ use lib.Seq.{get_or-set_same}
 use borrow.Author.Tests.{ltb-true, ltb-false, eqb-true, eq-eqb, not-true, not-false}
 use Rattle.std.specs.Prelude.{Ok}
 use Rattle.byte.specs.Laid.{laid}
+use Rattle.byte.specs.declared.Refusal.{Refusal}
 use Rattle.state.specs.declared.Answer.{Answer}
 use Rattle.state.specs.declared.Frame.{Frame}
 use Rattle.state.specs.declared.Choices.{Choices}
@@ -164,7 +165,7 @@ module _ (first : Call) (most : ℕ) (src : List ℕ) (end : Bool) (n₀ l₀ q�
         }
 
     -- the call has made x
-    module _ (h : 0 < left) (x : Next) (l' q' : List ℕ)
+    module _ (h : 0 < left) (x : Next Refusal) (l' q' : List ℕ)
         (c : Committed src mark l q (outcome_at call src end f choices (place mark depth)) x l' q') where
       made_so : Committed src (mark_of here) l q (call_outcome call src end here) x l' q'
       unfolding call_outcome
@@ -174,7 +175,7 @@ module _ (first : Call) (most : ℕ) (src : List ℕ) (end : Bool) (n₀ l₀ q�
       made = place_gives call src end here l q w.gate x l' q' made_so
 
       answer_same : (called call src end here l q).turn.answer ≡ x.answer
-      answer_same = ap (λ (t : Turn). t.answer) (sym made.turn)
+      answer_same = ap (λ (t : Turn Refusal). t.answer) (sym made.turn)
 
       pub walking_list : length l' ≡ length l₀
       walking_list = list_kept call src end here l q w.gate x l' q' made_so ∙ w.list
@@ -193,7 +194,7 @@ module _ (first : Call) (most : ℕ) (src : List ℕ) (end : Bool) (n₀ l₀ q�
           go false e =
               let whole : left ≡ most = omega (arith, w.least, ltb-false left most e) in
               ap (λ (a : After). is_unrefused a.turn.answer) (w.fresh whole)
-              ∙ ap (λ (a : Answer). is_unrefused a) answer_same
+              ∙ ap (λ (a : Answer Refusal). is_unrefused a) answer_same
 
       module _ (flag : Bool) (d : flag ≡ is_done x.answer) where
         -- it is the last: the frame stays
@@ -206,7 +207,7 @@ module _ (first : Call) (most : ℕ) (src : List ℕ) (end : Bool) (n₀ l₀ q�
             let last : all ≡ called call src end here l q =
             w.same ∙ called_on_over call src end here l q left h (ap is_done answer_same ∙ over) in
             let moved : (turn_of here x).session ≡ all.turn.session =
-            rw last (ap (λ (t : Turn). t.session) made.turn) in
+            rw last (ap (λ (t : Turn Refusal). t.session) made.turn) in
             let ends : standing x.mark depth n choices ≡ all.turn.session = rw keep at moved in
             let none = calls_done_over call src end here l q left (ap is_done answer_same ∙ over) in
             record {

@@ -57,13 +57,13 @@ module _ (call : Call) (src : List ℕ) (end : Bool) (s : Session) (l q : List �
   abbrev now : After
   now = called call src end s l q
 
-  go_on : (a : Answer) (later : After) → is_done a ≡ true → gone_on a now later ≡ later
+  go_on : (a : Answer Refusal) (later : After) → is_done a ≡ true → gone_on a now later ≡ later
   unfolding gone_on is_done
   go_on Answer.Done later e = refl
   go_on Answer.Finished later e = absurd (false≢true e)
   go_on (Answer.Refused refusal span) later e = absurd (false≢true e)
 
-  go_over : (a : Answer) (later : After) → is_done a ≡ false → gone_on a now later ≡ now
+  go_over : (a : Answer Refusal) (later : After) → is_done a ≡ false → gone_on a now later ≡ now
   unfolding gone_on is_done
   go_over Answer.Done later e = absurd (false≢true (sym e))
   go_over Answer.Finished later e = refl
@@ -86,13 +86,13 @@ module _ (call : Call) (src : List ℕ) (end : Bool) (s : Session) (l q : List �
   called_on_over zero h e = absurd (omega (arith, h))
   called_on_over (suc n) h e = go_over now.turn.answer _ e
 
-  count_on : (a : Answer) (later : ℕ) → is_done a ≡ true → counted a later ≡ later + 1
+  count_on : (a : Answer Refusal) (later : ℕ) → is_done a ≡ true → counted a later ≡ later + 1
   unfolding counted is_done
   count_on Answer.Done later e = omega arith
   count_on Answer.Finished later e = absurd (false≢true e)
   count_on (Answer.Refused refusal span) later e = absurd (false≢true e)
 
-  count_over : (a : Answer) (later : ℕ) → is_done a ≡ false → counted a later ≡ 0
+  count_over : (a : Answer Refusal) (later : ℕ) → is_done a ≡ false → counted a later ≡ 0
   unfolding counted is_done
   count_over Answer.Done later e = absurd (false≢true (sym e))
   count_over Answer.Finished later e = refl
@@ -118,13 +118,13 @@ module _ (call : Call) (src : List ℕ) (end : Bool) (s : Session) (l q : List �
   unfolding called_on walked gone_on is_done
   called_on_one = go now.turn.answer refl
     where
-      go : (a : Answer) → now.turn.answer ≡ a → called_on call 1 src end s l q ≡ now
+      go : (a : Answer Refusal) → now.turn.answer ≡ a → called_on call 1 src end s l q ≡ now
       go Answer.Done e = go_on now.turn.answer _ (rw e) ∙ rw (← e)
       go Answer.Finished e = rw e
       go (Answer.Refused refusal span) e = rw e
 
 -- a done answer refuses nothing
-pub done_unrefused : (a : Answer) → is_done a ≡ true → is_unrefused a ≡ true
+pub done_unrefused : (a : Answer Refusal) → is_done a ≡ true → is_unrefused a ≡ true
 unfolding is_done
 done_unrefused Answer.Done e = refl
 done_unrefused Answer.Finished e = absurd (false≢true e)

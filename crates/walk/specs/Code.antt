@@ -14,6 +14,7 @@ use Rattle.std.specs.Prelude.{ℕ, ◌+◌, ◌*◌, ◌-◌, ◌≤◌, ◌<◌
 use Rattle.std.specs.Prelude.{Ok}
 use Rattle.byte.specs.Laid.{laid}
 use Rattle.source.specs.declared.Span.{Span}
+use Rattle.byte.specs.declared.Refusal.{Refusal}
 use Rattle.state.specs.declared.Answer.{Answer}
 use Rattle.state.specs.declared.Frame.{Frame}
 use Rattle.state.specs.Bounds.{no_slot}
@@ -53,7 +54,7 @@ pub record GoesAlong (call : Call) (src : List ℕ) (f : Frame) (m : Mark) (most
 abbrev pub placed_at : Mark → ℕ → List ℕ → List ℕ
 placed_at m depth numbers = laid numbers 0 (place_numbers m.span depth m.tokens m.bytes)
 
-abbrev pub ended_at : Bool → Answer → Mark → ℕ → List ℕ → List ℕ
+abbrev pub ended_at : Bool → Answer Refusal → Mark → ℕ → List ℕ → List ℕ
 ended_at begun answer m depth numbers = if begun || is_unrefused answer then placed_at m depth numbers else numbers
 
 pub record Deep (numbers : List ℕ) (depth : ℕ) : Type 0 where

@@ -42,7 +42,7 @@ pub record Written : Type 0 where
   pub value : List ℕ
 
 pub record Found : Type 0 where
-  pub answer : Answer
+  pub answer : Answer Refusal
   pub position : ℕ
   pub tokens : List Written
 

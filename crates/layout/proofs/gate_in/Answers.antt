@@ -1,9 +1,7 @@
-use Rattle.std.proofs.Common.{rules, List, ℕ, Result, Ok, Err, ◌≡◌, ◌≤◌, ◌/◌, sym, ◌∙◌}
+use Rattle.std.proofs.Common.{rules, Result, Ok, Err, ◌≡◌, sym, ◌∙◌}
 use Rattle.byte.specs.declared.Refusal.{Refusal}
-use Rattle.state.specs.Gates.{gate_refusal, lent_refusal}
-use Rattle.layout.specs.Sessions.{session_in}
 use Rattle.state.proofs.Gates.{lent_pool, lent_list, lent_shut, lent_tokens, lent_bytes, lent_open}
-use Rattle.layout.proofs.Lent.{frame_told, alone_session}
+use Rattle.layout.proofs.Lent.{alone_session}
 use Rattle.layout.proofs.gate_in.Goals.{then-pool-gt65536-via-then-pool-gt65536, then-pool-gt65536-via-else-pool-gt65536+then-list-gt65537}
 use Rattle.layout.proofs.gate_in.Goals.{then-list-tokens-via-then-list-tokens, then-list-tokens-via-else-list-tokens+then-pool-bytes}
 use Rattle.layout.proofs.gate_in.Goals as goal
@@ -21,14 +19,14 @@ clash z = cc
 pub returns-in_err-gate_over : goal.returns-in_err-gate_over
 returns-in_err-gate_over c =
     let e = alone_session c.args.src.now c.args.numbers.now _ _ _ c.span_in.ensures c.depth_in-depth.ensures
-    (c.gate_over.ensures (frame_told c.args.numbers.now) (λ i f h post. search rules)) in
+    c.gate_over.ensures in
     let shut = lent_shut _ _ _ _ c.if-pool-gt65536.false c.if-list-gt65537.false _ e (λ z. clash (sym c.in_err-gate_over.was ∙ z)) in
     search (shut, rules)
 
 pub returns-then-list-tokens : goal.returns-then-list-tokens
 returns-then-list-tokens c =
     let e = alone_session c.args.src.now c.args.numbers.now _ _ _ c.span_in.ensures c.depth_in-depth.ensures
-    (c.gate_over.ensures (frame_told c.args.numbers.now) (λ i f h post. search rules)) in
+    c.gate_over.ensures in
     elim c.then-list-tokens.branch [
       | then-list-tokens-via-then-list-tokens w ↦
           lent_tokens _ _ _ _ c.if-pool-gt65536.false c.if-list-gt65537.false _ e c.in_ok-gate_over.was w.if-list-tokens.true
@@ -39,5 +37,5 @@ returns-then-list-tokens c =
 pub returns : goal.returns
 returns c =
     let e = alone_session c.args.src.now c.args.numbers.now _ _ _ c.span_in.ensures c.depth_in-depth.ensures
-    (c.gate_over.ensures (frame_told c.args.numbers.now) (λ i f h post. search rules)) in
+    c.gate_over.ensures in
     lent_open _ _ _ _ c.if-pool-gt65536.false c.if-list-gt65537.false _ e c.in_ok-gate_over.was c.if-list-tokens.false c.if-pool-bytes.false

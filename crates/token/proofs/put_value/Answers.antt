@@ -1,7 +1,6 @@
-use Rattle.std.proofs.Common.{rules, arith}
-use Rattle.byte.proofs.Laid.{laid_part}
+use Rattle.byte.proofs.Laid.{laid_rest}
 use Rattle.token.proofs.put_value.Goals as goal
 
--- the value is copied to its place
+-- what is copied to the free rest is written from the mark on
 pub returns : goal.returns
-returns c = laid_part _ _ _ _ _ (search rules) (omega arith)
+returns c = laid_rest _ _ _ _ c.requires c.copy.ensures

@@ -1,12 +1,10 @@
--- `number::value::spelled_length` meets its contract: what is kept is counted. Assumes nothing.
-use Rattle.std.proofs.Common.{rules, ◌≡◌, ℕ, not}
-use Rattle.std.specs.List.{count_by}
-use lib.Dec.{eqb}
-use mathlib.Core.Path.{◌∙◌}
-use Rattle.number.proofs.Writing.{spelled_count}
+-- `number::value::spelled_length` meets its contract: the loop keeps `Counting`. Assumes nothing.
+use Rattle.number.proofs.Writing.{counting}
 use Rattle.number.proofs.value.spelled_length.Goals as goal
+use Rattle.number.proofs.value.spelled_length.Goals.{then-b-ne95, else-b-ne95}
 
-pub returns : goal.returns
-returns c =
-    let counted : c.count.result ≡ count_by (λ (b : ℕ). not (eqb b 95)) c.args.part.now = search rules in
-    counted ∙ spelled_count c.args.part.now
+pub loop-b-init : goal.loop-b-init
+loop-b-init c = search counting
+
+pub loop-b-preserved : goal.loop-b-preserved
+loop-b-preserved c = elim c.if-b-ne95.branch [ then-b-ne95 w ↦ search counting | else-b-ne95 w ↦ search counting ]

@@ -1,0 +1,7 @@
+-- `puretakoi::puretakoi_pop` meets its contract: what is written back is the turn of the session in the host's numbers.
+use Rattle.std.proofs.Common.{rules}
+use Rattle.puretakoi.proofs.Calls.{crossings}
+use Rattle.puretakoi.proofs.puretakoi_pop.Goals as goal
+
+pub returns : goal.returns
+returns c = search (crossings, rules)
