@@ -8,12 +8,12 @@ use native.Mathlib.Omega.{arith}
 use lib.Dec.{eqb, leb}
 use lib.ListN.{length, get_or, take, drop, length-drop}
 use lib.Seq.{drop-drop}
+use Rattle.std.proofs.lemmas.List.{drop_all}
 use borrow.Author.Tests.{eq-eqb, ne_eqb, le-leb, lt-leb, leb-true, leb-false, not-false}
 use Rattle.std.specs.List.{fold, position, position_or_len}
 use Rattle.std.specs.Simd.{first_chunks}
 use Rattle.std.specs.Cmp.Lexicographic.{pointwise, same_text}
 use Rattle.std.proofs.Common.{cond, nat_eq, ◌*◌, ◌/◌, Option, unwrap_or}
-use Rattle.std.specs.Bool.{◌==◌}
 use Rattle.byte.specs.Words.{◌is◌, run}
 use Rattle.byte.proofs.Words.{drop-one}
 use Rattle.byte.specs.Bytes.{is_blank, is_no_break}
@@ -53,6 +53,12 @@ module _ (src : List ℕ) (at n : ℕ) (h : at < length src) (r : RunEnd is_no_b
   pub line_end_end : length src ≤ n → LineEnd src at n
   line_end_end k = record { place = omega (arith, r.place, r.inside, size); inside = r.inside; on = omega arith }
 
+-- a line that is a break
+pub line_end_empty : (src : List ℕ) (at : ℕ) → at < length src → get_or src at 0 ≡ 10 → LineEnd src at (at + 1)
+unfolding line_length
+line_end_empty src at h e =
+    record { place = rw (drop-one src at h, e); inside = omega (arith, h); on = omega arith }
+
 pub ruleset line_ends = (line_end_break, line_end_end)
 
 -- the label, another byte, or the end of the part
@@ -73,15 +79,27 @@ module _ (label line : List ℕ) (at : ℕ) (end : Bool) (m : Match) (e : m ≡ 
   unfolding bounded
   label_undecided w = rw (closing_label_bounded label end (drop at line), ← e, w)
 
--- the first byte is another than the label's
-pub label_first : (label line : List ℕ) (at : ℕ) (end : Bool) → at < length line → false ≡ (length label == 0)
-    → (get_or line at 0 ≡ get_or label 0 0 → ⊥) → Match.Other ≡ closing_label label end (drop at line)
-unfolding closing_label
-label_first [] line at end h k n = cc
-label_first (a ∷ label) line at end h k n =
-    rw (drop-one line at h, ne_eqb a (get_or line at 0) (λ e. n (sym e)))
-
 pub ruleset labels = (label_inside, label_whole, label_other, label_undecided)
+
+-- the label's bytes from k on against the text's: where they are over, cut off, another byte, and the same
+module _ (label xs : List ℕ) (k : ℕ) (e : matched label xs ≡ matched (drop k label) (drop k xs)) where
+  pub few_whole : length label ≤ k → Match.Whole ≡ matched label xs
+  unfolding matched
+  few_whole h = sym (e ∙ rw (drop_all k label h) refl)
+
+  module _ (h : k < length label) where
+    pub few_cut : length xs ≤ k → Match.Undecided ≡ matched label xs
+    unfolding matched
+    few_cut l = sym (e ∙ rw (drop-one label k h, drop_all k xs l) refl)
+
+    pub few_other : k < length xs → (get_or label k 0 ≡ get_or xs k 0 → ⊥) → Match.Other ≡ matched label xs
+    unfolding matched
+    few_other l d = sym (e ∙ rw (drop-one label k h, drop-one xs k l, ne_eqb _ _ d) refl)
+
+    pub few_same : k < length xs → get_or label k 0 ≡ get_or xs k 0
+        → matched label xs ≡ matched (drop (k + 1) label) (drop (k + 1) xs)
+    unfolding matched
+    few_same l s = e ∙ rw (drop-one label k h, drop-one xs k l, eq-eqb _ _ s) refl
 
 indentation_fold : (ind : Indentation) (xs : List ℕ) → fold indented ind xs ≡ indentation ind xs
 unfolding indentation

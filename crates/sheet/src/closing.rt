@@ -5,6 +5,7 @@ ghost use Rattle.std.specs.Prelude.{◌≡◌, [], ◌≤◌, ◌<◌, length, d
 ghost use Rattle.byte.specs.Bytes.{is_blank};
 ghost use Rattle.source.specs.Code.{RunEnd};
 ghost use Rattle.unit.specs.declared.Indentation.{Indentation};
+ghost use Rattle.unit.specs.Closers.{matched};
 ghost use Rattle.sheet.specs.Bodies.{lines};
 ghost use Rattle.sheet.specs.Sheets.{closing_label, line_kind, block};
 ghost use Rattle.sheet.specs.Code.{LineEnd, found};
@@ -12,11 +13,16 @@ ghost use Rattle.sheet.specs.Code.{LineEnd, found};
 use crate::{Found, Line};
 use unit::Match;
 
-// Where the line at `at` ends, after its break.
+// Where the line at `at` ends, after its break. An empty line is told at once. Always inlined, for it is asked up to
+// three times a row.
+#[inline(always)]
 pub fn line_end(src: &[u8], at: usize) -> usize
     requires { at < length src.now }
     ensures { LineEnd src.now at result }
 {
+    if src[at] == b'\n' {
+        return at + 1;
+    }
     let n = source::break_end(src, at);
     if n < src.len() { n + 1 } else { n }
 }
@@ -34,16 +40,45 @@ fn behind_label(rest: &[u8], end: bool) -> Match
     }
 }
 
+// A few bytes of a label against a text, one by one.
+fn match_few(rest: &[u8], label: &[u8]) -> Match
+    ensures { result ≡ matched label.now rest.now }
+{
+    for (k, a) in label.iter().enumerate() {
+        match rest.get(k) {
+            Some(b) if a == b => {}
+            Some(_) => return Match::Other,
+            None => return Match::Undecided,
+        }
+    }
+    Match::Whole
+}
+
+// The label against the line from `at` on. The first byte tells most lines, and a short label is compared here, for
+// `closer::match_at` is made for long ones. Always inlined: as a call it takes 23 instructions more a line.
+#[inline(always)]
+#[tactic(auto, unfolding(unit::specs::Closers::matched))]
+fn label_at(line: &[u8], at: usize, label: &[u8]) -> Match
+    requires { (at ≤ length line.now) × (length line.now ≤ 65536) × (length label.now ≤ 64) }
+    ensures { result ≡ matched label.now (drop at line.now) }
+{
+    let Some((first, later)) = label.split_first() else {
+        return Match::Whole;
+    };
+    match &line[at..] {
+        [b, ..] if b != first => Match::Other,
+        [_, rest @ ..] if later.len() < 8 => match_few(rest, later),
+        [_, ..] => closer::match_at(line, at, label),
+        [] => Match::Undecided,
+    }
+}
+
 // The label from `at` on, and no identifier byte after it.
 fn closing_label(line: &[u8], at: usize, label: &[u8], end: bool) -> Match
     requires { (at ≤ length line.now) × (length line.now ≤ 65536) × (length label.now ≤ 64) }
     ensures { result ≡ closing_label label.now end (drop at line.now) }
 {
-    // The first byte tells most lines, and spares them the call.
-    if at < line.len() && !label.is_empty() && line[at] != label[0] {
-        return Match::Other;
-    }
-    match closer::match_at(line, at, label) {
+    match label_at(line, at, label) {
         Match::Whole => behind_label(&line[at + label.len()..], end),
         Match::Other => Match::Other,
         Match::Undecided => Match::Undecided,

@@ -75,7 +75,7 @@ impl Indent {
         requires kept { is_stray self (take (next - at) (drop at body.now)) ≡ false }
         ensures { result ≡ offset_of self (take (next - at) (drop at body.now)) }
     {
-        if self.width < (next - at).saturating_sub(1) {
+        if self.width < next - at - 1 {
             self.width
         } else {
             self.offset(&body[at..next])

@@ -55,18 +55,22 @@ pub fn pass_blocks<const N: usize>(src: &[u8], at: usize, c: u8) -> usize
     at + passed.unwrap_or(blocks.len()) * N
 }
 
-// The first LF from `at` on; the end where there is none.
-#[tactic(auto, using(crate::proofs::Runs::passing_run), unfolding(byte::specs::Bytes::is_no_break))]
+// The first LF from `at` on; the end where there is none. Always inlined, for it is asked up to three times a row.
+#[inline(always)]
+#[tactic(auto, using(crate::proofs::Runs::passing_run))]
 pub fn break_end(src: &[u8], at: usize) -> usize
     requires { at ≤ length src.now }
     ensures { RunEnd is_no_break src.now at result }
 {
-    let i = pass_blocks::<8>(src, at, b'\n');
-    // A block's end is looked for in its eight bytes alone, which needs no count of what is left.
-    match src[i..].first_chunk::<8>() {
-        Some(block) => i + end_of(block, 0, byte::is_no_break),
-        None => end_of(src, i, byte::is_no_break),
+    let (blocks, _) = src[at..].as_chunks::<8>();
+    // A loop, which knows that a block stands there; after `pass_blocks` that would be asked once more.
+    for (k, block) in blocks.iter().enumerate() {
+        if has(block, b'\n') {
+            let i = at + k * 8;
+            return i + end_of(&src[i..i + 8], 0, byte::is_no_break);
+        }
     }
+    end_of(src, at + blocks.len() * 8, byte::is_no_break)
 }
 
 // The top bit of each of eight bytes that is one of four.

@@ -3,7 +3,7 @@ use Rattle.std.proofs.Common.{arith}
 use Rattle.sheet.proofs.Steps.{offset_full}
 use Rattle.sheet.proofs.Indent.measured_offset.Goals as goal
 
-pub returns-then-self-saturating_sub : goal.returns-then-self-saturating_sub
-returns-then-self-saturating_sub c =
+pub returns-then-self-next : goal.returns-then-self-next
+returns-then-self-next c =
     offset_full c.args.self c.args.body.now c.args.at c.args.next c.requires.line c.requires.kept
-    (omega (arith, c.if-self-saturating_sub.true, c.saturating_sub.ensures))
+    (omega (arith, c.if-self-next.true))

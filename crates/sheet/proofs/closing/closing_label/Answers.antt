@@ -1,7 +1,7 @@
 -- The label, and what stands after it. Assumes nothing.
 use Rattle.std.proofs.Common.{rules, arith, refl, length, ◌+◌}
 use Rattle.closer.proofs.Lines.{rest_from}
-use Rattle.sheet.proofs.Steps.{labels, label_inside, label_whole, label_first}
+use Rattle.sheet.proofs.Steps.{labels, label_inside, label_whole}
 use Rattle.sheet.proofs.closing.closing_label.Goals as goal
 
 pub slice_bounds-behind_label-count : goal.slice_bounds-behind_label-count
@@ -20,6 +20,3 @@ returns-in-Other c = search (labels, rules)
 
 pub returns-in-Undecided : goal.returns-in-Undecided
 returns-in-Undecided c = search (labels, rules)
-
-pub returns-then-line-at : goal.returns-then-line-at
-returns-then-line-at c = label_first _ _ _ c.args.end c.if-at-line.true c.if-not-is_empty.ensures c.if-line-at.true
