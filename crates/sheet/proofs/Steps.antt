@@ -83,23 +83,23 @@ pub ruleset labels = (label_inside, label_whole, label_other, label_undecided)
 
 -- the label's bytes from k on against the text's: where they are over, cut off, another byte, and the same
 module _ (label xs : List ℕ) (k : ℕ) (e : matched label xs ≡ matched (drop k label) (drop k xs)) where
-  pub few_whole : length label ≤ k → Match.Whole ≡ matched label xs
+  pub later_whole : length label ≤ k → Match.Whole ≡ matched label xs
   unfolding matched
-  few_whole h = sym (e ∙ rw (drop_all k label h) refl)
+  later_whole h = sym (e ∙ rw (drop_all k label h) refl)
 
   module _ (h : k < length label) where
-    pub few_cut : length xs ≤ k → Match.Undecided ≡ matched label xs
+    pub later_cut : length xs ≤ k → Match.Undecided ≡ matched label xs
     unfolding matched
-    few_cut l = sym (e ∙ rw (drop-one label k h, drop_all k xs l) refl)
+    later_cut l = sym (e ∙ rw (drop-one label k h, drop_all k xs l) refl)
 
-    pub few_other : k < length xs → (get_or label k 0 ≡ get_or xs k 0 → ⊥) → Match.Other ≡ matched label xs
+    pub later_other : k < length xs → (get_or label k 0 ≡ get_or xs k 0 → ⊥) → Match.Other ≡ matched label xs
     unfolding matched
-    few_other l d = sym (e ∙ rw (drop-one label k h, drop-one xs k l, ne_eqb _ _ d) refl)
+    later_other l d = sym (e ∙ rw (drop-one label k h, drop-one xs k l, ne_eqb _ _ d) refl)
 
-    pub few_same : k < length xs → get_or label k 0 ≡ get_or xs k 0
+    pub later_same : k < length xs → get_or label k 0 ≡ get_or xs k 0
         → matched label xs ≡ matched (drop (k + 1) label) (drop (k + 1) xs)
     unfolding matched
-    few_same l s = e ∙ rw (drop-one label k h, drop-one xs k l, eq-eqb _ _ s) refl
+    later_same l s = e ∙ rw (drop-one label k h, drop-one xs k l, eq-eqb _ _ s) refl
 
 indentation_fold : (ind : Indentation) (xs : List ℕ) → fold indented ind xs ≡ indentation ind xs
 unfolding indentation

@@ -40,8 +40,8 @@ fn behind_label(rest: &[u8], end: bool) -> Match
     }
 }
 
-// A few bytes of a label against a text, one by one.
-fn match_few(rest: &[u8], label: &[u8]) -> Match
+// The later bytes of a label against a text, one by one: most rows that begin as the label does differ soon.
+fn match_later(rest: &[u8], label: &[u8]) -> Match
     ensures { result ≡ matched label.now rest.now }
 {
     for (k, a) in label.iter().enumerate() {
@@ -54,12 +54,12 @@ fn match_few(rest: &[u8], label: &[u8]) -> Match
     Match::Whole
 }
 
-// The label against the line from `at` on. The first byte tells most lines, and a short label is compared here, for
-// `closer::match_at` is made for long ones. Always inlined: as a call it takes 23 instructions more a line.
+// The label against the line from `at` on. The first byte tells most lines, and spares them what follows. Always
+// inlined: a call, of `closer::match_at` too, takes some 25 instructions more a line.
 #[inline(always)]
 #[tactic(auto, unfolding(unit::specs::Closers::matched))]
 fn label_at(line: &[u8], at: usize, label: &[u8]) -> Match
-    requires { (at ≤ length line.now) × (length line.now ≤ 65536) × (length label.now ≤ 64) }
+    requires { at ≤ length line.now }
     ensures { result ≡ matched label.now (drop at line.now) }
 {
     let Some((first, later)) = label.split_first() else {
@@ -67,8 +67,7 @@ fn label_at(line: &[u8], at: usize, label: &[u8]) -> Match
     };
     match &line[at..] {
         [b, ..] if b != first => Match::Other,
-        [_, rest @ ..] if later.len() < 8 => match_few(rest, later),
-        [_, ..] => closer::match_at(line, at, label),
+        [_, rest @ ..] => match_later(rest, later),
         [] => Match::Undecided,
     }
 }
