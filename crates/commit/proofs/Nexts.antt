@@ -17,14 +17,15 @@ use Rattle.state.specs.declared.Answer.{Answer}
 use Rattle.token.specs.Records.{room_refusal}
 use Rattle.outcome.specs.declared.Change.{Change}
 use Rattle.outcome.specs.Outcomes.{Piece, Outcome, values, limited}
-use Rattle.outcome.specs.Insides.{AllInside}
+use Rattle.outcome.specs.Insides.{AllInside, PlaceInside}
 use Rattle.plan.specs.declared.Work.{Work}
 use Rattle.plan.specs.declared.Plan.{Plan}
 use Rattle.plan.specs.Code.{drafts_of, pieces_of, outcome_of}
 use Rattle.commit.specs.declared.Next.{Next}
 use Rattle.commit.specs.declared.Mark.{Mark}
 use Rattle.commit.specs.Records.{span_at, room_for, answer_of, stays, reached}
-use Rattle.commit.specs.Code.{total_of, Ahead, DraftsFit, DraftsPut, is_full, advanced, Advances, Commits, Works, Committed}
+use Rattle.commit.specs.Code.{total_of, Ahead, DraftsFit, DraftsPut, is_full, advanced, Advances, Commits, CommitsPlan, Works}
+use Rattle.commit.specs.Code.{Committed}
 use Rattle.commit.specs.Code.{answer_renamed, renamed, CommittedAs, plan_next, plan_tables, CommittedPlan}
 use Rattle.commit.proofs.Spans.{span_at_here}
 use Rattle.commit.proofs.Records.{length-pieces, length-values}
@@ -173,12 +174,28 @@ module _ {R : Type 0} (name : Refusal → R) (src : List ℕ) (end : Bool) (m : 
           (rw (limited_free depth m.span.position (pieces_of src end w.drafts) w.after w.finished w.change (sym g ∙ t)) h))
 
 module _ {R : Type 0} (src : List ℕ) (end : Bool) (scratch : List ℕ) (m : Mark) (plan : Plan R) (list pool : ℕ)
-    (f : Commits src end scratch m plan list pool) where
+    (f : CommitsPlan src end scratch m plan list pool) where
   pub commit_behind : (refusal : R) (place : ℕ) → plan ≡ Plan.Refused refusal place → Ahead src m.span place
   commit_behind refusal place e = f.refused refusal place e
 
   pub commit_works : (w : Work) → plan ≡ Plan.Told w → Works src end scratch m w list pool
   commit_works w e = f.told w e
+
+-- where each refusal is its own name, what can be written is all that is asked
+module _ (src : List ℕ) (end : Bool) (scratch : List ℕ) (m : Mark) (plan : Plan Refusal) (list pool : ℕ)
+    (f : Commits src end scratch m plan list pool) where
+  plan_works : (w : Work) → plan ≡ Plan.Told w → Works src end scratch m w list pool
+  unfolding outcome_of
+  plan_works w e = record { marked = f.marked; ready = (rw e at f).ready; inside = (rw e at f).inside }
+
+  plan_ahead : (refusal : Refusal) (place : ℕ) → plan ≡ Plan.Refused refusal place → Ahead src m.span place
+  unfolding outcome_of
+  plan_ahead refusal place e =
+      let i : PlaceInside m.span.position (length src) refusal place = (rw e at f).inside in
+      record { cursor = f.marked.cursor; low = i.low; high = i.high }
+
+  pub commits_plan : CommitsPlan src end scratch m plan list pool
+  commits_plan = record { marked = f.marked; told = plan_works; refused = plan_ahead }
 
 pub ruleset commits = (commit_wait, commit_behind, commit_refused, commit_full, commit_works, commit_told)
 
@@ -193,6 +210,14 @@ answering x a = record { answer = a; mark = x.mark; change = x.change }
 
 renamed_same : (x : Next Refusal) → renamed (λ (refusal : Refusal). refusal) x ≡ x
 renamed_same x = ap (answering x) (answer_same x.answer)
+
+-- so what is given of an outcome under these names is what is given of it
+module _ (src : List ℕ) (m : Mark) (l q : List ℕ) (o : Outcome) (r : Next Refusal) (l' q' : List ℕ) where
+  pub as_committed : CommittedAs (λ (refusal : Refusal). refusal) src m l q o r l' q' → Committed src m l q o r l' q'
+  as_committed c = record { next = c.next ∙ renamed_same _; list = c.list; pool = c.pool }
+
+  pub committed_as : Committed src m l q o r l' q' → CommittedAs (λ (refusal : Refusal). refusal) src m l q o r l' q'
+  committed_as c = record { next = c.next ∙ sym (renamed_same _); list = c.list; pool = c.pool }
 
 pub committed_same : (src : List ℕ) (end : Bool) (m : Mark) (depth : ℕ) (l q : List ℕ) (plan : Plan Refusal) (r : Next Refusal)
     (l' q' : List ℕ) → CommittedPlan (λ (refusal : Refusal). refusal) src end m depth l q plan r l' q'

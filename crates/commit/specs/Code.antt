@@ -8,7 +8,8 @@
 --   DraftsFit, DraftsPut   the same of drafts
 --   is_full                a frame would be the 65th
 --   advanced, Advances     the numbers after so many tokens and value bytes, and that they fit
---   Commits, Works         what `commit` asks of its plan, and of what the plan tells
+--   Commits, Works         a plan can be written, and lies from the cursor on; the same of what a plan tells
+--   CommitsPlan            what `commit` asks of a plan, whose own refusal may be of any kind
 --   Committed              what it gives of an outcome
 --   renamed, CommittedAs   a next whose refusal bears another name; what is given of an outcome, so renamed
 --   plan_next, plan_tables, CommittedPlan   what `commit` gives of a plan, whose own refusal may be of any kind
@@ -18,14 +19,14 @@ use Rattle.state.specs.declared.Answer.{Answer}
 use Rattle.token.specs.declared.Token.{Token}
 use Rattle.outcome.specs.declared.Change.{Change}
 use Rattle.outcome.specs.Outcomes.{Piece, Outcome, limited}
-use Rattle.outcome.specs.Insides.{AllInside, ToldInside}
+use Rattle.outcome.specs.Insides.{AllInside, ToldInside, Inside}
 use Rattle.plan.specs.declared.Draft.{Draft}
 use Rattle.plan.specs.declared.Drafts.{Drafts}
 use Rattle.plan.specs.declared.Work.{Work}
 use Rattle.byte.specs.declared.Refusal.{Refusal}
 use Rattle.byte.specs.Refusals.{wait}
 use Rattle.plan.specs.declared.Plan.{Plan}
-use Rattle.plan.specs.Code.{drafts_of, pieces_of, Ready, AllReady, DraftsReady, outcome_of}
+use Rattle.plan.specs.Code.{drafts_of, pieces_of, Ready, AllReady, DraftsReady, PlanReady, outcome_of}
 use Rattle.commit.specs.declared.Mark.{Mark}
 use Rattle.commit.specs.declared.Next.{Next}
 use Rattle.commit.specs.Records.{span_at, Tables, put_piece, put, answer_of, stays, reached}
@@ -141,8 +142,15 @@ pub record Works (src : List ℕ) (end : Bool) (scratch : List ℕ) (m : Mark) (
   pub ready : DraftsReady w.drafts src end scratch
   pub inside : ToldInside m.span.position (length src) (pieces_of src end w.drafts) w.after
 
+-- what a plan stands for can be written, and lies from the cursor on
+pub record Commits (src : List ℕ) (end : Bool) (scratch : List ℕ) (m : Mark) (plan : Plan Refusal) (list pool : ℕ)
+    : Type 0 where
+  pub marked : Marked src m list pool
+  pub ready : PlanReady plan src end scratch
+  pub inside : Inside m.span.position (length src) (outcome_of src end plan)
+
 -- what `commit` asks: what the plan tells can be written, and a place that it refuses lies from the cursor on
-pub record Commits {R : Type 0} (src : List ℕ) (end : Bool) (scratch : List ℕ) (m : Mark) (plan : Plan R)
+pub record CommitsPlan {R : Type 0} (src : List ℕ) (end : Bool) (scratch : List ℕ) (m : Mark) (plan : Plan R)
     (list pool : ℕ) : Type 0 where
   pub marked : Marked src m list pool
   pub told : (w : Work) → plan ≡ Plan.Told w → Works src end scratch m w list pool

@@ -10,7 +10,7 @@ ghost use Rattle.plan.specs.declared.Plan.{Plan};
 ghost use Rattle.plan.specs.Code.{made, piece_of, drafts_of, pieces_of, outcome_of};
 ghost use Rattle.commit.specs.Records.{span_at, answer_of, stays};
 ghost use Rattle.commit.specs.Code.{draft_token, total_of, Ahead, Writes, Drawn, DraftFits, DraftPut, past_draft, PastFits};
-ghost use Rattle.commit.specs.Code.{DraftsFit, DraftsPut, is_full, advanced, Advances, Works, Commits};
+ghost use Rattle.commit.specs.Code.{DraftsFit, DraftsPut, is_full, advanced, Advances, Works, CommitsPlan};
 ghost use Rattle.commit.specs.Code.{CommittedAs, CommittedPlan};
 
 use byte::{Refusal, RefusalName};
@@ -269,7 +269,7 @@ pub fn commit<R: RefusalName>(
     list: &mut [u32],
     pool: &mut [u8],
 ) -> Next<R>
-    requires { Commits src.now end scratch.now m plan (length list.old) (length pool.old) }
+    requires { CommitsPlan src.now end scratch.now m plan (length list.old) (length pool.old) }
     ensures { CommittedPlan R.named src.now end m depth list.old pool.old plan result list.new pool.new }
 {
     match plan {

@@ -1,18 +1,22 @@
 -- An answer and a turn as numbers, on each way through the functions that write them. Assumes nothing.
---   session_told   of a host's numbers the slice is changed where the call is not refused
---   turned_one     two results that meet one statement are equal
+--   session_told                  of a host's numbers the slice is changed where the call is not refused
+--   turned_refused, turned_done   a turn written back, by its answer
+--   turned_one                    two results that meet one statement are equal
 use Prim.Native.Nat.{ℕ}
 use mathlib.Core.Path.{◌≡◌, refl, sym, ◌∙◌}
+use mathlib.Core.Logic.{◌⊎◌, inl, inr}
 use mathlib.Core.List.{List}
 use borrow.Author.Tests.{eq-eqb, ne_eqb}
 use Rattle.byte.specs.declared.Refusal.{Refusal}
 use Rattle.byte.specs.Laid.{laid}
 use Rattle.byte.specs.Refusals.{number_of}
 use Rattle.byte.proofs.Refusals.{number_of_some}
+use Rattle.source.specs.declared.Span.{Span}
 use Rattle.state.specs.declared.Answer.{Answer}
 use Rattle.state.specs.declared.Turn.{Turn}
 use Rattle.layout.specs.Sessions.{numbers_of}
-use Rattle.layout.specs.Answers.{answer_by, refusal_by, unless_refused, session_by, session_after, Turned}
+use Rattle.layout.specs.Answers.{answer_by, answer_numbers, refusal_by, unless_refused}
+use Rattle.layout.specs.Answers.{session_by, session_after, Turned}
 
 -- a turn written back
 module _ {R : Type 0} (number_by : R → ℕ) (t : Turn R) (session answer answer' : List ℕ) (r : ℕ) (e : r ≡ refusal_by number_by t.answer)
@@ -25,6 +29,22 @@ module _ {R : Type 0} (number_by : R → ℕ) (t : Turn R) (session answer answe
   turned_open z session' f = record { number = e; holds = rw (← e, eq-eqb r 0 z) f; tells = a }
 
 pub ruleset turned = (turned_shut, turned_open)
+
+-- of a refusal that is named, and of a call that is not refused
+module _ (t : Turn Refusal) (session answer answer' : List ℕ)
+    (a : answer' ≡ laid answer 0 (answer_numbers t.answer)) where
+  pub turned_refused : (refusal : Refusal) (span : Span) (number : ℕ) → t.answer ≡ Answer.Refused refusal span
+      → number ≡ number_of refusal → Turned number_of t session answer number session answer'
+  unfolding refusal_by
+  turned_refused refusal span number e n =
+      record { number = rw (e, n); holds = rw (e, number_of_some refusal); tells = a }
+
+  module _ (session' : List ℕ) (f : session' ≡ laid session 0 (numbers_of t.session)) where
+    pub turned_done : (t.answer ≡ Answer.Done) ⊎ (t.answer ≡ Answer.Finished)
+        → Turned number_of t session answer 0 session' answer'
+    unfolding refusal_by
+    turned_done (inl e) = record { number = rw e; holds = rw e f; tells = a }
+    turned_done (inr e) = record { number = rw e; holds = rw e f; tells = a }
 
 pub session_told : (t : Turn Refusal) (session : List ℕ) → session_by number_of t session ≡ session_after t session
 unfolding refusal_by unless_refused

@@ -28,18 +28,16 @@ use Rattle.state.proofs.Longer.{top_good}
 use Rattle.token.specs.Records.{room_refusal}
 use Rattle.outcome.specs.declared.Call.{Call}
 use Rattle.outcome.specs.Outcomes.{values, limited}
-use Rattle.outcome.specs.Insides.{Inside, PlaceInside}
 use Rattle.outcome.specs.Steps.{top_frame, call_at, call_outcome}
 use Rattle.outcome.proofs.StepWays.{call_at_ways}
-use Rattle.plan.specs.declared.Work.{Work}
 use Rattle.plan.specs.declared.Plan.{Plan}
 use Rattle.plan.specs.Code.{outcome_of, PlansIn, Here}
 use Rattle.modes.specs.Code.{Near}
 use Rattle.modes.proofs.Passes.{Passes}
 use Rattle.commit.specs.declared.Next.{Next}
 use Rattle.commit.specs.Records.{put, reached}
-use Rattle.commit.specs.Code.{Ahead, is_full, Works, Commits, Committed, CommittedPlan}
-use Rattle.commit.proofs.Nexts.{committed_same}
+use Rattle.commit.specs.Code.{is_full, Commits, CommitsPlan, Committed, CommittedPlan}
+use Rattle.commit.proofs.Nexts.{commits_plan, committed_same}
 use Rattle.lexer.specs.declared.Place.{Place}
 use Rattle.lexer.specs.Turns.{Gives, mark_of, turn_of}
 use Rattle.lexer.specs.Calls.{called}
@@ -105,30 +103,31 @@ module _ (call : Call) (src : List ℕ) (end : Bool) (f : Frame) (choices : Choi
   module _ (scratch : List ℕ) (plan : Plan Refusal)
       (p : PlansIn src end scratch
       (call_at call f src choices at.depth end at.mark.span.position (drop at.mark.span.position src)) plan) where
-    plan_inside : Inside at.mark.span.position (length src) (outcome_of src end plan)
-    plan_inside = rw p.told (call_at_ways choices src at.depth at.mark.span.position end s.marked.cursor.inside f call).lies
-
-    plan_told : (w : Work) → plan ≡ Plan.Told w → Works src end scratch at.mark w (length l) (length q)
-    unfolding outcome_of
-    plan_told w e =
-        let inside : Inside at.mark.span.position (length src) (outcome_of src end (Plan.Told w)) = rw e at plan_inside in
-        record { marked = s.marked; ready = rw e at p.ready; inside = inside }
-
-    plan_refused : (refusal : Refusal) (place : ℕ) → plan ≡ Plan.Refused refusal place → Ahead src at.mark.span place
-    unfolding outcome_of
-    plan_refused refusal place e =
-        let i : PlaceInside at.mark.span.position (length src) refusal place = rw e at plan_inside in
-        record { cursor = s.marked.cursor; low = i.low; high = i.high }
-
     pub step_commits : Commits src end scratch at.mark plan (length l) (length q)
-    step_commits = record { marked = s.marked; told = plan_told; refused = plan_refused }
+    step_commits =
+        record {
+          marked = s.marked;
+          ready = p.ready;
+          inside =
+              rw p.told
+              (call_at_ways choices src at.depth at.mark.span.position end
+              s.marked.cursor.inside f call).lies;
+        }
+
+    pub step_commits_plan : CommitsPlan src end scratch at.mark plan (length l) (length q)
+    step_commits_plan = commits_plan src end scratch at.mark plan (length l) (length q) step_commits
 
     pub step_committed : (x : Next Refusal) (l' q' : List ℕ)
+        → Committed src at.mark l q (limited at.depth at.mark.span.position (outcome_of src end plan)) x l' q'
+        → Committed src at.mark l q (outcome_at call src end f choices at) x l' q'
+    step_committed x l' q' c = rw p.told at c
+
+    pub step_committed_plan : (x : Next Refusal) (l' q' : List ℕ)
         → CommittedPlan (λ (refusal : Refusal). refusal) src end at.mark at.depth l q plan x l' q'
         → Committed src at.mark l q (outcome_at call src end f choices at) x l' q'
-    step_committed x l' q' c = rw p.told at (committed_same src end at.mark at.depth l q plan x l' q' c)
+    step_committed_plan x l' q' c = step_committed x l' q' (committed_same src end at.mark at.depth l q plan x l' q' c)
 
-pub ruleset steps = (step_here, step_commits, step_committed)
+pub ruleset steps = (step_here, step_commits_plan, step_committed_plan)
 
 -- ---- in a session
 

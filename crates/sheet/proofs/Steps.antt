@@ -10,6 +10,7 @@ use lib.ListN.{length, get_or, take, drop, length-drop}
 use lib.Seq.{drop-drop}
 use Rattle.std.proofs.lemmas.List.{drop_all}
 use borrow.Author.Tests.{eq-eqb, ne_eqb, le-leb, lt-leb, leb-true, leb-false, not-false}
+use Rattle.std.specs.Bool.{◌==◌}
 use Rattle.std.specs.List.{fold, position, position_or_len}
 use Rattle.std.specs.Simd.{first_chunks}
 use Rattle.std.specs.Cmp.Lexicographic.{pointwise, same_text}
@@ -78,6 +79,14 @@ module _ (label line : List ℕ) (at : ℕ) (end : Bool) (m : Match) (e : m ≡ 
   pub label_undecided : m ≡ Match.Undecided → Match.Undecided ≡ closing_label label end (drop at line)
   unfolding bounded
   label_undecided w = rw (closing_label_bounded label end (drop at line), ← e, w)
+
+-- the first byte is another than the label's
+pub label_first : (label line : List ℕ) (at : ℕ) (end : Bool) → at < length line → false ≡ (length label == 0)
+    → (get_or line at 0 ≡ get_or label 0 0 → ⊥) → Match.Other ≡ closing_label label end (drop at line)
+unfolding closing_label
+label_first [] line at end h k n = cc
+label_first (a ∷ label) line at end h k n =
+    rw (drop-one line at h, ne_eqb a (get_or line at 0) (λ e. n (sym e)))
 
 pub ruleset labels = (label_inside, label_whole, label_other, label_undecided)
 

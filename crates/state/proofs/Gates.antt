@@ -1,21 +1,29 @@
 -- The gate on each way through `gate`, and through the gate with tables (crate layout). Assumes nothing.
+--   gate_same   frames past the 64 places change nothing
 use Rattle.std.specs.Prelude.{Result, Ok, Err, if◌then◌else◌}
-use Prim.Native.Nat.{ℕ, ◌/◌, ◌≤◌, ◌<◌}
+use Prim.Native.Nat.{ℕ, zero, suc, ◌+◌, ◌/◌, ◌≤◌, ◌<◌}
 use Rattle.byte.specs.declared.Refusal.{Refusal}
 use mathlib.Core.Path.{◌≡◌, refl, sym, ◌∙◌}
 use mathlib.Core.Bool.{Bool, true, false, ◌&&◌}
 use mathlib.Core.List.{List}
+use native.Mathlib.Omega.{arith}
 use lib.ListN.{length, get_or}
 use borrow.Author.Tests.{leb-true, le-leb, lt-leb}
+use Rattle.std.specs.List.{list_all, range_with_len}
 use Rattle.source.specs.declared.Span.{Span}
 use Rattle.byte.specs.Refusals.{too_large, bad_session}
 use Rattle.byte.proofs.Tests.{&&-left, &&-right, unrefused}
 use Rattle.state.specs.declared.Frame.{Frame}
 use Rattle.state.specs.declared.Session.{Session}
-use Rattle.state.specs.Bounds.{no_slot, are_frames, are_within, is_within, is_stack, is_good, fits_tables}
+use Rattle.state.specs.Bounds.{is_frame, no_slot, are_frames, are_within, is_within, is_stack, is_good, fits_tables}
 use Rattle.state.proofs.Bounds.{Within, is_within_facts, frames_stack}
 use Rattle.state.specs.Calls.{span_of}
 use Rattle.state.specs.Gates.{checked, source_fits, tables_fit, gate_over, gate_refusal, lent_refusal}
+
+pub gate_depth : (size : ℕ) (p : Span) (depth : ℕ) (within : Bool) → within ≡ are_within size p depth
+    → within ≡ true → depth ≤ 64
+gate_depth size p depth within e t =
+    leb-true _ _ (&&-right _ _ (&&-left _ _ (&&-left _ _ (&&-left _ _ (&&-left _ _ (sym e ∙ t))))))
 
 module _ (src : List ℕ) (p : Span) (depth : ℕ) (frame : ℕ → Frame) where
   pub gate_large : 65536 < length src → Err too_large ≡ gate_over src p depth frame
@@ -43,6 +51,26 @@ module _ (src : List ℕ) (p : Span) (depth : ℕ) (frame : ℕ → Frame) where
       gate_open u = rw (looked_at, u)
 
 pub ruleset gates = (gate_large, gate_numbers, gate_frames, gate_open)
+
+-- frames told in two ways, the first 64 alike
+module _ (src : List ℕ) (f g : ℕ → Frame) (same : (i : ℕ) → i < 64 → f i ≡ g i) where
+  frames_same : (from n : ℕ) → from + n ≤ 64
+      → list_all (λ i. is_frame src (f i)) (range_with_len from n)
+      ≡ list_all (λ i. is_frame src (g i)) (range_with_len from n)
+  frames_same from zero h = refl
+  frames_same from (suc n) h = rw (same from (omega arith), frames_same (from + 1) n (omega arith))
+
+  -- the gate is the same: it asks for no others
+  pub gate_same : (p : Span) (depth : ℕ) → gate_over src p depth f ≡ gate_over src p depth g
+  unfolding gate_over are_frames
+  gate_same p depth = go (are_within (length src) p depth) refl
+    where
+      go : (within : Bool) → within ≡ are_within (length src) p depth
+          → gate_over src p depth f ≡ gate_over src p depth g
+      go false e = rw (← e)
+      go true e =
+          let deep : 0 + depth ≤ 64 = omega (arith, gate_depth (length src) p depth true e refl) in
+          rw (← e, same 0 (omega arith), frames_same 0 depth deep)
 
 -- the gate of a session is the gate of its numbers and its frames
 pub gate_session : (src : List ℕ) (s : Session) (p : Span) → p ≡ span_of s → gate_over src p s.depth (λ i. (get_or s.frames i no_slot).frame) ≡ gate_refusal src s
