@@ -181,7 +181,7 @@ module _ {R : Type 0} (src : List ℕ) (end : Bool) (scratch : List ℕ) (m : Ma
   pub commit_works : (w : Work) → plan ≡ Plan.Told w → Works src end scratch m w list pool
   commit_works w e = f.told w e
 
--- where each refusal is its own name, what can be written is all that is asked
+-- of a Refusal, `Commits` gives what `commit` asks
 module _ (src : List ℕ) (end : Bool) (scratch : List ℕ) (m : Mark) (plan : Plan Refusal) (list pool : ℕ)
     (f : Commits src end scratch m plan list pool) where
   plan_works : (w : Work) → plan ≡ Plan.Told w → Works src end scratch m w list pool
@@ -211,7 +211,7 @@ answering x a = record { answer = a; mark = x.mark; change = x.change }
 renamed_same : (x : Next Refusal) → renamed (λ (refusal : Refusal). refusal) x ≡ x
 renamed_same x = ap (answering x) (answer_same x.answer)
 
--- so what is given of an outcome under these names is what is given of it
+-- what is given of an outcome so renamed is what is given of it
 module _ (src : List ℕ) (m : Mark) (l q : List ℕ) (o : Outcome) (r : Next Refusal) (l' q' : List ℕ) where
   pub as_committed : CommittedAs (λ (refusal : Refusal). refusal) src m l q o r l' q' → Committed src m l q o r l' q'
   as_committed c = record { next = c.next ∙ renamed_same _; list = c.list; pool = c.pool }

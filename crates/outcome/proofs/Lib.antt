@@ -6,6 +6,7 @@ pub mod Comments
 pub mod Ways
 pub mod ScriptWays
 pub mod StepWays
+pub mod PieceKinds
 pub mod Others
 pub mod Alone
 pub mod Written

@@ -9,4 +9,5 @@ pub mod Steps
 pub mod Written
 pub mod Octals
 pub mod Insides
+pub mod PieceKinds
 pub mod Manual
