@@ -224,8 +224,8 @@ pub committed_same : (src : List ℕ) (end : Bool) (m : Mark) (depth : ℕ) (l q
     → Committed src m l q (limited depth m.span.position (outcome_of src end plan)) r l' q'
 unfolding plan_next plan_tables outcome_of limited reached
 committed_same src end m depth l q (Plan.Told w) r l' q' c =
-    let x = (reached src m (record { list = l; pool = q }) (limited depth m.span.position (outcome_of src end (Plan.Told w)))).next in
-    record { next = c.next ∙ renamed_same x; list = c.list; pool = c.pool }
+    as_committed src m l q (limited depth m.span.position (outcome_of src end (Plan.Told w))) r l' q'
+    (record { next = c.next; list = c.list; pool = c.pool })
 committed_same src end m depth l q (Plan.Refused refusal place) r l' q' c = record { next = c.next; list = c.list; pool = c.pool }
 committed_same src end m depth l q Plan.Wait r l' q' c = record { next = c.next; list = c.list; pool = c.pool }
 

@@ -43,8 +43,8 @@ module _ (t : Turn Refusal) (session answer answer' : List ℕ)
     pub turned_done : (t.answer ≡ Answer.Done) ⊎ (t.answer ≡ Answer.Finished)
         → Turned number_of t session answer 0 session' answer'
     unfolding refusal_by
-    turned_done (inl e) = record { number = rw e; holds = rw e f; tells = a }
-    turned_done (inr e) = record { number = rw e; holds = rw e f; tells = a }
+    turned_done (inl e) = turned_open number_of t session answer answer' 0 (rw e refl) a refl session' f
+    turned_done (inr e) = turned_open number_of t session answer answer' 0 (rw e refl) a refl session' f
 
 pub session_told : (t : Turn Refusal) (session : List ℕ) → session_by number_of t session ≡ session_after t session
 unfolding refusal_by unless_refused
